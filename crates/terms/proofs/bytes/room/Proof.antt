@@ -1,0 +1,14 @@
+-- Where the place lies past the end there is no room, and otherwise n is compared with what is left of the bytes.
+use borrow.Author.Needs.{needs}
+use Rattle.terms.proofs.LittleEndian.{no-room, room-left}
+use Rattle.terms.proofs.bytes.room.Statement.{statement}
+use Rattle.terms.proofs.bytes.room.Tie as tie
+
+returns : tie.Need-returns
+returns c = no-room _ _ _ (c .if1 .taken)
+
+returns-2 : tie.Need-returns-2
+returns-2 c = room-left _ _ _ (c .if1 .left)
+
+pub room-spec : {M : Type 1} → statement M
+room-spec = tie.close (tie.spec returns (λ c. search needs) returns-2)

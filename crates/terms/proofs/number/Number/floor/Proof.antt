@@ -1,0 +1,73 @@
+-- Of a negative n the code takes -1 - (-1 - n) / d, which is `floorZ`; every step stays below 2 ^ 32.
+use mathlib.Core.Path.{_≡_, refl, _∙_, ap}
+use mathlib.Core.Bool.{true, false}
+use mathlib.Core.Logic.{inl, inr}
+use Prim.Native.Nat.{_/_, _<_}
+use native.Mathlib.Nat.{zero-lt-suc}
+use lib.IntN.{ℤ, pos, negsuc, natAbs}
+use lib.Signed.{quotZ, ltZ}
+use mir.Syntax.{w64}
+use mir.Val.{toZ, ofZ}
+use borrow.Author.Needs.{needs}
+use Rattle.terms.specs.Rational.{Rational, Proper, floorQ, floorZ, whole}
+use Rattle.terms.proofs.Machine.{Code, _⊘_, flipped, machine, fits, back, back-flipped, flip, minus-one-sub}
+use Rattle.terms.proofs.Machine.{at-negative, at-natural}
+use Rattle.terms.proofs.Order.{at-positive}
+use Rattle.terms.proofs.Ranges.{num, den, makes, proper-floor}
+use Rattle.terms.proofs.number.Number.floor.Statement.{statement}
+use Rattle.terms.proofs.number.Number.floor.Tie as tie
+
+-- ---- a proper number, rounded down
+
+abbrev divided : {a : Rational} → Proper a → Code
+divided p = flipped (num p) ⊘ den p
+
+abbrev lowered : {a : Rational} → Proper a → Code
+lowered p = flipped (divided p)
+
+module _ {a : Rational} (p : Proper a) where
+  divisor : 0 < ofZ w64 (a .den)
+  divisor = at-positive (λ z. 0 < ofZ w64 z) zero-lt-suc (a .den) (p .positive)
+
+  floor-negative : ltZ (machine (num p)) (pos 0) ≡ true → machine (lowered p) ≡ floorZ (a .num) (natAbs (a .den))
+  floor-negative t =
+      back-flipped (divided p) tt
+      ∙ ap (λ (z : ℤ). flip (quotZ z (a .den))) (minus-one-sub (a .num))
+      ∙ at-negative (λ z. flip (quotZ (flip z) (a .den)) ≡ floorZ z (natAbs (a .den)))
+      (λ k. at-positive (λ d. flip (quotZ (pos k) d) ≡ negsuc (k / natAbs d)) (λ j. refl) (a .den) (p .positive))
+      (back (num p) tt) t
+
+  floor-natural : ltZ (machine (num p)) (pos 0) ≡ false → machine (num p ⊘ den p) ≡ floorZ (a .num) (natAbs (a .den))
+  floor-natural t =
+      back (num p ⊘ den p) tt
+      ∙ at-natural (λ z. quotZ z (a .den) ≡ floorZ z (natAbs (a .den)))
+      (λ k. at-positive (λ d. quotZ (pos k) d ≡ pos (k / natAbs d)) (λ j. refl) (a .den) (p .positive))
+      (back (num p) tt) t
+
+-- ---- the function
+
+abbrev start : tie.After-struct-told2 → tie.Start
+start c = c .before .before
+
+down : (c : tie.Joined1) → let a = start (c .before) .args .self in toZ w64 (c .if1 .down) ≡ floorZ (a .num) (natAbs (a .den))
+down c =
+    elim (c .if1 .came) [
+      | inl t ↦ ap (toZ w64) (t .1) ∙ floor-negative (start (c .before) .pre) (t .0 .taken)
+      | inr t ↦ ap (toZ w64) (t .1) ∙ floor-natural (start (c .before) .pre) (t .0 .left)
+    ]
+
+div-down : tie.Need-div-down
+div-down c = let p = start (c .before) .pre in (divisor p, fits (divided p) tt)
+
+div-down-2 : tie.Need-div-down-2
+div-down-2 c = let p = start (c .before) .pre in (divisor p, fits (num p ⊘ den p) tt)
+
+returns : tie.Need-returns
+unfolding floorQ
+returns c = makes (c .whole .ensures ∙ ap whole (down (c .before))) (proper-floor (start (c .before .before) .pre))
+
+pub floor-spec : {M : Type 1} → statement M
+floor-spec =
+    tie.close
+    (tie.spec (λ c. fits (flipped (num (start (c .before) .pre))) tt) div-down
+    (λ c. fits (lowered (start (c .before) .pre)) tt) div-down-2 (λ c κs. search needs) returns)

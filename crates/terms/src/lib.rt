@@ -1,0 +1,3 @@
+// Layer 1: numbers and terms.
+pub mod bytes;
+pub mod number;
