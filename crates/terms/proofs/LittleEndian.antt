@@ -1,14 +1,15 @@
--- Laws of little-endian numbers in bytes, at every width: what a write leaves, and what a read finds after it. At the end
--- stand the facts by which the functions of `bytes.rt` meet their contracts.
+-- Laws of little-endian numbers in bytes, at every width: what a write leaves, what a read finds after it, and that m + n
+-- bytes are m bytes and then n bytes. At the end stand the facts by which the functions of `bytes.rt` meet their contracts.
 use mathlib.Core.Path.{_≡_, refl, sym, ap, ap₂, _∙_}
 use mathlib.Core.Bool.{Bool, true, false, cond}
+use mathlib.Core.List.{_∷_}
 use mathlib.Core.Logic.{_⊎_, ⊎-elim, inl, inr}
 use Prim.Native.Nat.{ℕ, zero, suc, _+_, _*_, _-_, _/_, _%_, _^_, _≤_, _<_}
-use native.Mathlib.Nat.{pow-succ', one-le-pow, mod-one, mod-lt, mod-eq-of-lt, div-add-mod, add-mul-mod-self-left, mul-assoc}
+use native.Mathlib.Nat.{pow-succ', one-le-pow, mod-one, mod-lt, mod-eq-of-lt, div-add-mod, add-mul-mod-self-left, mul-assoc, add-zero, suc-add}
 use native.Mathlib.Omega.{arith}
 use borrow.Author.Needs.{needs}
 use borrow.Author.Tests.{le-leb, lt-leb, leb-true, leb-false}
-use lib.Dec.{leb, lit≤}
+use lib.Dec.{leb, leb·suc-suc, lit≤}
 use lib.ListN.{length, getD, set, length-set}
 use lib.Seq.{getD-set-same, getD-set-other}
 use mir.Syntax.{w64}
@@ -144,6 +145,32 @@ read-after-write n v b i h =
 pub read-after-write-small : (n v : ℕ) (b : Bytes) (i : ℕ) → i + n ≤ length b → v < 256 ^ n → le n (put n v b i) i ≡ v
 read-after-write-small n v b i h small = read-after-write n v b i h ∙ mod-eq-of-lt small
 
+-- ---- m + n bytes are m bytes and then n bytes
+
+pub digits-add : (m n : ℕ) (b : Bytes) (i : ℕ) → digits (m + n) b i ≡ digits m b i + 256 ^ m * digits n b (i + m)
+unfolding digits
+digits-add zero n b i = let none : 0 + n ≡ n = omega arith in rw (none, add-zero) (omega arith)
+digits-add (suc m) n b i =
+    let place : i + 1 + m ≡ i + suc m = omega arith in
+    let rest : digits (m + n) b (i + 1) ≡ digits m b (i + 1) + 256 ^ m * digits n b (i + suc m) =
+    rw (← place) (digits-add m n b (i + 1)) in
+    let regroup : 256 * 256 ^ m * digits n b (i + suc m) ≡ 256 * (256 ^ m * digits n b (i + suc m)) = mul-assoc 256 (256 ^ m) _ in
+    rw (suc-add, pow-succ' 256 m, digits) (omega arith)
+
+pub le-add : (m n : ℕ) (b : Bytes) (i : ℕ) → i + (m + n) ≤ length b → le (m + n) b i ≡ le m b i + 256 ^ m * le n b (i + m)
+le-add m n b i h =
+    rw (le-inside (m + n) b i h, le-inside m b i (omega arith), le-inside n b (i + m) (omega arith)) (digits-add m n b i)
+
+-- a byte in front moves every place up by one
+digits-cons : (n x : ℕ) (b : Bytes) (i : ℕ) → digits n (x ∷ b) (suc i) ≡ digits n b i
+unfolding digits
+digits-cons zero x b i = refl
+digits-cons (suc n) x b i = rw suc-add (ap (λ (d : ℕ). getD b i 0 + 256 * d) (digits-cons n x b (i + 1)))
+
+pub le-cons : (n x : ℕ) (b : Bytes) (i : ℕ) → le n (x ∷ b) (suc i) ≡ le n b i
+unfolding le
+le-cons n x b i = rw (suc-add, leb·suc-suc, digits-cons n x b i)
+
 -- ---- the function `room` and its callers
 
 pub no-room : (n i l : ℕ) → l < i → false ≡ leb (i + n) l
@@ -175,14 +202,21 @@ place-fits t i k n l e h p f = omega (arith, inside t (i + n) l e h)
 -- `search roomy` closes what a function asks of a place where it has called `room`.
 pub ruleset roomy = (needs, inside, outside, first-inside, byte-inside, place-fits)
 
--- ---- four bytes, as the functions `read_u32` and `write_u32` have them
+-- ---- two, four and eight bytes, as the functions have them
+
+pub le-of-two : (b : Bytes) (i x y : ℕ) → i + 2 ≤ length b → x ≡ getD b i 0 → y ≡ getD b (i + 1) 0 → x + 256 * y ≡ le 2 b i
+unfolding digits
+le-of-two b i x y h first second = rw (le-inside 2 b i h, digits, ← first, ← second) (omega arith)
 
 pub le-of-four : (b : Bytes) (i w x y z : ℕ) → i + 4 ≤ length b → w ≡ getD b i 0 → x ≡ getD b (i + 1) 0 → y ≡ getD b (i + 2) 0 → z ≡ getD b (i + 3) 0 → w + 256 * x + 65536 * y + 16777216 * z ≡ le 4 b i
-unfolding digits
 le-of-four b i w x y z h first second third fourth =
-    let two : i + 1 + 1 ≡ i + 2 = omega arith in
-    let three : i + 2 + 1 ≡ i + 3 = omega arith in
-    rw (le-inside 4 b i h, digits, two, three, ← first, ← second, ← third, ← fourth) (omega arith)
+    let place : i + 2 + 1 ≡ i + 3 = omega arith in
+    let low : w + 256 * x ≡ le 2 b i = le-of-two b i w x (omega arith) first second in
+    let high : y + 256 * z ≡ le 2 b (i + 2) = le-of-two b (i + 2) y z (omega arith) third (rw place fourth) in
+    omega (arith, le-add 2 2 b i h)
+
+pub le-of-eight : (b : Bytes) (i x y : ℕ) → i + 8 ≤ length b → x ≡ le 4 b i → y ≡ le 4 b (i + 4) → x + 4294967296 * y ≡ le 8 b i
+le-of-eight b i x y h low high = omega (arith, le-add 4 4 b i h)
 
 pub put-of-four : (v : ℕ) (b : Bytes) (i : ℕ) → i + 4 ≤ length b → v < 4294967296 → set (set (set (set b i (v % 256)) (i + 1) (v / 256 % 256)) (i + 2) (v / 65536 % 256)) (i + 3) (v / 16777216) ≡ put 4 v b i
 unfolding putDigits

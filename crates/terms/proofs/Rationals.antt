@@ -6,7 +6,7 @@
 --     less-value, lessEq-value, isZero-value, isPositive-value, isInteger-value, eqQ-eq       the tests
 -- The floor is in proofs/Floor.
 use mathlib.Core.Path.{_≡_, refl, sym, _∙_, ap, ap₂, subst, subst₂}
-use mathlib.Core.Bool.{Bool, true, false, _&&_}
+use mathlib.Core.Bool.{true, false, _&&_}
 use Prim.Native.Nat.{ℕ, zero, suc, _*_, _<_}
 use native.Mathlib.Nat.{zero-lt-suc, mul-pos, lt-irrefl, not-suc-le-zero}
 use borrow.Author.Tests.{eqb-true, eq-eqb}
@@ -16,15 +16,12 @@ use lib.Signed.{leZ, ltZ, _≤ℤ_, _<ℤ_, yes-nonNeg, pos-natAbs}
 use Rattle.terms.specs.Pair.{pair, wholeP, addP, mulP, negP, divP, eqZ, eqP, lessP, lessEqP, _≈_}
 use Rattle.terms.specs.Rational.{Rational, frac, whole, gcd, Lowest, lowest, upright, value, overP}
 use Rattle.terms.specs.Rational.{mulQ, divQ, addQ, negQ, absQ, isInteger, isZero, isPositive, eqQ, lessQ, lessEqQ}
+use Rattle.terms.proofs.Truths.{both}
 use Rattle.terms.proofs.Integers.{natAbs-negℤ, *ℤ-idr}
 use Rattle.terms.proofs.Order
 use Rattle.terms.proofs.Order.{at-positive, pos-positive}
 use Rattle.terms.proofs.Pairs.{≈-trans}
 use Rattle.terms.proofs.LowestTerms.{at-dens, lowest-value, lowest-is-lowest, eq-of-value-eq, whole-is-lowest}
-
-both : (s t : Bool) → (s && t) ≡ true → (s ≡ true) × (t ≡ true)
-both true t e = (refl, e)
-both false t e = absurd (subst T (sym e) tt)
 
 -- ---- values
 

@@ -10,7 +10,7 @@ use lib.IntN.{ℤ, pos, negsuc, natAbs, _-ℤ_}
 use lib.Signed.{mag, ltZ, nonNeg, quotZ, remZ}
 use mir.Facts.{toZ-ofZ, toZ-pos}
 use mir.Syntax.{w32, w64}
-use mir.Val.{Fits, SFits, toZ, ofZ}
+use mir.Val.{Fits, SFits, toZ}
 use Rattle.terms.specs.Bytes.{signed, complement}
 use Rattle.terms.proofs.Machine.{R, minus-one-sub}
 
@@ -30,25 +30,39 @@ signed-complement n (negsuc v) h =
     let back : 256 ^ n - suc (256 ^ n - suc v) ≡ v = omega arith in
     rw (small, le-ltb (256 ^ n - suc v) (256 ^ n / 2) (omega arith), back)
 
--- ---- the function `signed`: four bytes as a number of 64 bits
+-- ---- the functions `signed` and `signed_u64`: n bytes as a number of 64 bits
 
-module _ (v : ℕ) (small : v < 4294967296) where
-  as-natural : toZ w64 v ≡ pos v
-  as-natural = let h : v < 2 ^ 63 = omega arith in toZ-pos w64 h
+pub signed-low : (n v : ℕ) → v < 256 ^ n / 2 → v < 2 ^ 63 → toZ w64 v ≡ signed n v
+unfolding signed
+signed-low n v low small = toZ-pos w64 small ∙ rw (lt-ltb v (256 ^ n / 2) low)
 
-  pub signed-low : v < 2147483648 → toZ w64 v ≡ signed 4 v
-  unfolding signed
-  signed-low low = as-natural ∙ rw (lt-ltb v 2147483648 low)
+-- the machine has z exactly, and the n bytes v stand for it
+pub record Negative (n v : ℕ) (z : ℤ) : Type 0 where
+  pub fits : SFits w64 z
+  pub is : R z ≡ signed n v
 
-  less-than-zero : toZ w64 v -ℤ pos 4294967296 ≡ negsuc (4294967296 - suc v)
-  less-than-zero = ap (λ (z : ℤ). z -ℤ pos 4294967296) as-natural ∙ rw (lt-ltb v 4294967296 small)
+negative : (n v : ℕ) {z : ℤ} → z ≡ negsuc (256 ^ n - suc v) → 256 ^ n / 2 ≤ v → 256 ^ n - suc v < 2 ^ 63 → Negative n v z
+unfolding signed
+negative n v {z} e high small =
+    let f : SFits w64 z = subst (SFits w64) (sym e) (record { sfits = small }) in
+    record { fits = f; is = toZ-ofZ f ∙ e ∙ rw (le-ltb v (256 ^ n / 2) high) }
 
-  pub signed-high-fits : SFits w64 (toZ w64 v -ℤ pos 4294967296)
-  signed-high-fits = subst (SFits w64) (sym less-than-zero) (record { sfits = omega arith })
+pub negative-four : (v : ℕ) → v < 4294967296 → 2147483648 ≤ v → Negative 4 v (toZ w64 v -ℤ pos 4294967296)
+negative-four v small high = negative 4 v less high (omega arith)
+  where
+    less : toZ w64 v -ℤ pos 4294967296 ≡ negsuc (4294967296 - suc v)
+    less =
+        let h : v < 2 ^ 63 = omega arith in
+        ap (λ (z : ℤ). z -ℤ pos 4294967296) (toZ-pos w64 h) ∙ rw (lt-ltb v 4294967296 small)
 
-  pub signed-high : 2147483648 ≤ v → toZ w64 (ofZ w64 (toZ w64 v -ℤ pos 4294967296)) ≡ signed 4 v
-  unfolding signed
-  signed-high high = toZ-ofZ signed-high-fits ∙ less-than-zero ∙ rw (le-ltb v 2147483648 high)
+pub negative-eight : (v : ℕ) → v < 18446744073709551616 → 9223372036854775808 ≤ v → Negative 8 v (negsuc 0 -ℤ toZ w64 (18446744073709551615 - v))
+negative-eight v small high = negative 8 v less high (omega arith)
+  where
+    less : negsuc 0 -ℤ toZ w64 (18446744073709551615 - v) ≡ negsuc (18446744073709551616 - suc v)
+    less =
+        let h : 18446744073709551615 - v < 2 ^ 63 = omega arith in
+        let same : 18446744073709551615 - v ≡ 18446744073709551616 - suc v = omega arith in
+        ap (λ (z : ℤ). negsuc 0 -ℤ z) (toZ-pos w64 h) ∙ minus-one-sub (pos (18446744073709551615 - v)) ∙ ap negsuc same
 
 -- ---- the function `complement`: of a negative n it takes -1 - n, cuts this to four bytes and turns it over
 

@@ -8,7 +8,7 @@ use lib.Dec.{leb, ltb}
 use lib.IntN.{ℤ, pos, negsuc}
 use lib.ListN.{length, getD, set}
 use lib.Signed.{ltZ}
-use Rattle.terms.specs.Rational.{Rational, frac, whole, inRange}
+use Rattle.terms.specs.Rational.{Rational, frac, whole, inRange, modulo}
 
 abbrev pub Bytes : Type 0
 Bytes = List ℕ
@@ -39,8 +39,7 @@ unfoldable pub signed : ℕ → ℕ → ℤ
 signed n v = cond (ltb v (256 ^ n / 2)) (pos v) (negsuc (256 ^ n - suc v))
 
 unfoldable pub complement : ℕ → ℤ → ℕ
-complement n (pos v) = v % 256 ^ n
-complement n (negsuc v) = 256 ^ n - suc (v % 256 ^ n)
+complement n z = modulo z (256 ^ n)
 
 -- ---- a rational number: four bytes of numerator, four of denominator
 

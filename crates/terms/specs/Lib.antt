@@ -1,3 +1,10 @@
 pub mod Pair
 pub mod Rational
 pub mod Bytes
+pub mod Operator
+pub mod Term
+pub mod Book
+pub mod Sorting
+pub mod Readers
+pub mod Smtlib
+pub mod BookExamples

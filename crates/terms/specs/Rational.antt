@@ -3,7 +3,7 @@
 -- worked out on the parts and put in lowest terms. Document 01's range is a test by itself (`inRange`, `checked`).
 use mathlib.Core.Path.{_≡_, refl}
 use mathlib.Core.Bool.{Bool, false, _&&_, cond}
-use Prim.Native.Nat.{ℕ, zero, suc, _/_, _%_, _≤_}
+use Prim.Native.Nat.{ℕ, zero, suc, _-_, _/_, _%_, _≤_}
 use native.Mathlib.Nat.{zero-lt-suc}
 use lib.Dec.{leb}
 use lib.IntN.{ℤ, pos, negsuc, negℤ, natAbs, _+ℤ_, _*ℤ_}
@@ -77,6 +77,11 @@ floorZ (negsuc n) d = negsuc (n / d)
 
 unfoldable pub floorQ : Rational → Rational
 floorQ a = whole (floorZ (a .num) (natAbs (a .den)))
+
+-- the least number that is not negative and is z modulo m: rug's `modulo`
+abbrev pub modulo : ℤ → ℕ → ℕ
+modulo (pos n) m = n % m
+modulo (negsuc n) m = m - suc (n % m)
 
 -- ---- the tests
 

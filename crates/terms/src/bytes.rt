@@ -22,6 +22,16 @@ fn wide(x: u8) -> u32
     x as u32
 }
 
+// The number in the two bytes at `at`.
+pub fn read_u16(s: &[u8], at: usize) -> u32
+    ensures { λ r. ⌜ r ≡ le 2 (now (s .entry)) at ⌝ }
+{
+    if room(s, at, 2) {
+        return wide(s[at]) + 256 * wide(s[at + 1]);
+    }
+    0
+}
+
 // The number in the four bytes at `at`.
 pub fn read_u32(s: &[u8], at: usize) -> u32
     ensures { λ r. ⌜ r ≡ le 4 (now (s .entry)) at ⌝ }
@@ -31,6 +41,18 @@ pub fn read_u32(s: &[u8], at: usize) -> u32
             + 256 * wide(s[at + 1])
             + 65536 * wide(s[at + 2])
             + 16777216 * wide(s[at + 3]);
+    }
+    0
+}
+
+// The number in the eight bytes at `at`.
+pub fn read_u64(s: &[u8], at: usize) -> u64
+    ensures { λ r. ⌜ r ≡ le 8 (now (s .entry)) at ⌝ }
+{
+    if room(s, at, 8) {
+        let low = read_u32(s, at) as u64;
+        let high = read_u32(s, at + 4) as u64;
+        return low + 4294967296 * high;
     }
     0
 }
@@ -66,5 +88,16 @@ pub fn complement(n: i64) -> u32
         (4294967295 - (-1 - n) % 4294967296) as u32
     } else {
         (n % 4294967296) as u32
+    }
+}
+
+// Eight bytes read as two's complement.
+pub fn signed_u64(v: u64) -> i64
+    ensures { λ r. ⌜ r ≡ signed 8 v ⌝ }
+{
+    if v < 9223372036854775808 {
+        v as i64
+    } else {
+        -1 - (18446744073709551615 - v) as i64
     }
 }
