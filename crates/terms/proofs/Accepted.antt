@@ -11,7 +11,8 @@ use lib.Dec.{leb, eqb}
 use lib.ListN.{length}
 use Rattle.terms.specs.Bytes.{Bytes}
 use Rattle.terms.specs.Term.{sort, sortCode}
-use Rattle.terms.specs.Book.{count, maxRecords, sizeOk, recordOf, tree, layoutOk, sortOk, stands, recordRead}
+use Rattle.terms.specs.Book.{count, maxRecords, sizeOk, recordOf, tree, layoutOk, sortOk, stands}
+use Rattle.terms.specs.Book.{recordRead}
 use Rattle.terms.specs.Book.{readRecords, readBook}
 use Rattle.terms.specs.declared.book.BookRead.the-variants.{Records, RefusedAt}
 use Rattle.terms.specs.declared.book.RecordRead.{RecordRead}
@@ -25,7 +26,10 @@ pub record Accepted (b : Bytes) (i : ℕ) : Type 0 where
   pub new : stands i b (recordOf b i) ≡ false
 
 -- what the three tests say where a record has a sort
-passed : (l t n : Bool) (c s : ℕ) → elim l [ false ↦ Refused 3 | true ↦ elim t [ false ↦ Refused 4 | true ↦ elim n [ true ↦ Refused 5 | false ↦ Sorted c ] ] ] ≡ Sorted s → (l ≡ true) × (t ≡ true) × (n ≡ false)
+passed :
+    (l t n : Bool) (c s : ℕ) →
+    elim l [ false ↦ Refused 3 | true ↦ elim t [ false ↦ Refused 4 | true ↦ elim n [ true ↦ Refused 5 | false ↦ Sorted c ] ] ] ≡ Sorted s →
+    (l ≡ true) × (t ≡ true) × (n ≡ false)
 passed true true false c s e = (refl, refl, refl)
 passed true true true c s e = (refl, refl, cc)
 passed true false n c s e = (refl, cc, cc)
@@ -52,7 +56,10 @@ records-read zero b i m e =
     record { all = omega arith; each = λ j l k. absurd (omega arith) }
 records-read (suc n) b i m e = go (recordRead b i) refl e (records-read n b (i + 1) m)
   where
-    go : (r : RecordRead) → recordRead b i ≡ r → elim r [ Sorted s ↦ readRecords n b (i + 1) | Refused c ↦ RefusedAt c i ] ≡ Records m → (readRecords n b (i + 1) ≡ Records m → Read n b (i + 1) m) → Read (suc n) b i m
+    go :
+        (r : RecordRead) → recordRead b i ≡ r →
+        elim r [ Sorted s ↦ readRecords n b (i + 1) | Refused c ↦ RefusedAt c i ] ≡ Records m →
+        (readRecords n b (i + 1) ≡ Records m → Read n b (i + 1) m) → Read (suc n) b i m
     go (Sorted s) p e rest =
         record {
           all = omega (arith, rest e .all);
@@ -67,7 +74,10 @@ module _ (b : Bytes) (n : ℕ) (e : readBook b ≡ Records n) where
   unfolding readBook
   read = go (sizeOk b) refl e
     where
-      go : (t : Bool) → sizeOk b ≡ t → elim t [ true ↦ readRecords (length b / 32) b 0 | false ↦ RefusedAt 2 0 ] ≡ Records n → (sizeOk b ≡ true) × Read (length b / 32) b 0 n
+      go :
+          (t : Bool) → sizeOk b ≡ t →
+          elim t [ true ↦ readRecords (length b / 32) b 0 | false ↦ RefusedAt 2 0 ] ≡ Records n →
+          (sizeOk b ≡ true) × Read (length b / 32) b 0 n
       go true p e = (p, records-read (length b / 32) b 0 n e)
       go false p e = not-refused e
 

@@ -12,7 +12,8 @@ use lib.ListN.{length, getD, set, length-set}
 use lib.Seq.{getD-set-same, getD-set-other}
 use Rattle.terms.specs.Bytes.{Bytes}
 use Rattle.terms.specs.Term.{sort, sortCode}
-use Rattle.terms.specs.Book.{recordOf, tree, layoutOk, sortOk, stands, recordRead, readRecords, readBook, putSorts, SortsBelow, BookDone}
+use Rattle.terms.specs.Book.{recordOf, tree, layoutOk, sortOk, stands, recordRead, readRecords, readBook}
+use Rattle.terms.specs.Book.{putSorts, SortsBelow, BookDone}
 use Rattle.terms.specs.Sorting.{sorting}
 use Rattle.terms.specs.declared.sort.Sorting.{Sorting}
 use Rattle.terms.specs.declared.sort.Sorting.the-variants.{Of, Broken}
@@ -31,7 +32,9 @@ found l s e n =
       | true ↦ elim s [ false ↦ Refused 4 | true ↦ elim e [ true ↦ Refused 5 | false ↦ Sorted n ] ]
     ]
 
-record-found : (b : Bytes) (i : ℕ) → recordRead b i ≡ found (layoutOk i (recordOf b i)) (sortOk (tree b i)) (stands i b (recordOf b i)) (sortCode (sort (tree b i)))
+record-found :
+    (b : Bytes) (i : ℕ) →
+    recordRead b i ≡ found (layoutOk i (recordOf b i)) (sortOk (tree b i)) (stands i b (recordOf b i)) (sortCode (sort (tree b i)))
 unfolding recordRead found
 record-found b i = refl
 
@@ -48,7 +51,9 @@ found-sorted true false e m n h = (cc, cc)
 found-sorted true true true m n h = (cc, cc)
 found-sorted true true false m n h = (refl, cc)
 
-pub record-sorted : (b : Bytes) (i n : ℕ) → recordRead b i ≡ Sorted n → (layoutOk i (recordOf b i) ≡ true) × (n ≡ sortCode (sort (tree b i)))
+pub record-sorted :
+    (b : Bytes) (i n : ℕ) → recordRead b i ≡ Sorted n →
+    (layoutOk i (recordOf b i) ≡ true) × (n ≡ sortCode (sort (tree b i)))
 record-sorted b i n h = found-sorted _ _ _ _ n (sym (record-found b i) ∙ h)
 
 told : (t : Bool) (m n : ℕ) → Of n ≡ cond t (Of m) Broken → (t ≡ true) × (n ≡ m)
@@ -85,7 +90,9 @@ module _ (b : Bytes) (i : ℕ) (s : Sorting) (judge : Judged b i s) where
       rw (record-found b i, judge .layout, wrong)
 
   -- e says whether an equal record stands before
-  pub sorted-once : (n : ℕ) → s ≡ Of n → (r : Bytes) → r ≡ recordOf b i → (e : Bool) → e ≡ stands i b r → (t : Bool) → e ≡ t → cond t (Refused 5) (Sorted n) ≡ recordRead b i
+  pub sorted-once :
+      (n : ℕ) → s ≡ Of n → (r : Bytes) → r ≡ recordOf b i → (e : Bool) → e ≡ stands i b r → (t : Bool) →
+      e ≡ t → cond t (Refused 5) (Sorted n) ≡ recordRead b i
   sorted-once n of r is e standing t h =
       let known = told (sortOk (tree b i)) (sortCode (sort (tree b i))) n (sym of ∙ judge .sorts) in
       let stood : stands i b (recordOf b i) ≡ t = cc in
@@ -109,7 +116,9 @@ below-next P i below here j h = go (eqb j i) refl
     go true e = rw (eqb-true j i e) here
     go false e = let other : j ≢ i = eqb-false j i e in below j (omega arith)
 
-sorts-below-more : (b w : Bytes) (i n : ℕ) → i < length w → SortsBelow i b w → recordRead b i ≡ Sorted n → SortsBelow (i + 1) b (set w i n)
+sorts-below-more :
+    (b w : Bytes) (i n : ℕ) → i < length w → SortsBelow i b w → recordRead b i ≡ Sorted n →
+    SortsBelow (i + 1) b (set w i n)
 sorts-below-more b w i n h below e =
     let known = record-sorted b i n e in
     record {
@@ -122,7 +131,8 @@ sorts-below-more b w i n h below e =
 
 -- ---- the book
 
-read-more : (b : Bytes) (m i n : ℕ) → recordRead b i ≡ Sorted n → readRecords (suc m) b i ≡ readRecords m b (i + 1)
+read-more :
+    (b : Bytes) (m i n : ℕ) → recordRead b i ≡ Sorted n → readRecords (suc m) b i ≡ readRecords m b (i + 1)
 unfolding readRecords
 read-more b m i n e = rw (e, readRecords)
 
@@ -150,7 +160,9 @@ module _ (b w₀ : Bytes) (n : ℕ) (w : Bytes) (i : ℕ) (reading : Reading b w
   pub reading-length : length w ≡ length w₀
   reading-length = ap length (reading .written) ∙ length-putSorts i b w₀
 
-  pub reading-more : i < n → i < length w → (s : ℕ) (r : RecordRead) → r ≡ recordRead b i → r ≡ Sorted s → Reading b w₀ n (set w i s) (i + 1)
+  pub reading-more :
+      i < n → i < length w → (s : ℕ) (r : RecordRead) → r ≡ recordRead b i → r ≡ Sorted s →
+      Reading b w₀ n (set w i s) (i + 1)
   unfolding putSorts
   reading-more h inside s r is sorted =
       let e : recordRead b i ≡ Sorted s = sym is ∙ sorted in
@@ -178,7 +190,9 @@ unfolding readBook putSorts
 refused-count b w h = record { is = rw (lt-leb _ _ h, and-false (eqb (length b % 32) 0), readBook); sorts = refl }
 
 module _ (b w₀ w : Bytes) (i : ℕ) (whole : length b % 32 ≡ 0) (few : length b / 32 ≤ 2048) (reading : Reading b w₀ (length b / 32) w i) where
-  pub reading-refused : i < length b / 32 → (k : ℕ) (r : RecordRead) → r ≡ recordRead b i → r ≡ Refused k → BookDone b w₀ w (RefusedAt k i)
+  pub reading-refused :
+      i < length b / 32 → (k : ℕ) (r : RecordRead) → r ≡ recordRead b i → r ≡ Refused k →
+      BookDone b w₀ w (RefusedAt k i)
   reading-refused h k r is refused =
       record {
         is =

@@ -27,14 +27,17 @@ use Rattle.terms.proofs.RecordReadings.{argsOf-record, argsOf-other}
 lower-same : (i : ℕ) {x y : ℕ} → x ≡ y → height x < height i → height y < height i
 lower-same i = subst (λ (z : ℕ). height z < height i)
 
-pub child : {b : Bytes} {i x : ℕ} {t : Option Term} → some (tree b x) ≡ t → height x < height i → Child b i (Of x) t
+pub child :
+    {b : Bytes} {i x : ℕ} {t : Option Term} → some (tree b x) ≡ t → height x < height i → Child b i (Of x) t
 child {i = i} {x = x} e h =
     record { is = e; deeper = λ y p. let same : x ≡ y = cc in lower-same i same h }
 
 pub no-child : {b : Bytes} {i : ℕ} {t : Option Term} → t ≡ none → Child b i Neither t
 no-child e = record { is = sym e; deeper = λ y p. let z : _≡_ {A = ℕ} 0 1 = cc in absurd (omega arith) }
 
-pub children : {b : Bytes} {i x y : ℕ} {t : Option (Term × Term)} → some (tree b x, tree b y) ≡ t → height x < height i → height y < height i → Children b i (Both x y) t
+pub children :
+    {b : Bytes} {i x y : ℕ} {t : Option (Term × Term)} → some (tree b x, tree b y) ≡ t → height x < height i →
+    height y < height i → Children b i (Both x y) t
 children {i = i} {x = x} {y = y} e h k =
     record {
       is = e;
@@ -87,15 +90,20 @@ module _ (b : Bytes) (i o : ℕ) {r : Bytes} (r-is : r ≡ recordOf b i) where
     unfolding argumentAt
     argument-deeper n x-is = rw x-is (earlier-lower i (getD (numbers args) n nothing) (there b i r-is k))
 
-    asked : {A : Type 0} (g : Terms → Option A) → ask g o (tree b i) ≡ g (forest (tree b) (arguments i (numbers args)))
+    asked :
+        {A : Type 0} (g : Terms → Option A) →
+        ask g o (tree b i) ≡ g (forest (tree b) (arguments i (numbers args)))
     asked g = rw (argsOf-record b i r-is o k same, ask, args-is)
 
-    pub child-found : {x : ℕ} → length args / 2 ≡ 1 → x ≡ argumentAt args 0 i → Child b i (Of x) (unary o (tree b i))
+    pub child-found :
+        {x : ℕ} → length args / 2 ≡ 1 → x ≡ argumentAt args 0 i → Child b i (Of x) (unary o (tree b i))
     unfolding unary
     child-found n x-is =
         child (sym (asked one? ∙ rw (forest-of-one (tree b) i args n, x-is))) (argument-deeper 0 x-is)
 
-    pub children-found : {x y : ℕ} → length args / 2 ≡ 2 → x ≡ argumentAt args 0 i → y ≡ argumentAt args 1 i → Children b i (Both x y) (binary o (tree b i))
+    pub children-found :
+        {x y : ℕ} → length args / 2 ≡ 2 → x ≡ argumentAt args 0 i → y ≡ argumentAt args 1 i →
+        Children b i (Both x y) (binary o (tree b i))
     unfolding binary
     children-found n x-is y-is =
         children (sym (asked two? ∙ rw (forest-of-two (tree b) i args n, x-is, y-is)))
@@ -133,7 +141,9 @@ module _ {b : Bytes} {i : ℕ} {first : Two} (whole : Children b i first (binary
       let h = whole .deeper x y e in
       children (rw (there-are, quotientOf)) (h .0) (h .1)
 
-  pub real-quotient : {second : Two} → first ≡ NotTwo → Children b i second (binary RealDiv (tree b i)) → Children b i second (quotientOf (tree b i))
+  pub real-quotient :
+      {second : Two} → first ≡ NotTwo → Children b i second (binary RealDiv (tree b i)) →
+      Children b i second (quotientOf (tree b i))
   unfolding quotientOf
   real-quotient e h =
       let there-are : binary IntDiv (tree b i) ≡ none = sym (whole .is) ∙ ap (foundTwo b) e in

@@ -6,7 +6,8 @@ use mathlib.Core.Path.{_≡_, refl, sym, _∙_, ap, ap₂, subst}
 use Prim.Native.Nat.{ℕ, zero, suc, _*_, _+_, _/_, _%_, _<_, _∣_}
 use native.Mathlib.Nat.{mod-lt, zero-lt-suc, not-suc-le-zero, le-of-suc-le-suc, lt-of-lt-of-le, lt-suc-self}
 use native.Mathlib.Nat.{mul-zero, mul-one, div-add-mod', mul-lt-mul-of-pos-left, mul-pos, eq-of-mul-eq-mul-left}
-use native.Mathlib.Nat.{dvd-refl, dvd-zero, dvd-mod-iff, dvd-antisymm, dvd-mul-left, mul-div-cancel', pos-of-dvd-of-pos}
+use native.Mathlib.Nat.{dvd-refl, dvd-zero, dvd-mod-iff, dvd-antisymm, dvd-mul-left, mul-div-cancel'}
+use native.Mathlib.Nat.{pos-of-dvd-of-pos}
 use native.Mathlib.Omega.{arith}
 use lib.Arith.{digits-mod}
 use Rattle.terms.specs.Rational.{gcd, gcdWithin}

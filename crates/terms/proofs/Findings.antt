@@ -70,7 +70,8 @@ module _ (r : Bytes) {n d : ℤ} (n-is : n ≡ signed 8 (field1 r)) (d-is : d �
 
 -- ---- negation
 
-pub negated-value : {x : Reading} {q r : Rational} → x ≡ Value q → Makes r (negQ q) → Finds (Value r) (negated x)
+pub negated-value :
+    {x : Reading} {q r : Rational} → x ≡ Value q → Makes r (negQ q) → Finds (Value r) (negated x)
 negated-value e m = finds (m .proper) (rw (e, m .is))
 
 -- a reader of numbers, or of their negations
@@ -78,7 +79,9 @@ abbrev pub signedBy : (Term → Reading) → Term → Reading
 signedBy f t = elim (unary Sub t) [ some x ↦ negated (f x) | none ↦ f t ]
 
 module _ {b : Bytes} {i : ℕ} (f : Term → Reading) {u : Only} (c : Child b i u (unary Sub (tree b i))) where
-  pub signed-inside : {x : ℕ} {y r : Reading} → u ≡ Of x → Finds y (f (tree b x)) → Finds r (negated y) → Finds r (signedBy f (tree b i))
+  pub signed-inside :
+      {x : ℕ} {y r : Reading} → u ≡ Of x → Finds y (f (tree b x)) → Finds r (negated y) →
+      Finds r (signedBy f (tree b i))
   signed-inside {x} e inner outer =
       let there-is : unary Sub (tree b i) ≡ some (tree b x) = sym (c .is) ∙ ap (found b) e in
       rw (there-is, signedBy, ← inner .is) outer
@@ -110,7 +113,8 @@ abbrev pub tag : Reading → ℕ
 tag = tagOf the-type
 
 -- a reading that is no number
-pub no-value : (P : Reading → Type 0) → P NotNumber → P OutOfRange → (r : Reading) → (tag r ≡ 1) ⊎ (tag r ≡ 2) → P r
+pub no-value :
+    (P : Reading → Type 0) → P NotNumber → P OutOfRange → (r : Reading) → (tag r ≡ 1) ⊎ (tag r ≡ 2) → P r
 no-value P x y (Value q) h = absurd (⊎-elim (λ e. omega arith) (λ e. omega arith) h)
 no-value P x y NotNumber h = x
 no-value P x y OutOfRange h = y
@@ -124,13 +128,16 @@ pub record OverNumber (b : Bytes) (i : ℕ) (n : Reading) (q : Rational) : Type 
   pub is : asUnsignedFraction ranged (tree b i) ≡ over ranged n q
 
 module _ {b : Bytes} {i : ℕ} {w : Two} (c : Children b i w (quotientOf (tree b i))) where
-  pub fraction-itself : {r : Reading} → w ≡ NotTwo → Finds r (asNumber (tree b i)) → Finds r (asUnsignedFraction ranged (tree b i))
+  pub fraction-itself :
+      {r : Reading} → w ≡ NotTwo → Finds r (asNumber (tree b i)) →
+      Finds r (asUnsignedFraction ranged (tree b i))
   unfolding asUnsignedFraction
   fraction-itself e h =
       let there-is : quotientOf (tree b i) ≡ none = sym (c .is) ∙ ap (foundTwo b) e in
       rw (there-is, asUnsignedFraction) h
 
-  pub over-reading : {x y : ℕ} {d : Reading} → w ≡ Both x y → Finds d (asSignedNumber (tree b y)) → OverReading b i x d
+  pub over-reading :
+      {x y : ℕ} {d : Reading} → w ≡ Both x y → Finds d (asSignedNumber (tree b y)) → OverReading b i x d
   unfolding asUnsignedFraction
   over-reading {x} {y} e d-is =
       let there-is : quotientOf (tree b i) ≡ some (tree b x, tree b y) = sym (c .is) ∙ ap (foundTwo b) e in
@@ -145,7 +152,8 @@ module _ {b : Bytes} {i x : ℕ} {d : Reading} (f : OverReading b i x d) where
     pub zero-divisor : isZero q ≡ true → Finds NotNumber (asUnsignedFraction ranged (tree b i))
     zero-divisor z = finds tt (sym (f .is ∙ rw (q-is, divided, z)))
 
-    pub over-number : {n : Reading} → isZero q ≡ false → Finds n (asSignedNumber (tree b x)) → OverNumber b i n q
+    pub over-number :
+        {n : Reading} → isZero q ≡ false → Finds n (asSignedNumber (tree b x)) → OverNumber b i n q
     over-number z n-is = record { is = f .is ∙ rw (q-is, divided, z, n-is .is) }
 
 module _ {b : Bytes} {i : ℕ} {n : Reading} {q : Rational} (f : OverNumber b i n q) where
@@ -159,5 +167,6 @@ module _ {b : Bytes} {i : ℕ} {n : Reading} {q : Rational} (f : OverNumber b i 
     pub quotient-outside : a ≡ checked-as.OutOfRange → Finds OutOfRange (asUnsignedFraction ranged (tree b i))
     quotient-outside e = finds tt (quotient-is (ap reading e))
 
-    pub quotient-found : {s : Rational} → a ≡ checked-as.Value s → Finds (Value s) (asUnsignedFraction ranged (tree b i))
+    pub quotient-found :
+        {s : Rational} → a ≡ checked-as.Value s → Finds (Value s) (asUnsignedFraction ranged (tree b i))
     quotient-found {s} e = finds (g .proper s e) (quotient-is (ap reading e))

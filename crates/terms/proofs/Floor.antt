@@ -2,75 +2,44 @@
 -- floor of n/d, f d ≤ n < (f + 1) d.
 use mathlib.Core.Path.{_≡_, sym, ap, subst, subst₂}
 use mathlib.Core.List.{[], _∷_}
-use Prim.Native.Nat.{ℕ, suc, _+_, _-_, _/_, _%_, _<_}
-use native.Mathlib.Nat.{zero-lt-suc, div-add-mod', mod-lt}
+use Prim.Native.Nat.{ℕ, suc, _+_, _-_, _<_}
+use native.Mathlib.Nat.{zero-lt-suc}
 use native.Mathlib.Omega.{arith}
-use lib.IntN.{ℤ, pos, negsuc, negℤ, natAbs, _+ℤ_, _*ℤ_, one, negsuc-eq}
+use lib.IntN.{ℤ, pos, natAbs, _+ℤ_, _*ℤ_}
 use lib.Signed.{_≤ℤ_, _<ℤ_}
 use Rattle.terms.specs.Pair.{wholeP, _≤P_}
-use Rattle.terms.specs.Rational.{Rational, Lowest, value, overP, floorZ, floorQ}
-use Rattle.terms.proofs.Integers.{_⊕_, _⊖_, _⊗_, neg, 𝟙, _≐_, _·_, _and_, _from_, solveℤ, deriveℤ, *ℤ-idr}
-use Rattle.terms.proofs.Order.{at-positive, pos-nonneg, le-of-sub-eq, lt-of-sub-eq, lt-of-le-of-lt, lt-of-mul-lt-mul-right, sub-nonneg-of-lt}
+use Rattle.terms.specs.Rational.{Rational, Lowest, value, overP, floorZ, floorQ, modulo}
+use Rattle.terms.proofs.Integers.{_⊕_, _⊖_, _⊗_, neg, 𝟙, _≐_, _·_, _and_, _from_, solveℤ, deriveℤ}
+use Rattle.terms.proofs.Integers.{*ℤ-idr}
+use Rattle.terms.proofs.Order.{at-positive, pos-nonneg, le-of-sub-eq, lt-of-sub-eq, lt-of-le-of-lt}
+use Rattle.terms.proofs.Order.{lt-of-mul-lt-mul-right, sub-nonneg-of-lt}
+use Rattle.terms.proofs.Modulo.{floor-modulo, modulo-lt}
 use Rattle.terms.proofs.LowestTerms.{whole-is-lowest}
 
 record Between (n : ℤ) (d : ℕ) : Type 0 where
   below : (floorZ n d *ℤ pos d) ≤ℤ n
   above : n <ℤ ((floorZ n d +ℤ pos 1) *ℤ pos d)
 
--- with n = q d + r and d = r + 1 + s, the gaps below and above n are r and s, and those of -(n + 1) are s and r
-module _ (n d : ℕ) (p : 0 < d) where
-  abbrev q : ℕ
-  q = n / d
-
-  abbrev r : ℕ
-  r = n % d
-
-  abbrev s : ℕ
-  s = d - suc r
-
-  division : pos n ≡ pos q *ℤ pos d +ℤ pos r
-  division = ap pos (sym (div-add-mod' n d))
-
-  remainder : pos d ≡ pos r +ℤ pos 1 +ℤ pos s
-  remainder = ap pos (rest (mod-lt n p))
-    where
-      rest : {r : ℕ} → r < d → d ≡ r + 1 + (d - suc r)
-      rest h = omega arith
-
-  minus : (k : ℕ) → negsuc k ≡ negℤ (pos k +ℤ pos 1)
-  unfolding one
-  minus k = negsuc-eq k
-
-  between-pos : Between (pos n) d
-  between-pos =
-      record {
-        below = le-of-sub-eq (pos-nonneg r) (deriveℤ (pos n ∷ pos q ∷ pos d ∷ pos r ∷ []) (λ n q d r. n ⊖ q ⊗ d ≐ r from 𝟙 · n ≐ q ⊗ d ⊕ r) tt division);
-        above =
-            lt-of-sub-eq (pos-nonneg s)
-            (deriveℤ (pos n ∷ pos q ∷ pos d ∷ pos r ∷ pos s ∷ [])
-            (λ n q d r s. (q ⊕ 𝟙) ⊗ d ⊖ (n ⊕ 𝟙) ≐ s from neg 𝟙 · n ≐ q ⊗ d ⊕ r and 𝟙 · d ≐ r ⊕ 𝟙 ⊕ s) tt division remainder);
-      }
-
-  between-neg : Between (negsuc n) d
-  between-neg =
-      record {
-        below =
-            le-of-sub-eq (pos-nonneg s)
-            (deriveℤ (negsuc n ∷ negsuc q ∷ pos n ∷ pos q ∷ pos d ∷ pos r ∷ pos s ∷ [])
-            (λ m f n q d r s.
-            m ⊖ f ⊗ d ≐ s from 𝟙 · m ≐ neg (n ⊕ 𝟙) and neg d · f ≐ neg (q ⊕ 𝟙) and neg 𝟙 · n ≐ q ⊗ d ⊕ r and 𝟙 · d ≐ r ⊕ 𝟙 ⊕ s) tt
-            (minus n) (minus q) division remainder);
-        above =
-            lt-of-sub-eq (pos-nonneg r)
-            (deriveℤ (negsuc n ∷ negsuc q ∷ pos n ∷ pos q ∷ pos d ∷ pos r ∷ [])
-            (λ m f n q d r.
-            (f ⊕ 𝟙) ⊗ d ⊖ (m ⊕ 𝟙) ≐ r from d · f ≐ neg (q ⊕ 𝟙) and neg 𝟙 · m ≐ neg (n ⊕ 𝟙) and 𝟙 · n ≐ q ⊗ d ⊕ r) tt
-            (minus q) (minus n) division);
-      }
-
+-- with n = f d + r and d = r + 1 + s, the gaps below and above n are r and s
 between : (n : ℤ) (d : ℕ) → 0 < d → Between n d
-between (pos n) d p = between-pos n d p
-between (negsuc n) d p = between-neg n d p
+between n d p =
+    record {
+      below = le-of-sub-eq (pos-nonneg r) (deriveℤ (n ∷ f ∷ pos d ∷ pos r ∷ []) (λ n f d r. n ⊖ f ⊗ d ≐ r from 𝟙 · n ≐ f ⊗ d ⊕ r) tt (floor-modulo d p n));
+      above =
+          lt-of-sub-eq (pos-nonneg (d - suc r))
+          (deriveℤ (n ∷ f ∷ pos d ∷ pos r ∷ pos (d - suc r) ∷ [])
+          (λ n f d r s. (f ⊕ 𝟙) ⊗ d ⊖ (n ⊕ 𝟙) ≐ s from neg 𝟙 · n ≐ f ⊗ d ⊕ r and 𝟙 · d ≐ r ⊕ 𝟙 ⊕ s) tt
+          (floor-modulo d p n) (ap pos (rest (modulo-lt d p n))));
+    }
+  where
+    f : ℤ
+    f = floorZ n d
+
+    r : ℕ
+    r = modulo n d
+
+    rest : {r : ℕ} → r < d → d ≡ r + 1 + (d - suc r)
+    rest h = omega arith
 
 pub floor-lowest : (a : Rational) → Lowest (floorQ a)
 unfolding floorQ
@@ -94,7 +63,9 @@ module _ (a : Rational) (la : Lowest a) where
       le-of-lt-add-one {x} {y} h =
           le-of-sub-eq (sub-nonneg-of-lt h) (solveℤ (x ∷ y ∷ []) (λ x y. y ⊖ x ≐ y ⊕ 𝟙 ⊖ (x ⊕ 𝟙)) tt)
 
-      at : (k : ℕ) → (z *ℤ pos (suc k)) ≤ℤ (a .num *ℤ pos 1) → (z *ℤ pos 1) ≤ℤ (floorZ (a .num) (suc k) *ℤ pos 1)
+      at :
+          (k : ℕ) → (z *ℤ pos (suc k)) ≤ℤ (a .num *ℤ pos 1) →
+          (z *ℤ pos 1) ≤ℤ (floorZ (a .num) (suc k) *ℤ pos 1)
       at k h =
           subst₂ _≤ℤ_ (sym (*ℤ-idr z)) (sym (*ℤ-idr (floorZ (a .num) (suc k))))
           (le-of-lt-add-one

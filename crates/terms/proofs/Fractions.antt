@@ -25,7 +25,8 @@ use Rattle.terms.specs.declared.term.Reading.the-variants.{Value, NotNum
 use Rattle.terms.proofs.Pairs.{≈-trans, mul-resp, neg-resp}
 use Rattle.terms.proofs.LowestTerms.{whole-is-lowest}
 use Rattle.terms.proofs.Rationals.{whole-value, neg-value, neg-lowest, div-value, div-lowest}
-use Rattle.terms.proofs.Readings.{by-option, not-number, out-of-range, unary-shape, binary-shape, ranged-unbounded}
+use Rattle.terms.proofs.Readings.{by-option, not-number, out-of-range, unary-shape, binary-shape}
+use Rattle.terms.proofs.Readings.{ranged-unbounded}
 use Rattle.terms.proofs.Readings.{Quotient, quotient, signed-fraction, div-reading}
 use Rattle.terms.proofs.WellFormed.{WellFormed, well-formed}
 
@@ -62,12 +63,16 @@ argument : (o : ℕ) (t x : Term) → unary o t ≡ some x → WellFormed t → 
 unfolding WellFormed
 argument o t x u w = subst WellFormed (unary-shape o t x u) w .1 .0
 
-operands : (o : ℕ) (t : Term) (p : Term × Term) → binary o t ≡ some p → WellFormed t → WellFormed (p .0) × WellFormed (p .1)
+operands :
+    (o : ℕ) (t : Term) (p : Term × Term) → binary o t ≡ some p → WellFormed t →
+    WellFormed (p .0) × WellFormed (p .1)
 unfolding WellFormed
 operands o t p u w = let h = subst WellFormed (binary-shape o t p u) w .1 in (h .0, h .1 .0)
 
 module _ (t : Term) (w : WellFormed t) where
-  negated-means : (x : Term) → unary Sub t ≡ some x → (r : Reading) → ((q : Rational) → r ≡ Value q → Means x q) → (q : Rational) → negated r ≡ Value q → Means t q
+  negated-means :
+      (x : Term) → unary Sub t ≡ some x → (r : Reading) → ((q : Rational) → r ≡ Value q → Means x q) →
+      (q : Rational) → negated r ≡ Value q → Means t q
   negated-means x u (Value p) m q e =
       let h : negQ p ≡ q = cc in subst (Means t) h (negation-means t x u p (m p refl))
   negated-means x u NotNumber m q e = not-number e
@@ -81,7 +86,9 @@ module _ (t : Term) (w : WellFormed t) where
 
 -- ---- what a quotient means
 
-pub int-div-value : (ρ : Assignment) (i : ℕ) (ts : Terms) (q : Rational) → asFraction unbounded (op i IntDiv ts) ≡ Value q → value ρ (op i IntDiv ts) ≡ number (Rational.value q)
+pub int-div-value :
+    (ρ : Assignment) (i : ℕ) (ts : Terms) (q : Rational) → asFraction unbounded (op i IntDiv ts) ≡ Value q →
+    value ρ (op i IntDiv ts) ≡ number (Rational.value q)
 unfolding value meaning if_then_else_
 int-div-value ρ i ts q =
     ap (λ (r : Reading). elim r as (λ x. Meant) [ Value q ↦ number (Rational.value q) | NotNumber ↦ given ρ i int | OutOfRange ↦ given ρ i int ])
@@ -90,7 +97,9 @@ module _ (ρ : Assignment) (i : ℕ) (a b : Term) (d : Rational) where
   over-divisor : Option Rational → Meant
   over-divisor o = elim o [ some q ↦ number (divP (asPair (value ρ a)) (Rational.value q)) | none ↦ given ρ i real ]
 
-  pub real-div-value : asFraction unbounded b ≡ Value d → isZero d ≡ false → value ρ (op i RealDiv (a ▹ b ▹ nil)) ≡ number (divP (asPair (value ρ a)) (Rational.value d))
+  pub real-div-value :
+      asFraction unbounded b ≡ Value d → isZero d ≡ false →
+      value ρ (op i RealDiv (a ▹ b ▹ nil)) ≡ number (divP (asPair (value ρ a)) (Rational.value d))
   unfolding value meaning if_then_else_ over-divisor
   real-div-value e z =
       ap (λ (r : Reading). over-divisor (elim r as (λ x. Option Rational) [ Value q ↦ cond (isZero q) none (some q) | NotNumber ↦ none | OutOfRange ↦ none ])) e
@@ -134,12 +143,16 @@ module _ (a b : Term) (wa : WellFormed a) (wb : WellFormed b) (q : Rational) (e 
 -- ---- fractions
 
 -- a quotient is a div or a /
-quotient-cases : (t : Term) (p : Term × Term) → quotientOf t ≡ some p → (binary IntDiv t ≡ some p) ⊎ (binary RealDiv t ≡ some p)
+quotient-cases :
+    (t : Term) (p : Term × Term) → quotientOf t ≡ some p →
+    (binary IntDiv t ≡ some p) ⊎ (binary RealDiv t ≡ some p)
 unfolding quotientOf
 quotient-cases t p = by-option (binary IntDiv t) some (binary RealDiv t) (some p) (λ r u e. inl (u ∙ e)) (λ u e. inr e)
 
 module _ (t : Term) (w : WellFormed t) (q : Rational) where
-  quotient-means : (o : ℕ) (p : Term × Term) → binary o t ≡ some p → (WellFormed (p .0) → WellFormed (p .1) → (i : ℕ) → Means (op i o (p .0 ▹ p .1 ▹ nil)) q) → Means t q
+  quotient-means :
+      (o : ℕ) (p : Term × Term) → binary o t ≡ some p →
+      (WellFormed (p .0) → WellFormed (p .1) → (i : ℕ) → Means (op i o (p .0 ▹ p .1 ▹ nil)) q) → Means t q
   quotient-means o p u m =
       let h = operands o t p u w in
       subst (λ (t : Term). Means t q) (sym (binary-shape o t p u)) (m (h .0) (h .1) (recordNumber t))
@@ -160,9 +173,14 @@ fraction-means t w q =
     (λ x u. negated-means t w x u (asUnsignedFraction unbounded x) (unsigned-means x (argument Sub t x u w)) q)
     (λ u. unsigned-means t w q)
 
-pub asFraction-value : (t : Term) → WellFormed t → (q : Rational) → asFraction unbounded t ≡ Value q → (ρ : Assignment) → (asPair (value ρ t) ≈ Rational.value q) × Lowest q
+pub asFraction-value :
+    (t : Term) → WellFormed t → (q : Rational) → asFraction unbounded t ≡ Value q → (ρ : Assignment) →
+    (asPair (value ρ t) ≈ Rational.value q) × Lowest q
 asFraction-value t w q e ρ = let m = fraction-means t w q e in (m .meant ρ, m .lowest)
 
 -- a record of a book that is read without a refusal, read in document 01's range
-pub record-fraction-value : (b : Bytes) (n : ℕ) → readBook b ≡ Records n → (i : ℕ) → i < n → (q : Rational) → asFraction ranged (tree b i) ≡ Value q → (ρ : Assignment) → (asPair (value ρ (tree b i)) ≈ Rational.value q) × Lowest q
+pub record-fraction-value :
+    (b : Bytes) (n : ℕ) → readBook b ≡ Records n → (i : ℕ) → i < n → (q : Rational) →
+    asFraction ranged (tree b i) ≡ Value q → (ρ : Assignment) →
+    (asPair (value ρ (tree b i)) ≈ Rational.value q) × Lowest q
 record-fraction-value b n r i h q e = asFraction-value (tree b i) (well-formed b n r i h) q (ranged-unbounded (tree b i) q e)

@@ -11,7 +11,8 @@ use native.Mathlib.Nat.{suc-ne-zero, eq-of-mul-eq-mul-right, zero-mul, le-refl}
 use native.Mathlib.Omega.{arith}
 use lib.Dec.{T, ltb}
 use borrow.Author.Tests.{ltb-true}
-use lib.IntN.{ℤ, pos, negsuc, sucℤ, negℤ, natAbs, subℕ, one, _+ℤ_, _-ℤ_, _*ℤ_, +ℤ-idl, +ℤ-idr, +ℤ-assoc, +ℤ-comm, +ℤ-invr, sucℤ-+ℤ, sucℤ-*ℤ, zero-*ℤ, *ℤ-comm, *ℤ-one, +ℤ-negℤ-cancel}
+use lib.IntN.{ℤ, pos, negsuc, sucℤ, negℤ, natAbs, subℕ, one, _+ℤ_, _-ℤ_, _*ℤ_, +ℤ-idl, +ℤ-idr, +ℤ-assoc}
+use lib.IntN.{+ℤ-comm, +ℤ-invr, sucℤ-+ℤ, sucℤ-*ℤ, zero-*ℤ, *ℤ-comm, *ℤ-one, +ℤ-negℤ-cancel}
 pub use Rattle.terms.proofs.Ring.{Ring, E, lit, _⊕_, _⊖_, _⊗_, neg, 𝟘, 𝟙, _≐_, _·_, _and_, _from_}
 use Rattle.terms.proofs.Ring.{Equation, Claim, Vars, atVars, Holds, Follows, solve, derive}
 use Rattle.terms.proofs.Polynomials.{isIdentity, isCombination}
@@ -19,7 +20,9 @@ use Rattle.terms.proofs.Polynomials.{isIdentity, isCombination}
 -- ---- the laws of the product
 
 -- Two functions that grow by c at each step and agree at 0 are equal. A law of the product is such a pair, in its first factor.
-steps-unique : (f g : ℤ → ℤ) (c : ℤ) → ((k : ℤ) → f (sucℤ k) ≡ f k +ℤ c) → ((k : ℤ) → g (sucℤ k) ≡ g k +ℤ c) → f (pos 0) ≡ g (pos 0) → (k : ℤ) → f k ≡ g k
+steps-unique :
+    (f g : ℤ → ℤ) (c : ℤ) → ((k : ℤ) → f (sucℤ k) ≡ f k +ℤ c) → ((k : ℤ) → g (sucℤ k) ≡ g k +ℤ c) →
+    f (pos 0) ≡ g (pos 0) → (k : ℤ) → f k ≡ g k
 steps-unique f g c F G e = go
   where
     up : (k : ℤ) → f k ≡ g k → f (sucℤ k) ≡ g (sucℤ k)
@@ -76,7 +79,8 @@ abbrev pub ℤring : Ring
 pub solveℤ : (ρ : List ℤ) (f : Vars ρ Equation) → T (isIdentity (atVars ρ 0 f)) → Holds ℤring (atVars ρ 0 f) ρ
 solveℤ = solve ℤring
 
-pub deriveℤ : (ρ : List ℤ) (f : Vars ρ Claim) → T (isCombination (atVars ρ 0 f)) → Follows ℤring (atVars ρ 0 f) ρ
+pub deriveℤ :
+    (ρ : List ℤ) (f : Vars ρ Claim) → T (isCombination (atVars ρ 0 f)) → Follows ℤring (atVars ρ 0 f) ρ
 deriveℤ = derive ℤring
 
 -- ---- sizes

@@ -23,6 +23,7 @@ use Rattle.terms.specs.Term.{if_then_else_}
 use Rattle.terms.specs.Book.{kind, operator, argCount, sortByte, field1, field2, argBytes, numbers}
 use Rattle.terms.specs.Book.{isVector, isWidth, allZero, unused, allBelow, countOk}
 use Rattle.terms.specs.Book.{integerOk, realOk, vectorOk, atomOk, operationOk, layoutOk}
+use Rattle.terms.proofs.Truths.{if-either}
 use Rattle.terms.proofs.Machine.{R}
 
 -- ---- one test after the other: s is what the code found for the test a
@@ -110,7 +111,9 @@ pub shifted : (w : ℕ) → w ≤ 30 → 1 * 2 ^ w % 2 ^ 64 ≡ 2 ^ w
 shifted w h = shl-exact 1 w 64 (lit< tt) (omega arith) ∙ one-mul (2 ^ w)
 
 -- the width and the value are in the bytes, and x is the answer for the width
-pub vector-of-width : (r : Bytes) (w v : ℕ) (x : Bool) → w ≡ field2 r → v ≡ field1 r → x ≡ isWidth w → x ≡ true → ltb v (1 * 2 ^ w % 2 ^ 64) ≡ isVector r
+pub vector-of-width :
+    (r : Bytes) (w v : ℕ) (x : Bool) → w ≡ field2 r → v ≡ field1 r → x ≡ isWidth w → x ≡ true →
+    ltb v (1 * 2 ^ w % 2 ^ 64) ≡ isVector r
 vector-of-width r w v x w-is v-is x-is passes =
     passed (x-is ∙ ap isWidth w-is) passes
     (ap₂ ltb v-is (shifted w (width-bounded w (sym x-is ∙ passes)) ∙ ap (λ (k : ℕ). 2 ^ k) w-is))
@@ -144,7 +147,8 @@ module _ (n : ℕ) where
   unfolding countOk if_then_else_
   count-minus o m e h = rw (e, h)
 
-  pub count-other : (o m : ℕ) → OtherOperator o → (o < 12) ⊎ (14 ≤ o) → m ≡ 2 → (leb n 14 && leb m n) ≡ countOk o n
+  pub count-other :
+      (o m : ℕ) → OtherOperator o → (o < 12) ⊎ (14 ≤ o) → m ≡ 2 → (leb n 14 && leb m n) ≡ countOk o n
   unfolding countOk if_then_else_
   count-other o m p s e =
       rw (e, ne-eqb o 1 (λ h. p .0 .0 .1 (inl h)))
@@ -156,17 +160,12 @@ module _ (n : ℕ) where
       outside k a b h = ⊎-elim (λ l. omega arith) (λ l. omega arith) s
 
 -- What holds of both arms holds of `if`.
-if-either : {A : Type 0} (P : A → Type 0) (t : Bool) (x y : A) → P x → P y → P (if t then x else y)
-unfolding if_then_else_
-if-either P true x y p q = p
-if-either P false x y p q = q
-
 pub count-bounded : (o n : ℕ) → countOk o n ≡ true → n ≤ 14
 unfolding countOk
 count-bounded o n =
-    if-either (λ b. b ≡ true → n ≤ 14) _ _ _ (λ e. omega (arith, eqb-true n 1 e))
-    (if-either (λ b. b ≡ true → n ≤ 14) _ _ _ (λ e. omega (arith, eqb-true n 2 e))
-    (λ e. leb→le n 14 (and-yes (leb n 14) _ (subst T (sym e) tt) .0)))
+    if-either (λ b. b ≡ true → n ≤ 14) _ (λ t e. omega (arith, eqb-true n 1 e))
+    (λ t. if-either (λ b. b ≡ true → n ≤ 14) _ (λ u e. omega (arith, eqb-true n 2 e))
+    (λ u e. leb→le n 14 (and-yes (leb n 14) _ (subst T (sym e) tt) .0)))
 
 -- ---- operations and atoms, from what the code reads of them
 
@@ -178,7 +177,9 @@ abbrev pub operationRest : ℕ → ℕ → ℕ → ℕ → Bytes → Bool
 operationRest o n s i r = countOk o n && operationLast n s i r
 
 -- o, n and s are the bytes of r that the code has read
-pub operation-read : {x : Bool} (o n s i : ℕ) (r : Bytes) → o ≡ operator r → n ≡ argCount r → s ≡ sortByte r → x ≡ (leb 1 o && (leb o 18 && operationRest o n s i r)) → x ≡ operationOk i r
+pub operation-read :
+    {x : Bool} (o n s i : ℕ) (r : Bytes) → o ≡ operator r → n ≡ argCount r → s ≡ sortByte r →
+    x ≡ (leb 1 o && (leb o 18 && operationRest o n s i r)) → x ≡ operationOk i r
 operation-read o n s i r o-is n-is s-is h =
     h ∙ (λ j. leb 1 (o-is j) && (leb (o-is j) 18 && operationRest (o-is j) (n-is j) (s-is j) i r))
 
@@ -214,11 +215,14 @@ layoutAs k i r =
     false
 
 -- x is the answer for the kind m, and the code has found k
-pub layout-of-kind : {x : Bool} (m k i : ℕ) (r : Bytes) → k ≡ kind r → k ≡ m → x ≡ layoutAs m i r → x ≡ layoutOk i r
+pub layout-of-kind :
+    {x : Bool} (m k i : ℕ) (r : Bytes) → k ≡ kind r → k ≡ m → x ≡ layoutAs m i r → x ≡ layoutOk i r
 unfolding layoutOk if_then_else_
 layout-of-kind m k i r e h a = a ∙ ap (λ (j : ℕ). layoutAs j i r) (sym h ∙ e)
 
-pub layout-of-none : (k i : ℕ) (r : Bytes) → k ≡ kind r → (k ≡ 1 → ⊥) → (k ≡ 2 → ⊥) → (k ≡ 3 → ⊥) → (k ≡ 4 → ⊥) → (k ≡ 5 → ⊥) → false ≡ layoutOk i r
+pub layout-of-none :
+    (k i : ℕ) (r : Bytes) → k ≡ kind r → (k ≡ 1 → ⊥) → (k ≡ 2 → ⊥) → (k ≡ 3 → ⊥) → (k ≡ 4 → ⊥) → (k ≡ 5 → ⊥) →
+    false ≡ layoutOk i r
 unfolding if_then_else_
 layout-of-none k i r e n1 n2 n3 n4 n5 =
     layout-of-kind k k i r e refl

@@ -4,11 +4,11 @@ mod RingExamples
 pub mod Integers
 pub mod Order
 pub mod Divisors
-pub mod Modulo
 pub mod Truths
 pub mod Pairs
 pub mod LowestTerms
 pub mod Rationals
+pub mod Modulo
 pub mod Floor
 pub mod Machine
 pub mod Ranges
@@ -33,3 +33,6 @@ pub mod Fractions
 pub mod Operators
 pub mod Whole
 pub mod Meaning
+pub mod Quotient
+pub mod BookTerms
+pub mod Sums

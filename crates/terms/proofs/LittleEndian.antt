@@ -5,7 +5,8 @@ use mathlib.Core.Bool.{Bool, true, false, cond}
 use mathlib.Core.List.{_∷_}
 use mathlib.Core.Logic.{_⊎_, ⊎-elim, inl, inr}
 use Prim.Native.Nat.{ℕ, zero, suc, _+_, _*_, _-_, _/_, _%_, _^_, _≤_, _<_}
-use native.Mathlib.Nat.{pow-succ', one-le-pow, mod-one, mod-lt, mod-eq-of-lt, div-add-mod, add-mul-mod-self-left, mul-assoc, add-zero, suc-add}
+use native.Mathlib.Nat.{pow-succ', one-le-pow, mod-one, mod-lt, mod-eq-of-lt, div-add-mod}
+use native.Mathlib.Nat.{add-mul-mod-self-left, mul-assoc, add-zero, suc-add}
 use native.Mathlib.Omega.{arith}
 use borrow.Author.Needs.{needs}
 use borrow.Author.Tests.{le-leb, lt-leb, leb-true, leb-false}
@@ -21,7 +22,8 @@ abbrev pub Apart : ℕ → ℕ → ℕ → ℕ → Type 0
 Apart m j n i = (j + m ≤ i) ⊎ (i + n ≤ j)
 
 -- What holds of both arms holds of `cond`. Each arm knows the test's answer.
-pub cond-either : {A : Type 0} (P : A → Type 0) (t : Bool) (x y : A) → (t ≡ true → P x) → (t ≡ false → P y) → P (cond t x y)
+pub cond-either :
+    {A : Type 0} (P : A → Type 0) (t : Bool) (x y : A) → (t ≡ true → P x) → (t ≡ false → P y) → P (cond t x y)
 cond-either P true x y first second = first refl
 cond-either P false x y first second = second refl
 
@@ -74,14 +76,16 @@ le-below n b i h =
 
 -- ---- bytes outside what is written
 
-byte-putDigits : (n v : ℕ) (b : Bytes) (i j : ℕ) → (i ≤ j → j < i + n → ⊥) → getD (putDigits n v b i) j 0 ≡ getD b j 0
+byte-putDigits :
+    (n v : ℕ) (b : Bytes) (i j : ℕ) → (i ≤ j → j < i + n → ⊥) → getD (putDigits n v b i) j 0 ≡ getD b j 0
 unfolding putDigits
 byte-putDigits zero v b i j h = refl
 byte-putDigits (suc n) v b i j h =
     byte-putDigits n (v / 256) (set b i (v % 256)) (i + 1) j (λ p q. h (omega arith) (omega arith))
     ∙ getD-set-other b i j (v % 256) 0 (λ e. h (omega arith) (omega arith))
 
-pub byte-put-elsewhere : (n v : ℕ) (b : Bytes) (i j : ℕ) → (j < i) ⊎ (i + n ≤ j) → getD (put n v b i) j 0 ≡ getD b j 0
+pub byte-put-elsewhere :
+    (n v : ℕ) (b : Bytes) (i j : ℕ) → (j < i) ⊎ (i + n ≤ j) → getD (put n v b i) j 0 ≡ getD b j 0
 byte-put-elsewhere n v b i j apart =
     put-either n v b i (λ (x : Bytes). getD x j 0 ≡ getD b j 0) (byte-putDigits n v b i j beside) refl
   where
@@ -90,7 +94,9 @@ byte-put-elsewhere n v b i j apart =
 
 -- ---- a read at another place
 
-digits-agree : (n : ℕ) (b c : Bytes) (i : ℕ) → ((j : ℕ) → i ≤ j → j < i + n → getD b j 0 ≡ getD c j 0) → digits n b i ≡ digits n c i
+digits-agree :
+    (n : ℕ) (b c : Bytes) (i : ℕ) → ((j : ℕ) → i ≤ j → j < i + n → getD b j 0 ≡ getD c j 0) →
+    digits n b i ≡ digits n c i
 unfolding digits
 digits-agree zero b c i same = refl
 digits-agree (suc n) b c i same =
@@ -99,13 +105,17 @@ digits-agree (suc n) b c i same =
     (digits-agree n b c (i + 1) (λ j p q. same j (omega arith) (omega arith)))
 
 -- A read looks at the length and at its own bytes alone.
-pub le-agree : (n : ℕ) (b c : Bytes) (i : ℕ) → length b ≡ length c → ((j : ℕ) → i ≤ j → j < i + n → getD b j 0 ≡ getD c j 0) → le n b i ≡ le n c i
+pub le-agree :
+    (n : ℕ) (b c : Bytes) (i : ℕ) → length b ≡ length c →
+    ((j : ℕ) → i ≤ j → j < i + n → getD b j 0 ≡ getD c j 0) → le n b i ≡ le n c i
 unfolding le
 le-agree n b c i long same =
     ap₂ (λ (l d : ℕ). cond (leb (i + n) l) d 0) long (digits-agree n b c i same)
 
 -- So bytes that are alike outside the n bytes at i read alike at each place that those do not reach.
-pub le-elsewhere : (m n : ℕ) (b c : Bytes) (i j : ℕ) → length b ≡ length c → ((k : ℕ) → (k < i) ⊎ (i + n ≤ k) → getD b k 0 ≡ getD c k 0) → Apart m j n i → le m b j ≡ le m c j
+pub le-elsewhere :
+    (m n : ℕ) (b c : Bytes) (i j : ℕ) → length b ≡ length c →
+    ((k : ℕ) → (k < i) ⊎ (i + n ≤ k) → getD b k 0 ≡ getD c k 0) → Apart m j n i → le m b j ≡ le m c j
 le-elsewhere m n b c i j long same apart =
     le-agree m b c j long (λ k p q. same k (⊎-elim (λ o. inl (omega arith)) (λ o. inr (omega arith)) apart))
 
@@ -124,7 +134,8 @@ low-and-rest v p h =
     let small : v % 256 + 256 * (v / 256 % p) < 256 * p = omega (arith, mod-lt (v / 256) h) in
     sym (ap (λ (x : ℕ). x % (256 * p)) whole ∙ add-mul-mod-self-left _ (256 * p) (v / 256 / p) ∙ mod-eq-of-lt small)
 
-digits-putDigits : (n v : ℕ) (b : Bytes) (i : ℕ) → i + n ≤ length b → digits n (putDigits n v b i) i ≡ v % 256 ^ n
+digits-putDigits :
+    (n v : ℕ) (b : Bytes) (i : ℕ) → i + n ≤ length b → digits n (putDigits n v b i) i ≡ v % 256 ^ n
 unfolding digits putDigits
 digits-putDigits zero v b i h = sym (mod-one v)
 digits-putDigits (suc n) v b i h =
@@ -142,12 +153,14 @@ read-after-write n v b i h =
     ∙ ap (λ (c : Bytes). digits n c i) (put-inside n v b i h)
     ∙ digits-putDigits n v b i h
 
-pub read-after-write-small : (n v : ℕ) (b : Bytes) (i : ℕ) → i + n ≤ length b → v < 256 ^ n → le n (put n v b i) i ≡ v
+pub read-after-write-small :
+    (n v : ℕ) (b : Bytes) (i : ℕ) → i + n ≤ length b → v < 256 ^ n → le n (put n v b i) i ≡ v
 read-after-write-small n v b i h small = read-after-write n v b i h ∙ mod-eq-of-lt small
 
 -- ---- m + n bytes are m bytes and then n bytes
 
-pub digits-add : (m n : ℕ) (b : Bytes) (i : ℕ) → digits (m + n) b i ≡ digits m b i + 256 ^ m * digits n b (i + m)
+pub digits-add :
+    (m n : ℕ) (b : Bytes) (i : ℕ) → digits (m + n) b i ≡ digits m b i + 256 ^ m * digits n b (i + m)
 unfolding digits
 digits-add zero n b i = let none : 0 + n ≡ n = omega arith in rw (none, add-zero) (omega arith)
 digits-add (suc m) n b i =
@@ -157,7 +170,9 @@ digits-add (suc m) n b i =
     let regroup : 256 * 256 ^ m * digits n b (i + suc m) ≡ 256 * (256 ^ m * digits n b (i + suc m)) = mul-assoc 256 (256 ^ m) _ in
     rw (suc-add, pow-succ' 256 m, digits) (omega arith)
 
-pub le-add : (m n : ℕ) (b : Bytes) (i : ℕ) → i + (m + n) ≤ length b → le (m + n) b i ≡ le m b i + 256 ^ m * le n b (i + m)
+pub le-add :
+    (m n : ℕ) (b : Bytes) (i : ℕ) → i + (m + n) ≤ length b →
+    le (m + n) b i ≡ le m b i + 256 ^ m * le n b (i + m)
 le-add m n b i h =
     rw (le-inside (m + n) b i h, le-inside m b i (omega arith), le-inside n b (i + m) (omega arith)) (digits-add m n b i)
 
@@ -204,21 +219,29 @@ pub ruleset roomy = (needs, inside, outside, first-inside, byte-inside, place-fi
 
 -- ---- two, four and eight bytes, as the functions have them
 
-pub le-of-two : (b : Bytes) (i x y : ℕ) → i + 2 ≤ length b → x ≡ getD b i 0 → y ≡ getD b (i + 1) 0 → x + 256 * y ≡ le 2 b i
+pub le-of-two :
+    (b : Bytes) (i x y : ℕ) → i + 2 ≤ length b → x ≡ getD b i 0 → y ≡ getD b (i + 1) 0 →
+    x + 256 * y ≡ le 2 b i
 unfolding digits
 le-of-two b i x y h first second = rw (le-inside 2 b i h, digits, ← first, ← second) (omega arith)
 
-pub le-of-four : (b : Bytes) (i w x y z : ℕ) → i + 4 ≤ length b → w ≡ getD b i 0 → x ≡ getD b (i + 1) 0 → y ≡ getD b (i + 2) 0 → z ≡ getD b (i + 3) 0 → w + 256 * x + 65536 * y + 16777216 * z ≡ le 4 b i
+pub le-of-four :
+    (b : Bytes) (i w x y z : ℕ) → i + 4 ≤ length b → w ≡ getD b i 0 → x ≡ getD b (i + 1) 0 →
+    y ≡ getD b (i + 2) 0 → z ≡ getD b (i + 3) 0 → w + 256 * x + 65536 * y + 16777216 * z ≡ le 4 b i
 le-of-four b i w x y z h first second third fourth =
     let place : i + 2 + 1 ≡ i + 3 = omega arith in
     let low : w + 256 * x ≡ le 2 b i = le-of-two b i w x (omega arith) first second in
     let high : y + 256 * z ≡ le 2 b (i + 2) = le-of-two b (i + 2) y z (omega arith) third (rw place fourth) in
     omega (arith, le-add 2 2 b i h)
 
-pub le-of-eight : (b : Bytes) (i x y : ℕ) → i + 8 ≤ length b → x ≡ le 4 b i → y ≡ le 4 b (i + 4) → x + 4294967296 * y ≡ le 8 b i
+pub le-of-eight :
+    (b : Bytes) (i x y : ℕ) → i + 8 ≤ length b → x ≡ le 4 b i → y ≡ le 4 b (i + 4) →
+    x + 4294967296 * y ≡ le 8 b i
 le-of-eight b i x y h low high = omega (arith, le-add 4 4 b i h)
 
-pub put-of-four : (v : ℕ) (b : Bytes) (i : ℕ) → i + 4 ≤ length b → v < 4294967296 → set (set (set (set b i (v % 256)) (i + 1) (v / 256 % 256)) (i + 2) (v / 65536 % 256)) (i + 3) (v / 16777216) ≡ put 4 v b i
+pub put-of-four :
+    (v : ℕ) (b : Bytes) (i : ℕ) → i + 4 ≤ length b → v < 4294967296 →
+    set (set (set (set b i (v % 256)) (i + 1) (v / 256 % 256)) (i + 2) (v / 65536 % 256)) (i + 3) (v / 16777216) ≡ put 4 v b i
 unfolding putDigits
 put-of-four v b i h small =
     let two : i + 1 + 1 ≡ i + 2 = omega arith in

@@ -9,25 +9,34 @@ use lib.IntN.{ℤ, pos, negsuc, natAbs, _*ℤ_, zero-*ℤ}
 use lib.Signed.{quotZ, _<ℤ_, ltZ-yes}
 use Rattle.terms.specs.Pair.{pair, _≈_}
 use Rattle.terms.specs.Rational.{Rational, frac, whole, gcd, Lowest, lowest, value, overP}
-use Rattle.terms.proofs.Integers.{_⊗_, neg, _≐_, _·_, _and_, _from_, 𝟙, deriveℤ, natAbs-negℤ, natAbs-*ℤ, *ℤ-right-cancel}
-use Rattle.terms.proofs.Order.{pos-nonneg, lt-of-mul-lt-mul-right, at-positive, pos-positive, natAbs-positive}
-use Rattle.terms.proofs.Divisors.{gcd-comm, gcd-pos, gcd-dvd-left, gcd-dvd-right, coprime-over-gcd, dvd-of-coprime}
+use Rattle.terms.proofs.Integers.{_⊗_, neg, _≐_, _·_, _and_, _from_, 𝟙, deriveℤ, natAbs-negℤ, natAbs-*ℤ}
+use Rattle.terms.proofs.Integers.{*ℤ-right-cancel}
+use Rattle.terms.proofs.Order.{pos-nonneg, lt-of-mul-lt-mul-right, at-positive, pos-positive}
+use Rattle.terms.proofs.Order.{natAbs-positive}
+use Rattle.terms.proofs.Divisors.{gcd-comm, gcd-pos, gcd-dvd-left, gcd-dvd-right, coprime-over-gcd}
+use Rattle.terms.proofs.Divisors.{dvd-of-coprime}
 
 -- ---- positive denominators
 
-pub at-dens : (P : ℤ → ℤ → Type 0) → ((j k : ℕ) → P (pos (suc j)) (pos (suc k))) → (d e : ℤ) → pos 0 <ℤ d → pos 0 <ℤ e → P d e
+pub at-dens :
+    (P : ℤ → ℤ → Type 0) → ((j k : ℕ) → P (pos (suc j)) (pos (suc k))) → (d e : ℤ) → pos 0 <ℤ d → pos 0 <ℤ e →
+    P d e
 at-dens P f d e h k = at-positive (λ x. P x e) (λ i. at-positive (P (pos (suc i))) (f i) e k) d h
 
 pub pos-natAbs-of-pos : (d : ℤ) → pos 0 <ℤ d → d ≡ pos (natAbs d)
 pos-natAbs-of-pos = at-positive (λ d. d ≡ pos (natAbs d)) (λ k. refl)
 
 -- values are equal by the cross products of the parts
-pub value-eq : (a b : Rational) → pos 0 <ℤ a .den → pos 0 <ℤ b .den → a .num *ℤ b .den ≡ b .num *ℤ a .den → value a ≈ value b
+pub value-eq :
+    (a b : Rational) → pos 0 <ℤ a .den → pos 0 <ℤ b .den → a .num *ℤ b .den ≡ b .num *ℤ a .den →
+    value a ≈ value b
 unfolding value
 value-eq a b =
     at-dens (λ d e. a .num *ℤ e ≡ b .num *ℤ d → overP (a .num) d ≈ overP (b .num) e) (λ j k h. h) (a .den) (b .den)
 
-pub cross-of-value-eq : (a b : Rational) → pos 0 <ℤ a .den → pos 0 <ℤ b .den → value a ≈ value b → a .num *ℤ b .den ≡ b .num *ℤ a .den
+pub cross-of-value-eq :
+    (a b : Rational) → pos 0 <ℤ a .den → pos 0 <ℤ b .den → value a ≈ value b →
+    a .num *ℤ b .den ≡ b .num *ℤ a .den
 unfolding value
 cross-of-value-eq a b =
     at-dens (λ d e. overP (a .num) d ≈ overP (b .num) e → a .num *ℤ e ≡ b .num *ℤ d) (λ j k h. h) (a .den) (b .den)
@@ -85,7 +94,9 @@ lowest-value n d p =
 -- ---- they are unique
 
 -- each denominator divides the other, since it is coprime to its own numerator
-dens-dvd : (a b : Rational) → Lowest a → Lowest b → a .num *ℤ b .den ≡ b .num *ℤ a .den → natAbs (a .den) ∣ natAbs (b .den)
+dens-dvd :
+    (a b : Rational) → Lowest a → Lowest b → a .num *ℤ b .den ≡ b .num *ℤ a .den →
+    natAbs (a .den) ∣ natAbs (b .den)
 dens-dvd a b la lb e =
     dvd-of-coprime (natAbs (a .den)) (natAbs (a .num)) (natAbs (b .den)) (natAbs-positive (lb .positive))
     (gcd-comm (natAbs (a .den)) (natAbs (a .num)) ∙ la .coprime)

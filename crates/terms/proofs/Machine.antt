@@ -49,7 +49,8 @@ natAbs-quotZ-le (pos a) (negsuc b) = rw natAbs-negℤ (div-le-self a (suc b))
 natAbs-quotZ-le (negsuc a) (pos b) = rw natAbs-negℤ (div-le-self (suc a) b)
 natAbs-quotZ-le (negsuc a) (negsuc b) = div-le-self (suc a) (suc b)
 
-apply-le-bound : (o : Operation) (x y : ℤ) {m n : ℕ} → natAbs x ≤ m → natAbs y ≤ n → natAbs (apply o x y) ≤ bound o m n
+apply-le-bound :
+    (o : Operation) (x y : ℤ) {m n : ℕ} → natAbs x ≤ m → natAbs y ≤ n → natAbs (apply o x y) ≤ bound o m n
 apply-le-bound plus x y h k = le-trans (natAbs-+ℤ-le x y) (add-le-add h k)
 apply-le-bound minus x y h k = le-trans (natAbs-+ℤ-le x (negℤ y)) (add-le-add h (rw natAbs-negℤ k))
 apply-le-bound times x y h k = rw natAbs-*ℤ (mul-le-mul h k)

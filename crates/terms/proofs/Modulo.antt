@@ -12,7 +12,8 @@ use native.Mathlib.Nat.{pow-suc, one-le-pow, div-add-mod', mod-lt}
 use native.Mathlib.Omega.{arith}
 use lib.IntN.{ℤ, pos, negsuc, negℤ, natAbs, one, _+ℤ_, _-ℤ_, _*ℤ_, negsuc-eq}
 use Rattle.terms.specs.Rational.{floorZ, modulo}
-use Rattle.terms.proofs.Integers.{E, _⊕_, _⊖_, _⊗_, neg, lit, 𝟘, 𝟙, _≐_, _·_, _and_, _from_, solveℤ, deriveℤ, natAbs-*ℤ, *ℤ-right-cancel}
+use Rattle.terms.proofs.Integers.{E, _⊕_, _⊖_, _⊗_, neg, lit, 𝟘, 𝟙, _≐_, _·_, _and_, _from_, solveℤ}
+use Rattle.terms.proofs.Integers.{deriveℤ, natAbs-*ℤ, *ℤ-right-cancel}
 
 pub record Cong (m : ℕ) (x y : ℤ) : Type 0 where
   pub factor : ℤ
@@ -183,7 +184,9 @@ module _ (w : ℕ) (h z : ℤ) (c : Cong (2 ^ suc w) (odd h *ℤ z) (pos 0)) whe
       let size : natAbs t * 2 ≡ 1 = sym (natAbs-*ℤ t (pos 2)) ∙ ap natAbs is-one in
       omega arith
 
-  by-half : (r : ℕ) → r < 2 → z ≡ f *ℤ pos 2 +ℤ pos r → (Cong (2 ^ w) (odd h *ℤ f) (pos 0) → Cong (2 ^ w) f (pos 0)) → Cong (2 ^ suc w) z (pos 0)
+  by-half :
+      (r : ℕ) → r < 2 → z ≡ f *ℤ pos 2 +ℤ pos r →
+      (Cong (2 ^ w) (odd h *ℤ f) (pos 0) → Cong (2 ^ w) f (pos 0)) → Cong (2 ^ suc w) z (pos 0)
   by-half zero l e cancel = double-vanishes e (cancel (half-vanishes e))
   by-half (suc zero) l e cancel = absurd (not-odd e)
   by-half (suc (suc r)) l e cancel = absurd (omega arith)

@@ -10,7 +10,8 @@ use Rattle.terms.specs.Bytes.{Bytes, signed}
 use Rattle.terms.specs.Rational.{gcd}
 use Rattle.terms.specs.Term.{Terms, if_then_else_}
 use Rattle.terms.specs.Term.Term.{integer, rational, bitvector, atom, op}
-use Rattle.terms.specs.Book.{kind, operator, field1, field2, integerOf, realOf, isNumber, isWidth, isVector, atomSort, node}
+use Rattle.terms.specs.Book.{kind, operator, field1, field2, integerOf, realOf, isNumber, isWidth}
+use Rattle.terms.specs.Book.{isVector, atomSort, node}
 use Rattle.terms.specs.Book.{unused, integerOk, realOk, vectorOk, atomOk, operationOk, layoutOk}
 use Rattle.terms.proofs.Truths.{both, never}
 
@@ -24,7 +25,9 @@ pub data Laid (i : ℕ) (r : Bytes) : Type 0 where
   an-operation : kind r ≡ 5 → operationOk i r ≡ true → Laid i r
 
 -- a test that passes does so on one of its two sides
-side : {A : Type 0} (k n : ℕ) (x y : Bool) → (k ≡ n → x ≡ true → A) → (y ≡ true → A) → (if eqb k n then x else y) ≡ true → A
+side :
+    {A : Type 0} (k n : ℕ) (x y : Bool) → (k ≡ n → x ≡ true → A) → (y ≡ true → A) →
+    (if eqb k n then x else y) ≡ true → A
 unfolding if_then_else_
 side {A} k n x y f g = go (eqb k n) refl
   where
@@ -68,7 +71,9 @@ module _ (i : ℕ) (r : Bytes) (ts : Terms) where
 pub integer-number : (r : Bytes) → integerOk r ≡ true → isNumber (integerOf r) ≡ true
 integer-number r e = both (unused 20 r 12) _ (both (unused 3 r 1) _ e .1) .1
 
-pub real-number : (r : Bytes) → realOk r ≡ true → (isNumber (realOf r) ≡ true) × (eqb (gcd (natAbs (realOf r .num)) (natAbs (realOf r .den))) 1 ≡ true)
+pub real-number :
+    (r : Bytes) → realOk r ≡ true →
+    (isNumber (realOf r) ≡ true) × (eqb (gcd (natAbs (realOf r .num)) (natAbs (realOf r .den))) 1 ≡ true)
 real-number r e = both (isNumber (realOf r)) _ (both (unused 12 r 20) _ (both (unused 3 r 1) _ e .1) .1)
 
 pub vector-fields : (r : Bytes) → vectorOk r ≡ true → isVector r ≡ true

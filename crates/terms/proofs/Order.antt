@@ -11,7 +11,8 @@ use Prim.Native.Nat.{ℕ, zero, suc, _+_, _-_, _*_, _<_, zero-le}
 use native.Mathlib.Nat.{zero-lt-suc}
 use borrow.Author.Tests.{ltb-true, ltb-false, lt-leb, le-leb}
 use lib.Dec.{T, ltb, leb, le→leb, lt→ltb, leb·zero, leb·suc-zero, leb·suc-suc}
-use lib.IntN.{ℤ, pos, negsuc, sucℤ, negℤ, natAbs, subℕ, _+ℤ_, _-ℤ_, _*ℤ_, +ℤ-one, +ℤ-idl, +ℤ-comm, +ℤ-invr, -ℤ-+ℤ-cancel, zero-*ℤ}
+use lib.IntN.{ℤ, pos, negsuc, sucℤ, negℤ, natAbs, subℕ, _+ℤ_, _-ℤ_, _*ℤ_, +ℤ-one, +ℤ-idl, +ℤ-comm, +ℤ-invr}
+use lib.IntN.{zero-*ℤ, -ℤ-+ℤ-cancel}
 use lib.Signed.{leZ, ltZ, _≤ℤ_, _<ℤ_, leZ-yes, ltZ-yes, ltZ-no, clashℤ}
 pub use lib.Signed.{≤ℤ-refl as le-refl, <ℤ-≤ℤ-trans as lt-of-lt-of-le, <ℤ-irrefl as lt-irrefl}
 use Rattle.terms.proofs.Integers.{_⊕_, _⊖_, _⊗_, neg, 𝟙, _≐_, solveℤ, eq-of-sub-eq-zero}
@@ -71,7 +72,9 @@ pub pos-nonneg : (n : ℕ) → pos 0 ≤ℤ pos n
 pos-nonneg n = leZ-yes (le→leb 0 n zero-le)
 
 -- An operation that takes naturals to naturals keeps numbers that are not negative.
-nonneg-closed : (_∘_ : ℤ → ℤ → ℤ) → ((a b : ℕ) → pos 0 ≤ℤ _∘_ (pos a) (pos b)) → {x y : ℤ} → pos 0 ≤ℤ x → pos 0 ≤ℤ y → pos 0 ≤ℤ _∘_ x y
+nonneg-closed :
+    (_∘_ : ℤ → ℤ → ℤ) → ((a b : ℕ) → pos 0 ≤ℤ _∘_ (pos a) (pos b)) → {x y : ℤ} → pos 0 ≤ℤ x → pos 0 ≤ℤ y →
+    pos 0 ≤ℤ _∘_ x y
 nonneg-closed _∘_ f {x = pos a} {y = pos b} h k = f a b
 nonneg-closed _∘_ f {x = pos a} {y = negsuc b} h k = absurd (k .le)
 nonneg-closed _∘_ f {x = negsuc a} h k = absurd (h .le)

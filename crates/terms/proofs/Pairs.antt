@@ -15,13 +15,16 @@ use lib.Dec.{lt→ltb}
 use lib.IntN.{ℤ, pos, negsuc, natAbs, _+ℤ_, _-ℤ_, _*ℤ_, zero-*ℤ}
 use lib.Signed.{_≤ℤ_, _<ℤ_, ltZ-yes}
 use Rattle.terms.specs.Pair.{Pair, wholeP, addP, mulP, negP, invP, flipped, _≈_, _≤P_, _<P_}
-use Rattle.terms.proofs.Integers.{_⊕_, _⊖_, _⊗_, neg, 𝟙, _≐_, _·_, _and_, _from_, solveℤ, deriveℤ, *ℤ-right-cancel, *ℤ-idr}
-use Rattle.terms.proofs.Order.{le-refl, le-of-lt, le-or-lt, le-antisymm, sub-nonneg-of-le, le-of-sub-nonneg, le-of-sub-eq}
+use Rattle.terms.proofs.Integers.{_⊕_, _⊖_, _⊗_, neg, 𝟙, _≐_, _·_, _and_, _from_, solveℤ, deriveℤ}
+use Rattle.terms.proofs.Integers.{*ℤ-right-cancel, *ℤ-idr}
+use Rattle.terms.proofs.Order.{le-refl, le-of-lt, le-or-lt, le-antisymm, sub-nonneg-of-le}
+use Rattle.terms.proofs.Order.{le-of-sub-nonneg, le-of-sub-eq}
 use Rattle.terms.proofs.Order.{sub-pos-of-lt, lt-of-sub-pos, pos-nonneg, add-nonneg, mul-nonneg, mul-pos}
-use Rattle.terms.proofs.Order.{add-pos-of-pos-of-nonneg, add-pos-of-nonneg-of-pos, le-of-mul-le-mul-right, lt-of-mul-lt-mul-right}
+use Rattle.terms.proofs.Order.{add-pos-of-pos-of-nonneg, add-pos-of-nonneg-of-pos}
+use Rattle.terms.proofs.Order.{le-of-mul-le-mul-right, lt-of-mul-lt-mul-right}
 
 -- the variables of an identity over pairs: numerator and denominator of each
-abbrev parts : List Pair → List ℤ
+abbrev pub parts : List Pair → List ℤ
 parts [] = []
 parts (a ∷ l) = a .num ∷ pos (a .den) ∷ parts l
 
@@ -67,7 +70,9 @@ neg-resp a a′ h =
 pub mul-inv : (a : Pair) → 0 < natAbs (a .num) → mulP a (invP a) ≈ wholeP (pos 1)
 mul-inv a p = at (a .num) (a .den) p
   where
-    at : (n : ℤ) (d : ℕ) → 0 < natAbs n → n *ℤ flipped n d .num *ℤ pos 1 ≡ pos 1 *ℤ (pos d *ℤ pos (flipped n d .den))
+    at :
+        (n : ℤ) (d : ℕ) → 0 < natAbs n →
+        n *ℤ flipped n d .num *ℤ pos 1 ≡ pos 1 *ℤ (pos d *ℤ pos (flipped n d .den))
     at (pos zero) d p = absurd (not-suc-le-zero p)
     at (pos (suc n)) d p = solveℤ (pos (suc n) ∷ pos d ∷ []) (λ n d. n ⊗ d ⊗ 𝟙 ≐ 𝟙 ⊗ (d ⊗ n)) tt
     at (negsuc n) d p = solveℤ (pos (suc n) ∷ pos d ∷ []) (λ n d. neg n ⊗ neg d ⊗ 𝟙 ≐ 𝟙 ⊗ (d ⊗ n)) tt
@@ -96,7 +101,9 @@ pub ≤P-antisymm : (a b : Pair) → a ≤P b → b ≤P a → a ≈ b
 ≤P-antisymm a b h k = le-antisymm h k
 
 -- the identity of every chain of two: times the middle denominator, the difference is the sum of the two
-chain : (a b c : Pair) → (c .num *ℤ pos (a .den) -ℤ a .num *ℤ pos (c .den)) *ℤ pos (b .den) ≡ pos (c .den) *ℤ (b .num *ℤ pos (a .den) -ℤ a .num *ℤ pos (b .den)) +ℤ pos (a .den) *ℤ (c .num *ℤ pos (b .den) -ℤ b .num *ℤ pos (c .den))
+chain :
+    (a b c : Pair) →
+    (c .num *ℤ pos (a .den) -ℤ a .num *ℤ pos (c .den)) *ℤ pos (b .den) ≡ pos (c .den) *ℤ (b .num *ℤ pos (a .den) -ℤ a .num *ℤ pos (b .den)) +ℤ pos (a .den) *ℤ (c .num *ℤ pos (b .den) -ℤ b .num *ℤ pos (c .den))
 chain a b c =
     solveℤ (parts (a ∷ b ∷ c ∷ []))
     (λ a d b e c f. (c ⊗ d ⊖ a ⊗ f) ⊗ e ≐ f ⊗ (b ⊗ d ⊖ a ⊗ e) ⊕ d ⊗ (c ⊗ e ⊖ b ⊗ f)) tt
@@ -127,7 +134,9 @@ pub <P-resp : (a a′ b b′ : Pair) → a ≈ a′ → b ≈ b′ → a <P b �
 -- ---- the order with sums, negation and products
 
 -- a + c and b + d differ as a and b do, and as c and d do
-sum-gap : (a b c d : Pair) → addP b d .num *ℤ pos (addP a c .den) -ℤ addP a c .num *ℤ pos (addP b d .den) ≡ pos (c .den * d .den) *ℤ (b .num *ℤ pos (a .den) -ℤ a .num *ℤ pos (b .den)) +ℤ pos (a .den * b .den) *ℤ (d .num *ℤ pos (c .den) -ℤ c .num *ℤ pos (d .den))
+sum-gap :
+    (a b c d : Pair) →
+    addP b d .num *ℤ pos (addP a c .den) -ℤ addP a c .num *ℤ pos (addP b d .den) ≡ pos (c .den * d .den) *ℤ (b .num *ℤ pos (a .den) -ℤ a .num *ℤ pos (b .den)) +ℤ pos (a .den * b .den) *ℤ (d .num *ℤ pos (c .den) -ℤ c .num *ℤ pos (d .den))
 sum-gap a b c d =
     solveℤ (parts (a ∷ b ∷ c ∷ d ∷ []))
     (λ a a′ b b′ c c′ d d′.
@@ -152,7 +161,9 @@ neg-le-negP a b h =
 at-zero : (R : ℤ → ℤ → Type 0) (c : Pair) → R (pos 0 *ℤ pos (c .den)) (c .num *ℤ pos 1) → R (pos 0) (c .num)
 at-zero R c h = subst₂ R (zero-*ℤ (pos (c .den))) (*ℤ-idr (c .num)) h
 
-product-gap : (a b c : Pair) → mulP b c .num *ℤ pos (mulP a c .den) -ℤ mulP a c .num *ℤ pos (mulP b c .den) ≡ c .num *ℤ pos (c .den) *ℤ (b .num *ℤ pos (a .den) -ℤ a .num *ℤ pos (b .den))
+product-gap :
+    (a b c : Pair) →
+    mulP b c .num *ℤ pos (mulP a c .den) -ℤ mulP a c .num *ℤ pos (mulP b c .den) ≡ c .num *ℤ pos (c .den) *ℤ (b .num *ℤ pos (a .den) -ℤ a .num *ℤ pos (b .den))
 product-gap a b c =
     solveℤ (parts (a ∷ b ∷ c ∷ []))
     (λ a a′ b b′ c c′. b ⊗ c ⊗ (a′ ⊗ c′) ⊖ a ⊗ c ⊗ (b′ ⊗ c′) ≐ c ⊗ c′ ⊗ (b ⊗ a′ ⊖ a ⊗ b′)) tt

@@ -15,7 +15,8 @@ use lib.Dec.{T, leb, leb→le, lit≤}
 use lib.IntN.{ℤ, pos, negsuc, natAbs, _*ℤ_}
 use lib.Signed.{_<ℤ_}
 use mir.Facts.{and-yes}
-use Rattle.terms.specs.Rational.{Rational, frac, Proper, Makes, Gives, limit, inRange, checked, negQ, absQ, floorZ, floorQ}
+use Rattle.terms.specs.Rational.{Rational, frac, Proper, Makes, Gives, limit, inRange, checked, negQ}
+use Rattle.terms.specs.Rational.{absQ, floorZ, floorQ}
 use Rattle.terms.specs.declared.number.Checked.{Checked}
 use Rattle.terms.specs.declared.number.Checked.the-variants.{Value, OutOfRange}
 use Rattle.terms.proofs.Integers.{natAbs-negℤ}
@@ -140,5 +141,7 @@ module _ {a b : Rational} (h : Proper a × Proper b) where
   positive-dens = subst (λ (z : ℤ). pos 0 <ℤ z) (sym (back dens tt)) (mul-pos (h .0 .positive) (h .1 .positive))
 
   -- a comparison of the machine's cross products is one of the exact ones
-  pub compared : (test : ℤ → ℤ → Bool) → test (machine leftCross) (machine rightCross) ≡ test (a .num *ℤ b .den) (b .num *ℤ a .den)
+  pub compared :
+      (test : ℤ → ℤ → Bool) →
+      test (machine leftCross) (machine rightCross) ≡ test (a .num *ℤ b .den) (b .num *ℤ a .den)
   compared test = ap₂ test (back leftCross tt) (back rightCross tt)

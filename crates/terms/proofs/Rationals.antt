@@ -15,13 +15,15 @@ use lib.IntN.{ℤ, pos, negsuc, negℤ, natAbs, _+ℤ_, _*ℤ_, zero-*ℤ, *ℤ-
 use lib.Signed.{leZ, ltZ, _≤ℤ_, _<ℤ_, yes-nonNeg, pos-natAbs}
 use Rattle.terms.specs.Pair.{pair, wholeP, addP, mulP, negP, divP, eqZ, eqP, lessP, lessEqP, _≈_}
 use Rattle.terms.specs.Rational.{Rational, frac, whole, gcd, Lowest, lowest, upright, value, overP}
-use Rattle.terms.specs.Rational.{mulQ, divQ, addQ, negQ, absQ, isInteger, isZero, isPositive, eqQ, lessQ, lessEqQ}
+use Rattle.terms.specs.Rational.{mulQ, divQ, addQ, negQ, absQ, isInteger, isZero, isPositive, eqQ, lessQ}
+use Rattle.terms.specs.Rational.{lessEqQ}
 use Rattle.terms.proofs.Truths.{both}
 use Rattle.terms.proofs.Integers.{natAbs-negℤ, *ℤ-idr}
 use Rattle.terms.proofs.Order
 use Rattle.terms.proofs.Order.{at-positive, pos-positive}
 use Rattle.terms.proofs.Pairs.{≈-trans}
-use Rattle.terms.proofs.LowestTerms.{at-dens, lowest-value, lowest-is-lowest, eq-of-value-eq, whole-is-lowest}
+use Rattle.terms.proofs.LowestTerms.{at-dens, lowest-value, lowest-is-lowest, eq-of-value-eq}
+use Rattle.terms.proofs.LowestTerms.{whole-is-lowest}
 
 -- ---- values
 

@@ -15,7 +15,8 @@ use Rattle.terms.specs.Operator.{Sub, IntDiv}
 use Rattle.terms.specs.Term.{Term, Terms, recordNumber, argsOf, one?, two?, unary, binary}
 use Rattle.terms.specs.Term.Term.{integer, rational, bitvector, atom, op}
 use Rattle.terms.specs.Term.Terms.{nil, _▹_}
-use Rattle.terms.specs.Readers.{Bound, unbounded, ranged, within, bounded, asNumber, negated, asSignedNumber}
+use Rattle.terms.specs.Readers.{Bound, unbounded, ranged, within, bounded, asNumber, negated}
+use Rattle.terms.specs.Readers.{asSignedNumber}
 use Rattle.terms.specs.Readers.{quotientOf, over, divided, asUnsignedFraction, asFraction}
 use Rattle.terms.specs.declared.term.Reading.{Reading}
 use Rattle.terms.specs.declared.term.Reading.the-variants.{Value, NotNumber, OutOfRange}
@@ -23,12 +24,17 @@ use Rattle.terms.specs.declared.term.Reading.the-variants.{Value, NotNum
 -- ---- answers that go by an option
 
 -- what follows from the answer in both cases follows from it
-pub by-option : {A B P : Type 0} (o : Option A) (f : A → B) (x y : B) → ((a : A) → o ≡ some a → f a ≡ y → P) → (o ≡ none → x ≡ y → P) → elim o as (λ z. B) [ some a ↦ f a | none ↦ x ] ≡ y → P
+pub by-option :
+    {A B P : Type 0} (o : Option A) (f : A → B) (x y : B) → ((a : A) → o ≡ some a → f a ≡ y → P) →
+    (o ≡ none → x ≡ y → P) → elim o as (λ z. B) [ some a ↦ f a | none ↦ x ] ≡ y → P
 by-option (some a) f x y g h e = g a refl e
 by-option none f x y g h e = h refl e
 
 -- two answers that agree in both cases agree
-alike : {A B : Type 0} (o : Option A) (f g : A → B) (x x′ y : B) → ((a : A) → f a ≡ y → g a ≡ y) → (x ≡ y → x′ ≡ y) → elim o as (λ z. B) [ some a ↦ f a | none ↦ x ] ≡ y → elim o as (λ z. B) [ some a ↦ g a | none ↦ x′ ] ≡ y
+alike :
+    {A B : Type 0} (o : Option A) (f g : A → B) (x x′ y : B) → ((a : A) → f a ≡ y → g a ≡ y) →
+    (x ≡ y → x′ ≡ y) → elim o as (λ z. B) [ some a ↦ f a | none ↦ x ] ≡ y →
+    elim o as (λ z. B) [ some a ↦ g a | none ↦ x′ ] ≡ y
 alike (some a) f g x x′ y h k e = h a e
 alike none f g x x′ y h k e = k e
 
@@ -63,7 +69,8 @@ unary-shape o t x =
     by-option (argsOf o t) one? none (some x)
     (λ ts p e. args-shape o t ts p ∙ ap (op (recordNumber t) o) (one-shape ts x e)) (λ p e. cc)
 
-pub binary-shape : (o : ℕ) (t : Term) (p : Term × Term) → binary o t ≡ some p → t ≡ op (recordNumber t) o (p .0 ▹ p .1 ▹ nil)
+pub binary-shape :
+    (o : ℕ) (t : Term) (p : Term × Term) → binary o t ≡ some p → t ≡ op (recordNumber t) o (p .0 ▹ p .1 ▹ nil)
 unfolding binary
 binary-shape o t p =
     by-option (argsOf o t) two? none (some p)
@@ -78,7 +85,9 @@ pub out-of-range : {A : Type 0} {q : Rational} → OutOfRange ≡ Value q → A
 out-of-range e = let z : _≡_ {A = ℕ} 0 1 = cc in absurd (omega arith)
 
 -- opposites of readings that agree agree
-negated-alike : (r s : Reading) (q : Rational) → ((p : Rational) → r ≡ Value p → s ≡ Value p) → negated r ≡ Value q → negated s ≡ Value q
+negated-alike :
+    (r s : Reading) (q : Rational) → ((p : Rational) → r ≡ Value p → s ≡ Value p) → negated r ≡ Value q →
+    negated s ≡ Value q
 negated-alike (Value p) s q h e = ap negated (h p refl) ∙ e
 negated-alike NotNumber s q h e = not-number e
 negated-alike OutOfRange s q h e = out-of-range e
@@ -99,26 +108,32 @@ module _ (l : Bound) where
   over-unbounded NotNumber d q e = e
   over-unbounded OutOfRange d q e = e
 
-  divided-unbounded : (a : Term) (r : Reading) (q : Rational) → divided l a r ≡ Value q → divided unbounded a r ≡ Value q
+  divided-unbounded :
+      (a : Term) (r : Reading) (q : Rational) → divided l a r ≡ Value q → divided unbounded a r ≡ Value q
   divided-unbounded a (Value d) q e = go (isZero d) e
     where
-      go : (t : Bool) → elim t [ true ↦ NotNumber | false ↦ over l (asSignedNumber a) d ] ≡ Value q → elim t [ true ↦ NotNumber | false ↦ over unbounded (asSignedNumber a) d ] ≡ Value q
+      go :
+          (t : Bool) → elim t [ true ↦ NotNumber | false ↦ over l (asSignedNumber a) d ] ≡ Value q →
+          elim t [ true ↦ NotNumber | false ↦ over unbounded (asSignedNumber a) d ] ≡ Value q
       go true e = e
       go false e = over-unbounded (asSignedNumber a) d q e
   divided-unbounded a NotNumber q e = e
   divided-unbounded a OutOfRange q e = e
 
-  unsigned-unbounded : (t : Term) (q : Rational) → asUnsignedFraction l t ≡ Value q → asUnsignedFraction unbounded t ≡ Value q
+  unsigned-unbounded :
+      (t : Term) (q : Rational) → asUnsignedFraction l t ≡ Value q → asUnsignedFraction unbounded t ≡ Value q
   unfolding asUnsignedFraction
   unsigned-unbounded t q =
       alike (quotientOf t) _ _ _ _ _ (λ p. divided-unbounded (p .0) (asSignedNumber (p .1)) q) (λ e. e)
 
-  pub fraction-unbounded : (t : Term) (q : Rational) → asFraction l t ≡ Value q → asFraction unbounded t ≡ Value q
+  pub fraction-unbounded :
+      (t : Term) (q : Rational) → asFraction l t ≡ Value q → asFraction unbounded t ≡ Value q
   unfolding asFraction
   fraction-unbounded t q =
       alike (unary Sub t) _ _ _ _ _ (λ x. negated-alike _ _ q (unsigned-unbounded x)) (unsigned-unbounded t q)
 
-pub ranged-unbounded : (t : Term) (q : Rational) → asFraction ranged t ≡ Value q → asFraction unbounded t ≡ Value q
+pub ranged-unbounded :
+    (t : Term) (q : Rational) → asFraction ranged t ≡ Value q → asFraction unbounded t ≡ Value q
 ranged-unbounded = fraction-unbounded ranged
 
 -- ---- quotients
@@ -136,12 +151,16 @@ pub quotient : (a b : Term) (q : Rational) → divided unbounded a (asSignedNumb
 unfolding bounded
 quotient a b q = at-divisor (asSignedNumber b) refl
   where
-    at-dividend : (d : Rational) → asSignedNumber b ≡ Value d → isZero d ≡ false → (r : Reading) → asSignedNumber a ≡ r → over unbounded r d ≡ Value q → Quotient a b q
+    at-dividend :
+        (d : Rational) → asSignedNumber b ≡ Value d → isZero d ≡ false → (r : Reading) →
+        asSignedNumber a ≡ r → over unbounded r d ≡ Value q → Quotient a b q
     at-dividend d f z (Value n) g e = record { dividend = n; divisor = d; above = g; below = f; nonzero = z; is = cc }
     at-dividend d f z NotNumber g e = not-number e
     at-dividend d f z OutOfRange g e = not-number e
 
-    at-test : (d : Rational) → asSignedNumber b ≡ Value d → (t : Bool) → isZero d ≡ t → elim t [ true ↦ NotNumber | false ↦ over unbounded (asSignedNumber a) d ] ≡ Value q → Quotient a b q
+    at-test :
+        (d : Rational) → asSignedNumber b ≡ Value d → (t : Bool) → isZero d ≡ t →
+        elim t [ true ↦ NotNumber | false ↦ over unbounded (asSignedNumber a) d ] ≡ Value q → Quotient a b q
     at-test d f true z e = not-number e
     at-test d f false z e = at-dividend d f z (asSignedNumber a) refl e
 
@@ -151,7 +170,8 @@ quotient a b q = at-divisor (asSignedNumber b) refl
     at-divisor OutOfRange f e = not-number e
 
 -- a signed number is read as a fraction too
-number-fraction : (l : Bound) (t : Term) (q : Rational) → asNumber t ≡ Value q → asUnsignedFraction l t ≡ Value q
+number-fraction :
+    (l : Bound) (t : Term) (q : Rational) → asNumber t ≡ Value q → asUnsignedFraction l t ≡ Value q
 unfolding asNumber asUnsignedFraction quotientOf binary
 number-fraction l (integer i v) q e = e
 number-fraction l (rational i p) q e = e
@@ -159,12 +179,15 @@ number-fraction l (bitvector i v n) q e = not-number e
 number-fraction l (atom i s n) q e = not-number e
 number-fraction l (op i o ts) q e = not-number e
 
-pub signed-fraction : (l : Bound) (t : Term) (q : Rational) → asSignedNumber t ≡ Value q → asFraction l t ≡ Value q
+pub signed-fraction :
+    (l : Bound) (t : Term) (q : Rational) → asSignedNumber t ≡ Value q → asFraction l t ≡ Value q
 unfolding asSignedNumber asFraction
 signed-fraction l t q =
     alike (unary Sub t) _ _ _ _ _ (λ x. negated-alike _ _ q (number-fraction l x)) (number-fraction l t q)
 
 -- the reading of a div; of anything but a negation, `as_fraction` does as `as_unsigned_fraction`
-pub div-reading : (i : ℕ) (a b : Term) → asFraction unbounded (op i IntDiv (a ▹ b ▹ nil)) ≡ divided unbounded a (asSignedNumber b)
+pub div-reading :
+    (i : ℕ) (a b : Term) →
+    asFraction unbounded (op i IntDiv (a ▹ b ▹ nil)) ≡ divided unbounded a (asSignedNumber b)
 unfolding asFraction asUnsignedFraction quotientOf unary binary
 div-reading i a b = refl

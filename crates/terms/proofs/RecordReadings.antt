@@ -20,6 +20,7 @@ use Rattle.terms.specs.Readers.{asNumber, asBitvector, asOp, argumentsOf
 use Rattle.terms.specs.declared.term.Reading.{Reading}
 use Rattle.terms.specs.declared.term.Reading.the-variants.{Value, NotNumber}
 use Rattle.terms.specs.declared.term.BitVector.the-variants.{Bits, NotBitvector}
+use Rattle.terms.proofs.Truths.{if-either}
 use Rattle.terms.proofs.LittleEndian.{cond-either}
 use Rattle.terms.proofs.Trees.{tree-node}
 
@@ -31,16 +32,14 @@ pub data Node (i : ℕ) (r : Bytes) (ts : Terms) : Term → Type 0 where
   a-rational : kind r ≡ 2 → isNumber (realOf r) ≡ true → Node i r ts (rational i (realOf r))
   a-bitvector : kind r ≡ 3 → isVector r ≡ true → Node i r ts (bitvector i (field1 r) (field2 r))
   an-operation : kind r ≡ 5 → Node i r ts (op i (operator r) ts)
-  an-atom : (kind r ≡ 1 → isNumber (integerOf r) ≡ false) → (kind r ≡ 2 → isNumber (realOf r) ≡ false) → (kind r ≡ 3 → isVector r ≡ false) → (kind r ≡ 5 → ⊥) → Node i r ts (atom i (atomSort r) (field1 r))
+  an-atom :
+      (kind r ≡ 1 → isNumber (integerOf r) ≡ false) → (kind r ≡ 2 → isNumber (realOf r) ≡ false) →
+      (kind r ≡ 3 → isVector r ≡ false) → (kind r ≡ 5 → ⊥) → Node i r ts (atom i (atomSort r) (field1 r))
 
--- What holds of both arms holds of `if`. Each arm knows the test's answer.
-if-either : {A : Type 0} (P : A → Type 0) (t : Bool) {x y : A} → (t ≡ true → P x) → (t ≡ false → P y) → P (if t then x else y)
-unfolding if_then_else_
-if-either P true first second = first refl
-if-either P false first second = second refl
-
--- the same for the test of a kind and of one thing more
-of-kind : {A : Type 0} (P : A → Type 0) (k n : ℕ) (t : Bool) {x y : A} → (k ≡ n → t ≡ true → P x) → ((k ≡ n → t ≡ false) → P y) → P (if eqb k n && t then x else y)
+-- a choice by the test of a kind and of one thing more
+of-kind :
+    {A : Type 0} (P : A → Type 0) (k n : ℕ) (t : Bool) {x y : A} → (k ≡ n → t ≡ true → P x) →
+    ((k ≡ n → t ≡ false) → P y) → P (if eqb k n && t then x else y)
 unfolding if_then_else_
 of-kind P k n t {x} {y} first second = go (eqb k n) t refl refl
   where
@@ -96,7 +95,9 @@ module _ (r : Bytes) where
   denominator-other a b = rw (ne-eqb (kind r) 1 a, ne-eqb (kind r) 2 b)
 
   -- the bytes of neither kind of constant
-  not-number : (kind r ≡ 1 → isNumber (integerOf r) ≡ false) → (kind r ≡ 2 → isNumber (realOf r) ≡ false) → NotNumber ≡ ifNumber (constantOf r)
+  not-number :
+      (kind r ≡ 1 → isNumber (integerOf r) ≡ false) → (kind r ≡ 2 → isNumber (realOf r) ≡ false) →
+      NotNumber ≡ ifNumber (constantOf r)
   not-number a b = rw refused
     where
       refused : isNumber (constantOf r) ≡ false
@@ -117,7 +118,9 @@ module _ (r : Bytes) where
 
   -- ---- bit-vectors and operations
 
-  pub asBitvector-of : {i : ℕ} {ts : Terms} {t : Term} → Node i r ts t → asBitvector t ≡ cond (eqb (kind r) 3 && isVector r) (Bits (field1 r) (field2 r)) NotBitvector
+  pub asBitvector-of :
+      {i : ℕ} {ts : Terms} {t : Term} → Node i r ts t →
+      asBitvector t ≡ cond (eqb (kind r) 3 && isVector r) (Bits (field1 r) (field2 r)) NotBitvector
   unfolding asBitvector
   asBitvector-of (an-integer k t) = rw k
   asBitvector-of (a-rational k t) = rw k
@@ -125,7 +128,9 @@ module _ (r : Bytes) where
   asBitvector-of (an-operation k) = rw k
   asBitvector-of (an-atom a b c d) = rw (not-both (kind r) 3 (isVector r) c)
 
-  pub asOp-of : {i : ℕ} {ts : Terms} {t : Term} → Node i r ts t → asOp t ≡ cond (eqb (kind r) 5) (some (operator r, ts)) none
+  pub asOp-of :
+      {i : ℕ} {ts : Terms} {t : Term} → Node i r ts t →
+      asOp t ≡ cond (eqb (kind r) 5) (some (operator r, ts)) none
   unfolding asOp
   asOp-of (an-integer k t) = rw k
   asOp-of (a-rational k t) = rw k
@@ -133,7 +138,9 @@ module _ (r : Bytes) where
   asOp-of (an-operation k) = rw k
   asOp-of (an-atom a b c d) = rw (ne-eqb (kind r) 5 d)
 
-  pub argsOf-of : (o : ℕ) {i : ℕ} {ts : Terms} {t : Term} → Node i r ts t → argsOf o t ≡ cond (eqb (kind r) 5 && eqb o (operator r)) (some ts) none
+  pub argsOf-of :
+      (o : ℕ) {i : ℕ} {ts : Terms} {t : Term} → Node i r ts t →
+      argsOf o t ≡ cond (eqb (kind r) 5 && eqb o (operator r)) (some ts) none
   argsOf-of o (an-integer k t) = rw k
   argsOf-of o (a-rational k t) = rw k
   argsOf-of o (a-bitvector k t) = rw k

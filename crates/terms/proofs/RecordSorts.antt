@@ -12,15 +12,19 @@ use lib.ListN.{getD}
 use Rattle.terms.specs.Bytes.{Bytes}
 use Rattle.terms.specs.Term.{Sort, Term, Terms, if_then_else_, sort, sorts, sortCode}
 use Rattle.terms.specs.Term.Sort.{bool, bits}
-use Rattle.terms.specs.Book.{recordOf, operator, sortByte, field2, unused, isWidth, atomSort, numbers, argBytes, nothing, earlier, arguments, node, forest, tree, atomOk, layoutOk, sortOk, SortsBelow}
+use Rattle.terms.specs.Book.{recordOf, operator, sortByte, field2, unused, isWidth, atomSort, numbers}
+use Rattle.terms.specs.Book.{argBytes, nothing, earlier, arguments, node, forest, tree, atomOk, layoutOk}
+use Rattle.terms.specs.Book.{sortOk, SortsBelow}
 use Rattle.terms.specs.Sorting.{sortAt, argSorts, common, sortRule, widthCode, atomCode, sorting}
 use Rattle.terms.specs.declared.sort.Sorting.{Sorting}
 use Rattle.terms.specs.declared.sort.Sorting.the-variants.{Of, Broken}
 use Rattle.terms.proofs.Trees.{recordOf-outside, tree-node}
 use Rattle.terms.proofs.SortCodes.{sorting-operation}
-use Rattle.terms.proofs.SortRules.{Wide, AllWide, codes, coded, both as on-both, either, rule-agrees, wide-gives}
+use Rattle.terms.proofs.SortRules.{Wide, AllWide, codes, coded, both as on-both, either, rule-agrees}
+use Rattle.terms.proofs.SortRules.{wide-gives}
 use Rattle.terms.proofs.Truths.{both}
-use Rattle.terms.proofs.Nodes.{Laid, an-integer, a-rational, a-vector, an-atom, an-operation, laid, node-integer, node-rational, node-vector, node-atom, node-operation}
+use Rattle.terms.proofs.Nodes.{Laid, an-integer, a-rational, a-vector, an-atom, an-operation, laid}
+use Rattle.terms.proofs.Nodes.{node-integer, node-rational, node-vector, node-atom, node-operation}
 use Rattle.terms.proofs.Nodes.{integer-number, real-number, vector-fields, vector-width}
 
 -- ---- widths
@@ -36,12 +40,15 @@ width-coded r h = rw (width-at-most (field2 r) h)
 
 -- of the sort byte 4 and of the others
 module _ (r : Bytes) (other : Bool) where
-  vector-atom : (t : Bool) → cond t (isWidth (field2 r)) other ≡ true → coded (if t then widthCode r else 1) (if t then bits (field2 r) else bool)
+  vector-atom :
+      (t : Bool) → cond t (isWidth (field2 r)) other ≡ true →
+      coded (if t then widthCode r else 1) (if t then bits (field2 r) else bool)
   unfolding if_then_else_
   vector-atom true h = width-coded r h
   vector-atom false h = refl
 
-  vector-atom-wide : (t : Bool) → cond t (isWidth (field2 r)) other ≡ true → Wide (if t then bits (field2 r) else bool)
+  vector-atom-wide :
+      (t : Bool) → cond t (isWidth (field2 r)) other ≡ true → Wide (if t then bits (field2 r) else bool)
   unfolding if_then_else_
   vector-atom-wide true h = width-at-least (field2 r) h
   vector-atom-wide false h = tt
@@ -65,7 +72,9 @@ abbrev pub verdict : Term → Sorting
 verdict t = cond (sortOk t) (Of (sortCode (sort t))) Broken
 
 module _ (i : ℕ) (r : Bytes) (ts : Terms) where
-  record-sorted : (w : Bytes) → Laid i r → argSorts i w (numbers (argBytes r)) ≡ codes (sorts ts) → AllWide (sorts ts) → sorting i w r ≡ verdict (node i r ts)
+  record-sorted :
+      (w : Bytes) → Laid i r → argSorts i w (numbers (argBytes r)) ≡ codes (sorts ts) → AllWide (sorts ts) →
+      sorting i w r ≡ verdict (node i r ts)
   unfolding sorting sort if_then_else_
   record-sorted w (an-integer k ok) args wide = rw (node-integer i r ts k (integer-number r ok), k)
   record-sorted w (a-rational k ok) args wide = rw (node-rational i r ts k (real-number r ok .0), k)
@@ -96,20 +105,26 @@ sort-nothing b = rw (tree-node b nothing, recordOf-outside b nothing (omega arit
 
 -- an argument of record i is an earlier record or none
 module _ (b : Bytes) (i : ℕ) (P : ℕ → Sort → Type 0) (w : Bytes) where
-  argument-either : (a : ℕ) → (a < i → P (getD w a 0) (sort (tree b a))) → P 1 bool → P (sortAt i w a) (sort (tree b (earlier i a)))
+  argument-either :
+      (a : ℕ) → (a < i → P (getD w a 0) (sort (tree b a))) → P 1 bool →
+      P (sortAt i w a) (sort (tree b (earlier i a)))
   argument-either a below none = go (ltb a i) refl
     where
       go : (t : Bool) → ltb a i ≡ t → P (cond t (getD w a 0) 1) (sort (tree b (cond t a nothing)))
       go true e = below (ltb-true a i e)
       go false e = rw (sort-nothing b) none
 
-argument-codes : (b : Bytes) (i : ℕ) (w : Bytes) → ((j : ℕ) → j < i → getD w j 0 ≡ sortCode (sort (tree b j))) → (l : List ℕ) → argSorts i w l ≡ codes (sorts (forest (tree b) (arguments i l)))
+argument-codes :
+    (b : Bytes) (i : ℕ) (w : Bytes) → ((j : ℕ) → j < i → getD w j 0 ≡ sortCode (sort (tree b j))) →
+    (l : List ℕ) → argSorts i w l ≡ codes (sorts (forest (tree b) (arguments i l)))
 unfolding argSorts arguments forest sort
 argument-codes b i w held [] = refl
 argument-codes b i w held (a ∷ l) =
     ap₂ _∷_ (argument-either b i coded w a (held a) refl) (argument-codes b i w held l)
 
-arguments-wide : (b : Bytes) (i : ℕ) → ((j : ℕ) → j < i → Wide (sort (tree b j))) → (l : List ℕ) → AllWide (sorts (forest (tree b) (arguments i l)))
+arguments-wide :
+    (b : Bytes) (i : ℕ) → ((j : ℕ) → j < i → Wide (sort (tree b j))) → (l : List ℕ) →
+    AllWide (sorts (forest (tree b) (arguments i l)))
 unfolding arguments forest sort
 arguments-wide b i wide [] = tt
 arguments-wide b i wide (a ∷ l) =
@@ -117,16 +132,22 @@ arguments-wide b i wide (a ∷ l) =
 
 -- ---- the records of a book
 
-tree-wide : (b : Bytes) (i : ℕ) → layoutOk i (recordOf b i) ≡ true → ((j : ℕ) → j < i → Wide (sort (tree b j))) → Wide (sort (tree b i))
+tree-wide :
+    (b : Bytes) (i : ℕ) → layoutOk i (recordOf b i) ≡ true → ((j : ℕ) → j < i → Wide (sort (tree b j))) →
+    Wide (sort (tree b i))
 tree-wide b i ok below =
     rw (tree-node b i) (record-wide i (recordOf b i) _ (laid i (recordOf b i) ok) (arguments-wide b i below _))
 
-pub wide-below : (b : Bytes) (i : ℕ) → ((j : ℕ) → j < i → layoutOk j (recordOf b j) ≡ true) → (j : ℕ) → j < i → Wide (sort (tree b j))
+pub wide-below :
+    (b : Bytes) (i : ℕ) → ((j : ℕ) → j < i → layoutOk j (recordOf b j) ≡ true) → (j : ℕ) → j < i →
+    Wide (sort (tree b j))
 wide-below b zero ok j h = absurd (omega arith)
 wide-below b (suc i) ok j h =
     tree-wide b j (ok j h) (λ a l. wide-below b i (λ x y. ok x (omega arith)) a (omega arith))
 
-pub sorting-tree : (b : Bytes) (i : ℕ) (w : Bytes) → SortsBelow i b w → layoutOk i (recordOf b i) ≡ true → sorting i w (recordOf b i) ≡ verdict (tree b i)
+pub sorting-tree :
+    (b : Bytes) (i : ℕ) (w : Bytes) → SortsBelow i b w → layoutOk i (recordOf b i) ≡ true →
+    sorting i w (recordOf b i) ≡ verdict (tree b i)
 sorting-tree b i w below ok =
     rw (tree-node b i)
     (record-sorted i (recordOf b i) _ w (laid i (recordOf b i) ok)

@@ -16,7 +16,8 @@ use lib.Seq.{take-nil, ext-getD}
 use Rattle.terms.specs.Bytes.{Bytes, le}
 use Rattle.terms.specs.Term.{Term, Terms}
 use Rattle.terms.specs.Term.Terms.{nil, _▹_}
-use Rattle.terms.specs.Book.{recordOf, kind, argCount, argBytes, numbers, nothing, earlier, argumentAt, arguments, forest, sameBytes, stands}
+use Rattle.terms.specs.Book.{recordOf, kind, argCount, argBytes, numbers, nothing, earlier, argumentAt}
+use Rattle.terms.specs.Book.{arguments, forest, sameBytes, stands}
 use Rattle.terms.proofs.LittleEndian.{le-cons, le-of-two}
 
 -- ---- the part of a record that holds its arguments, as the function `arg_bytes` finds it
@@ -30,7 +31,9 @@ take-agree (suc m) zero (x ∷ l) h = absurd (omega arith)
 take-agree (suc m) (suc n) (x ∷ l) h = ap (λ (t : Bytes). x ∷ t) (take-agree m n l (omega arith))
 
 module _ (r : Bytes) where
-  pub argBytes-of : (k x n : ℕ) → k ≡ kind r → k ≡ 5 → x ≡ argCount r → min n (length r - 4) ≡ min (2 * x) (length r - 4) → take n (drop 4 r) ≡ argBytes r
+  pub argBytes-of :
+      (k x n : ℕ) → k ≡ kind r → k ≡ 5 → x ≡ argCount r → min n (length r - 4) ≡ min (2 * x) (length r - 4) →
+      take n (drop 4 r) ≡ argBytes r
   argBytes-of k x n first five second size =
       rw (← first, eq-eqb k 5 five, ← second) (take-agree n (2 * x) (drop 4 r) (rw length-drop size))
 
@@ -87,7 +90,8 @@ getD-arguments i [] k = sym (earlier-nothing i)
 getD-arguments i (a ∷ l) zero = refl
 getD-arguments i (a ∷ l) (suc k) = getD-arguments i l k
 
-pub argument-of-arguments : (i : ℕ) (l : Bytes) (k : ℕ) → getD (arguments i (numbers l)) k nothing ≡ argumentAt l k i
+pub argument-of-arguments :
+    (i : ℕ) (l : Bytes) (k : ℕ) → getD (arguments i (numbers l)) k nothing ≡ argumentAt l k i
 unfolding argumentAt
 argument-of-arguments i l k = getD-arguments i (numbers l) k
 
@@ -115,7 +119,9 @@ forest-one f [] h = absurd (omega arith)
 forest-one f (a ∷ []) h = refl
 forest-one f (a ∷ b ∷ l) h = absurd (omega arith)
 
-forest-two : (f : ℕ → Term) (l : List ℕ) → length l ≡ 2 → forest f l ≡ f (getD l 0 nothing) ▹ f (getD l 1 nothing) ▹ nil
+forest-two :
+    (f : ℕ → Term) (l : List ℕ) → length l ≡ 2 →
+    forest f l ≡ f (getD l 0 nothing) ▹ f (getD l 1 nothing) ▹ nil
 unfolding forest
 forest-two f [] h = absurd (omega arith)
 forest-two f (a ∷ l) h = ap (λ (ts : Terms). f a ▹ ts) (forest-one f l (omega arith))
@@ -123,11 +129,15 @@ forest-two f (a ∷ l) h = ap (λ (ts : Terms). f a ▹ ts) (forest-one f l (ome
 length-of : (i : ℕ) (l : Bytes) → length (arguments i (numbers l)) ≡ length l / 2
 length-of i l = length-arguments i (numbers l) ∙ length-numbers l
 
-pub forest-of-one : (f : ℕ → Term) (i : ℕ) (l : Bytes) → length l / 2 ≡ 1 → forest f (arguments i (numbers l)) ≡ f (argumentAt l 0 i) ▹ nil
+pub forest-of-one :
+    (f : ℕ → Term) (i : ℕ) (l : Bytes) → length l / 2 ≡ 1 →
+    forest f (arguments i (numbers l)) ≡ f (argumentAt l 0 i) ▹ nil
 forest-of-one f i l h =
     rw (forest-one f (arguments i (numbers l)) (length-of i l ∙ h), argument-of-arguments i l 0)
 
-pub forest-of-two : (f : ℕ → Term) (i : ℕ) (l : Bytes) → length l / 2 ≡ 2 → forest f (arguments i (numbers l)) ≡ f (argumentAt l 0 i) ▹ f (argumentAt l 1 i) ▹ nil
+pub forest-of-two :
+    (f : ℕ → Term) (i : ℕ) (l : Bytes) → length l / 2 ≡ 2 →
+    forest f (arguments i (numbers l)) ≡ f (argumentAt l 0 i) ▹ f (argumentAt l 1 i) ▹ nil
 forest-of-two f i l h =
     rw (forest-two f (arguments i (numbers l)) (length-of i l ∙ h), argument-of-arguments i l 0, argument-of-arguments i l 1)
 
@@ -145,7 +155,9 @@ sameBytes-true [] (y ∷ s) t = cc
 sameBytes-true (x ∷ r) [] t = cc
 sameBytes-true (x ∷ r) (y ∷ s) t = go (eqb x y) refl t (sameBytes-true r s)
   where
-    go : (u : Bool) → eqb x y ≡ u → elim u [ true ↦ sameBytes r s | false ↦ false ] ≡ true → (sameBytes r s ≡ true → r ≡ s) → (x ∷ r) ≡ (y ∷ s)
+    go :
+        (u : Bool) → eqb x y ≡ u → elim u [ true ↦ sameBytes r s | false ↦ false ] ≡ true →
+        (sameBytes r s ≡ true → r ≡ s) → (x ∷ r) ≡ (y ∷ s)
     go true e t rest = ap₂ _∷_ (eqb-true x y e) (rest t)
     go false e t rest = cc
 
@@ -182,11 +194,14 @@ module _ (r s : Bytes) where
 -- ---- one of the first n records
 
 module _ (b r : Bytes) where
-  stands-either : (n : ℕ) → (stands n b r ≡ true) ⊎ (sameBytes (recordOf b n) r ≡ true) → stands (suc n) b r ≡ true
+  stands-either :
+      (n : ℕ) → (stands n b r ≡ true) ⊎ (sameBytes (recordOf b n) r ≡ true) → stands (suc n) b r ≡ true
   unfolding stands
   stands-either n = go (stands n b r)
     where
-      go : (t : Bool) → (t ≡ true) ⊎ (sameBytes (recordOf b n) r ≡ true) → elim t [ true ↦ true | false ↦ sameBytes (recordOf b n) r ] ≡ true
+      go :
+          (t : Bool) → (t ≡ true) ⊎ (sameBytes (recordOf b n) r ≡ true) →
+          elim t [ true ↦ true | false ↦ sameBytes (recordOf b n) r ] ≡ true
       go true o = refl
       go false o = ⊎-elim (λ e. cc) (λ e. e) o
 
@@ -195,7 +210,8 @@ module _ (b r : Bytes) where
   stands-found (suc n) j h e =
       stands-either n (⊎-elim (λ p. inr (rw p at e)) (λ l. inl (stands-found n j l e)) (eq-or-lt-of-le (le-of-suc-le-suc h)))
 
-  pub stands-next : (n : ℕ) → stands n b r ≡ false → sameBytes (recordOf b n) r ≡ false → stands (n + 1) b r ≡ false
+  pub stands-next :
+      (n : ℕ) → stands n b r ≡ false → sameBytes (recordOf b n) r ≡ false → stands (n + 1) b r ≡ false
   unfolding stands
   stands-next n first last = rw (add-one, first, stands) last
 

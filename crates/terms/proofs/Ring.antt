@@ -11,7 +11,9 @@ use native.Mathlib.Nat.{add-suc, add-zero as add-zeroℕ}
 use lib.Dec.{T, eqb, eqb→eq}
 use lib.IntN.{ℤ, pos, negsuc, _+ℤ_, _*ℤ_}
 pub use Rattle.terms.proofs.Polynomials.{E, var, lit, _⊕_, _⊖_, _⊗_, neg, 𝟘, 𝟙, Equation, _≐_, Hypotheses, _·_, _and_, Claim, _from_, Vars, atVars}
-use Rattle.terms.proofs.Polynomials.{Poly, nil, term, sameExponents, addExponents, exponentsOfVar, insert, sum, scale, product, opposite, normal, isZero, vanishes, isIdentity, combination, isCombination}
+use Rattle.terms.proofs.Polynomials.{Poly, nil, term, sameExponents, addExponents, exponentsOfVar}
+use Rattle.terms.proofs.Polynomials.{insert, sum, scale, product, opposite, normal, isZero, vanishes}
+use Rattle.terms.proofs.Polynomials.{isIdentity, combination, isCombination}
 
 pub record Ring : Type 1 where
   pub carrier : Type 0
@@ -134,7 +136,8 @@ module _ (R : Ring) where
   power-add x i zero = ap (power x) (add-zeroℕ i) ∙ sym (mul-one (power x i))
   power-add x i (suc j) = ap (power x) (add-suc i j) ∙ ap (_*_ x) (power-add x i j) ∙ left-comm _*_ mul-assoc mul-comm x (power x i) (power x j)
 
-  sameExponents-monomial : (m n : List ℕ) (ρ : List carrier) → T (sameExponents m n) → monomial m ρ ≡ monomial n ρ
+  sameExponents-monomial :
+      (m n : List ℕ) (ρ : List carrier) → T (sameExponents m n) → monomial m ρ ≡ monomial n ρ
   unfolding monomial
   sameExponents-monomial [] [] ρ t = refl
   sameExponents-monomial [] (j ∷ n) ρ t = absurd t
@@ -143,7 +146,8 @@ module _ (R : Ring) where
       let t′ = and-both (eqb i j) (sameExponents m n) t in
       cc (eqb→eq i j (t′ .0), sameExponents-monomial m n (tail ρ) (t′ .1))
 
-  addExponents-monomial : (m n : List ℕ) (ρ : List carrier) → monomial (addExponents m n) ρ ≡ monomial m ρ * monomial n ρ
+  addExponents-monomial :
+      (m n : List ℕ) (ρ : List carrier) → monomial (addExponents m n) ρ ≡ monomial m ρ * monomial n ρ
   unfolding monomial
   addExponents-monomial [] n ρ = sym (one-mul (monomial n ρ))
   addExponents-monomial (i ∷ m) [] ρ = sym (mul-one (power (first ρ) i * monomial m (tail ρ)))
@@ -157,7 +161,9 @@ module _ (R : Ring) where
   exponentsOfVar-monomial (suc i) ρ = one-mul (monomial (exponentsOfVar i) (tail ρ)) ∙ exponentsOfVar-monomial i (tail ρ)
 
   -- `go` goes by the test of the exponents, of which the lemma above tells what it says when it passes.
-  insert-poly : (c : ℤ) (m : List ℕ) (p : Poly) (ρ : List carrier) → poly (insert c m p) ρ ≡ ι c * monomial m ρ + poly p ρ
+  insert-poly :
+      (c : ℤ) (m : List ℕ) (p : Poly) (ρ : List carrier) →
+      poly (insert c m p) ρ ≡ ι c * monomial m ρ + poly p ρ
   unfolding poly
   insert-poly c m nil ρ = refl
   insert-poly c m (term d n p) ρ = go (sameExponents m n) (sameExponents-monomial m n ρ) (insert-poly c m p ρ)
@@ -168,7 +174,9 @@ module _ (R : Ring) where
       N : carrier
       N = monomial n ρ
 
-      go : (b : Bool) → (T b → M ≡ N) → poly (insert c m p) ρ ≡ ι c * M + poly p ρ → poly (elim b [ true ↦ term (c +ℤ d) n p | false ↦ term d n (insert c m p) ]) ρ ≡ ι c * M + (ι d * N + poly p ρ)
+      go :
+          (b : Bool) → (T b → M ≡ N) → poly (insert c m p) ρ ≡ ι c * M + poly p ρ →
+          poly (elim b [ true ↦ term (c +ℤ d) n p | false ↦ term d n (insert c m p) ]) ρ ≡ ι c * M + (ι d * N + poly p ρ)
       go true e ih = cc (e tt, ι-add c d, add-mul (ι c) (ι d) N, add-assoc (ι c * N) (ι d * N) (poly p ρ))
       go false e ih = ap (_+_ (ι d * N)) ih ∙ left-comm _+_ add-assoc add-comm (ι d * N) (ι c * M) (poly p ρ)
 
@@ -177,7 +185,9 @@ module _ (R : Ring) where
   sum-poly nil q ρ = sym (zero-add (poly q ρ))
   sum-poly (term c m p) q ρ = cc (insert-poly c m (sum p q) ρ, sum-poly p q ρ, add-assoc (ι c * monomial m ρ) (poly p ρ) (poly q ρ))
 
-  scale-poly : (c : ℤ) (m : List ℕ) (p : Poly) (ρ : List carrier) → poly (scale c m p) ρ ≡ ι c * monomial m ρ * poly p ρ
+  scale-poly :
+      (c : ℤ) (m : List ℕ) (p : Poly) (ρ : List carrier) →
+      poly (scale c m p) ρ ≡ ι c * monomial m ρ * poly p ρ
   unfolding poly
   scale-poly c m nil ρ = sym (mul-zero (ι c * monomial m ρ))
   scale-poly c m (term d n p) ρ = cc (ι-mul c d, addExponents-monomial m n ρ, interchange _*_ mul-assoc mul-comm (ι c) (ι d) (monomial m ρ) (monomial n ρ), scale-poly c m p ρ, mul-add (ι c * monomial m ρ) (ι d * monomial n ρ) (poly p ρ))
@@ -213,7 +223,8 @@ module _ (R : Ring) where
   holds-of-isIdentity (l ≐ r) ρ t = eq-of-sub-eq-zero (⟦ l ⟧ ρ) (⟦ r ⟧ ρ) (sym (normal-poly (l ⊖ r) ρ) ∙ vanishes-poly (normal (l ⊖ r)) ρ t)
 
   -- Where the hypotheses hold, their combination is 0.
-  given-of-combination : (h : Hypotheses) (ρ : List carrier) (G : Type 0) → (⟦ combination h ⟧ ρ ≡ zeroᴿ → G) → Given h ρ G
+  given-of-combination :
+      (h : Hypotheses) (ρ : List carrier) (G : Type 0) → (⟦ combination h ⟧ ρ ≡ zeroᴿ → G) → Given h ρ G
   given-of-combination (k · (l ≐ r)) ρ G f = λ e. f (cc (e, add-neg (⟦ r ⟧ ρ), mul-zero (⟦ k ⟧ ρ)))
   given-of-combination (h and j) ρ G f = given-of-combination h ρ (Given j ρ G) (λ p. given-of-combination j ρ G (λ q. f (cc (p, q, add-zero zeroᴿ))))
 
@@ -223,5 +234,6 @@ module _ (R : Ring) where
   pub solve : (ρ : List carrier) (f : Vars ρ Equation) → T (isIdentity (atVars ρ 0 f)) → Holds (atVars ρ 0 f) ρ
   solve ρ f t = holds-of-isIdentity (atVars ρ 0 f) ρ t
 
-  pub derive : (ρ : List carrier) (f : Vars ρ Claim) → T (isCombination (atVars ρ 0 f)) → Follows (atVars ρ 0 f) ρ
+  pub derive :
+      (ρ : List carrier) (f : Vars ρ Claim) → T (isCombination (atVars ρ 0 f)) → Follows (atVars ρ 0 f) ρ
   derive ρ f t = follows-of-isCombination (atVars ρ 0 f) ρ t

@@ -13,7 +13,8 @@ use lib.Seq.{take-suc, take-all}
 use Rattle.terms.specs.Bytes.{Bytes, le}
 use Rattle.terms.specs.Term.{if_then_else_}
 use Rattle.terms.specs.Book.{kind, operator, argBytes, numbers}
-use Rattle.terms.specs.Sorting.{sortAt, argSorts, allCodes, firstCode, numericCode, common, takesBy, givesBy, sortRule, sorting}
+use Rattle.terms.specs.Sorting.{sortAt, argSorts, allCodes, firstCode, numericCode, common, takesBy}
+use Rattle.terms.specs.Sorting.{givesBy, sortRule, sorting}
 use Rattle.terms.specs.declared.sort.Sorting.{Sorting}
 use Rattle.terms.specs.declared.sort.ArgSorts.{ArgSorts}
 use Rattle.terms.proofs.Records.{length-numbers, number-at}
@@ -71,11 +72,16 @@ module _ (o : ℕ) (c : ArgSorts) where
 
 -- ---- the sort of a record that is an operation
 
-pub sorting-operation : (i : ℕ) (w r : Bytes) → kind r ≡ 5 → sorting i w r ≡ sortRule (operator r) (common (argSorts i w (numbers (argBytes r))))
+pub sorting-operation :
+    (i : ℕ) (w r : Bytes) → kind r ≡ 5 →
+    sorting i w r ≡ sortRule (operator r) (common (argSorts i w (numbers (argBytes r))))
 unfolding sorting if_then_else_
 sorting-operation i w r e = rw e
 
-pub operation-sorted : (i : ℕ) (w r : Bytes) (k o : ℕ) (args : Bytes) (c : ArgSorts) (s : Sorting) → k ≡ kind r → k ≡ 5 → o ≡ operator r → args ≡ argBytes r → c ≡ common (argSorts i w (numbers args)) → s ≡ sortRule o c → s ≡ sorting i w r
+pub operation-sorted :
+    (i : ℕ) (w r : Bytes) (k o : ℕ) (args : Bytes) (c : ArgSorts) (s : Sorting) → k ≡ kind r → k ≡ 5 →
+    o ≡ operator r → args ≡ argBytes r → c ≡ common (argSorts i w (numbers args)) → s ≡ sortRule o c →
+    s ≡ sorting i w r
 operation-sorted i w r k o args c s kind-is five operator-is args-are common-is sorted =
     cc (sorting-operation i w r (sym kind-is ∙ five))
 
@@ -86,7 +92,9 @@ unfolding argSorts
 length-argSorts i w [] = refl
 length-argSorts i w (a ∷ l) = ap suc (length-argSorts i w l)
 
-getD-argSorts : (i : ℕ) (w : Bytes) (l : List ℕ) (k : ℕ) → k < length l → getD (argSorts i w l) k 1 ≡ sortAt i w (getD l k 0)
+getD-argSorts :
+    (i : ℕ) (w : Bytes) (l : List ℕ) (k : ℕ) → k < length l →
+    getD (argSorts i w l) k 1 ≡ sortAt i w (getD l k 0)
 unfolding argSorts
 getD-argSorts i w [] k h = absurd (omega arith)
 getD-argSorts i w (a ∷ l) zero h = refl
@@ -99,7 +107,9 @@ sortsOf i w args = argSorts i w (numbers args)
 pub length-sortsOf : (i : ℕ) (w args : Bytes) → length (sortsOf i w args) ≡ length args / 2
 length-sortsOf i w args = length-argSorts i w (numbers args) ∙ length-numbers args
 
-pub sort-read : (i : ℕ) (w args : Bytes) (k a s : ℕ) → k < length args / 2 → a ≡ le 2 args (2 * k) → s ≡ sortAt i w a → s ≡ getD (sortsOf i w args) k 1
+pub sort-read :
+    (i : ℕ) (w args : Bytes) (k a s : ℕ) → k < length args / 2 → a ≡ le 2 args (2 * k) → s ≡ sortAt i w a →
+    s ≡ getD (sortsOf i w args) k 1
 sort-read i w args k a s h read sorted =
     sorted ∙ ap (sortAt i w) (read ∙ sym (number-at args k 0 h))
     ∙ sym (getD-argSorts i w (numbers args) k (rw (length-numbers args) h))
@@ -108,7 +118,9 @@ first-of : (l : List ℕ) → getD l 0 1 ≡ firstCode l
 first-of [] = refl
 first-of (c ∷ l) = refl
 
-pub first-read : (i : ℕ) (w args : Bytes) (a s : ℕ) → 0 < length args / 2 → a ≡ le 2 args 0 → s ≡ sortAt i w a → s ≡ firstCode (sortsOf i w args)
+pub first-read :
+    (i : ℕ) (w args : Bytes) (a s : ℕ) → 0 < length args / 2 → a ≡ le 2 args 0 → s ≡ sortAt i w a →
+    s ≡ firstCode (sortsOf i w args)
 first-read i w args a s h read sorted = sort-read i w args 0 a s h read sorted ∙ first-of (sortsOf i w args)
 
 pub first-missing : (i : ℕ) (w args : Bytes) → length args / 2 ≤ 0 → 1 ≡ firstCode (sortsOf i w args)
@@ -147,7 +159,9 @@ numeric-kept n s f f′ numeric same = kept f f′ (numericCode s) (rw same nume
 pub numeric-dropped : (s : ℕ) (f f′ : Bool) → (s ≡ 2 → ⊥) → (s ≡ 3 → ⊥) → f′ ≡ false → f′ ≡ (f && numericCode s)
 numeric-dropped s f f′ two three = dropped f f′ (numericCode s) (rw (ne-eqb s 2 two, ne-eqb s 3 three))
 
-flag-next : (p : ℕ → Bool) (l : List ℕ) (k : ℕ) (f f′ : Bool) → k < length l → f ≡ allCodes p (take k l) → f′ ≡ (f && p (getD l k 1)) → f′ ≡ allCodes p (take (k + 1) l)
+flag-next :
+    (p : ℕ → Bool) (l : List ℕ) (k : ℕ) (f f′ : Bool) → k < length l → f ≡ allCodes p (take k l) →
+    f′ ≡ (f && p (getD l k 1)) → f′ ≡ allCodes p (take (k + 1) l)
 unfolding allCodes
 flag-next p l k f f′ h before next =
     next ∙ ap₂ _&&_ before (sym (and-true (p (getD l k 1))))
@@ -167,7 +181,11 @@ unfolding allCodes
 passed-none l first e =
     record { inside = omega arith; first-is = e; same-is = refl; numeric-is = refl; int-is = refl }
 
-pub passed-more : (l : List ℕ) (first : ℕ) (same numeric int same′ numeric′ int′ : Bool) (k s : ℕ) → Passed l first same numeric int k → k < length l → s ≡ getD l k 1 → same′ ≡ (same && eqb first s) → numeric′ ≡ (numeric && numericCode s) → int′ ≡ (int && eqb 2 s) → Passed l first same′ numeric′ int′ (k + 1)
+pub passed-more :
+    (l : List ℕ) (first : ℕ) (same numeric int same′ numeric′ int′ : Bool) (k s : ℕ) →
+    Passed l first same numeric int k → k < length l → s ≡ getD l k 1 → same′ ≡ (same && eqb first s) →
+    numeric′ ≡ (numeric && numericCode s) → int′ ≡ (int && eqb 2 s) →
+    Passed l first same′ numeric′ int′ (k + 1)
 passed-more l first same numeric int same′ numeric′ int′ k s p h e same-next numeric-next int-next =
     record {
       inside = omega arith;
@@ -177,7 +195,10 @@ passed-more l first same numeric int same′ numeric′ int′ k s p h e same-ne
       int-is = flag-next (eqb 2) l k int int′ h (p .int-is) (rw e at int-next);
     }
 
-pub passed-all : (l : List ℕ) (first : ℕ) (same numeric int : Bool) (k : ℕ) → Passed l first same numeric int k → length l ≤ k → _≡_ {A = ArgSorts} (record { first = first; same = same; numeric = numeric; int = int }) (common l)
+pub passed-all :
+    (l : List ℕ) (first : ℕ) (same numeric int : Bool) (k : ℕ) → Passed l first same numeric int k →
+    length l ≤ k →
+    _≡_ {A = ArgSorts} (record { first = first; same = same; numeric = numeric; int = int }) (common l)
 unfolding common
 passed-all l first same numeric int k p h =
     let all : take k l ≡ l = take-all k l h in

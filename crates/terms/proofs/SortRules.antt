@@ -9,7 +9,8 @@ use native.Mathlib.Omega.{arith}
 use borrow.Author.Tests.{le-leb, eqb-true, eqb-false, ne-eqb}
 use lib.Dec.{leb, eqb}
 use Rattle.terms.specs.Operator.{GreaterEq, Mult, IntDiv, ToReal, Equals, Or}
-use Rattle.terms.specs.Term.{Sort, if_then_else_, sortCode, sameSort, isNumeric, isBits, all, first, takes, gives}
+use Rattle.terms.specs.Term.{Sort, if_then_else_, sortCode, sameSort, isNumeric, isBits, all, first}
+use Rattle.terms.specs.Term.{takes, gives}
 use Rattle.terms.specs.Term.Sort.{bool, int, real, bits}
 use Rattle.terms.specs.Sorting.{allCodes, firstCode, numericCode, common, takesBy, givesBy, sortRule}
 use Rattle.terms.specs.declared.sort.Sorting.the-variants.{Of, Broken}
@@ -30,7 +31,9 @@ codes ss = map sortCode ss
 
 -- ---- the tests
 
-all-codes : (p : Sort → Bool) (q : ℕ → Bool) → ((s : Sort) → Wide s → p s ≡ q (sortCode s)) → (ss : List Sort) → AllWide ss → all p ss ≡ allCodes q (codes ss)
+all-codes :
+    (p : Sort → Bool) (q : ℕ → Bool) → ((s : Sort) → Wide s → p s ≡ q (sortCode s)) → (ss : List Sort) →
+    AllWide ss → all p ss ≡ allCodes q (codes ss)
 unfolding all allCodes
 all-codes p q e [] wide = refl
 all-codes p q e (s ∷ ss) wide = ap₂ _&&_ (e s (wide .0)) (all-codes p q e ss (wide .1))
@@ -74,7 +77,9 @@ all-bool-codes (c ∷ l) = go (eqb c 1) refl
 -- ---- the rules
 
 -- two chains of tests agree where their arms do
-pub both : {A B : Type 0} (R : A → B → Type 0) (t : Bool) {a a′ : A} {b b′ : B} → R a b → R a′ b′ → R (if t then a else a′) (if t then b else b′)
+pub both :
+    {A B : Type 0} (R : A → B → Type 0) (t : Bool) {a a′ : A} {b b′ : B} → R a b → R a′ b′ →
+    R (if t then a else a′) (if t then b else b′)
 unfolding if_then_else_
 both R true p q = p
 both R false p q = q
@@ -124,6 +129,7 @@ module _ (o : ℕ) (ss : List Sort) where
       (either Wide (eqb o IntDiv) tt
       (either Wide (leb o ToReal) tt (wide-first ss wide))))
 
-  pub rule-agrees : AllWide ss → sortRule o (common (codes ss)) ≡ cond (takes o ss) (Of (sortCode (gives o ss))) Broken
+  pub rule-agrees :
+      AllWide ss → sortRule o (common (codes ss)) ≡ cond (takes o ss) (Of (sortCode (gives o ss))) Broken
   unfolding sortRule
   rule-agrees wide = rw (takes-rule wide, gives-rule)

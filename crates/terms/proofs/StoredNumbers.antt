@@ -18,7 +18,8 @@ use Rattle.terms.specs.Bytes.{Bytes, le, put, room, signed, complement, 
 use Rattle.terms.specs.Rational.{Rational, frac, whole, limit, inRange, Proper, Makes, checked}
 use Rattle.terms.specs.declared.number.Checked.{Checked}
 use Rattle.terms.specs.declared.number.Checked.the-variants.{Value, OutOfRange}
-use Rattle.terms.proofs.LittleEndian.{Apart, cond-either, le-outside, length-put, byte-put-elsewhere, le-elsewhere, le-put-elsewhere, read-after-write-small}
+use Rattle.terms.proofs.LittleEndian.{Apart, cond-either, le-outside, length-put, byte-put-elsewhere}
+use Rattle.terms.proofs.LittleEndian.{le-elsewhere, le-put-elsewhere, read-after-write-small}
 use Rattle.terms.proofs.Machine.{R}
 use Rattle.terms.proofs.TwosComplement.{complement-below, signed-complement}
 
@@ -51,7 +52,8 @@ length-putNumber q b i =
     (length-put 4 (complement 4 (q .den)) half (i + 4) ∙ length-put 4 (complement 4 (q .num)) b i)
     refl
 
-pub byte-putNumber-elsewhere : (q : Rational) (b : Bytes) (i j : ℕ) → (j < i) ⊎ (i + 8 ≤ j) → getD (putNumber q b i) j 0 ≡ getD b j 0
+pub byte-putNumber-elsewhere :
+    (q : Rational) (b : Bytes) (i j : ℕ) → (j < i) ⊎ (i + 8 ≤ j) → getD (putNumber q b i) j 0 ≡ getD b j 0
 byte-putNumber-elsewhere q b i j apart =
     let half : Bytes = put 4 (complement 4 (q .num)) b i in
     putNumber-either q b i (λ (x : Bytes). getD x j 0 ≡ getD b j 0)
@@ -62,11 +64,13 @@ byte-putNumber-elsewhere q b i j apart =
     part : (k : ℕ) → i ≤ k → k + 4 ≤ i + 8 → (j < k) ⊎ (k + 4 ≤ j)
     part k p q = ⊎-elim (λ o. inl (omega arith)) (λ o. inr (omega arith)) apart
 
-pub le-putNumber-elsewhere : (m : ℕ) (q : Rational) (b : Bytes) (i j : ℕ) → Apart m j 8 i → le m (putNumber q b i) j ≡ le m b j
+pub le-putNumber-elsewhere :
+    (m : ℕ) (q : Rational) (b : Bytes) (i j : ℕ) → Apart m j 8 i → le m (putNumber q b i) j ≡ le m b j
 le-putNumber-elsewhere m q b i j =
     le-elsewhere m 8 (putNumber q b i) b i j (length-putNumber q b i) (byte-putNumber-elsewhere q b i)
 
-pub numberAt-putNumber-elsewhere : (q : Rational) (b : Bytes) (i j : ℕ) → Apart 8 j 8 i → numberAt (putNumber q b i) j ≡ numberAt b j
+pub numberAt-putNumber-elsewhere :
+    (q : Rational) (b : Bytes) (i j : ℕ) → Apart 8 j 8 i → numberAt (putNumber q b i) j ≡ numberAt b j
 unfolding numberAt
 numberAt-putNumber-elsewhere q b i j apart =
     ap₂ (λ (n d : ℕ). orZero (frac (signed 4 n) (pos d)))
@@ -127,7 +131,8 @@ unfolding complement
 denominator-back (pos d) p h = ap pos (mod-eq-of-lt (omega arith))
 denominator-back (negsuc d) p h = absurd (p .lt)
 
-pub number-after-write : (q : Rational) (b : Bytes) (i : ℕ) → i + 8 ≤ length b → Proper q → numberAt (putNumber q b i) i ≡ q
+pub number-after-write :
+    (q : Rational) (b : Bytes) (i : ℕ) → i + 8 ≤ length b → Proper q → numberAt (putNumber q b i) i ≡ q
 unfolding numberAt
 number-after-write q b i h p =
     let half : Bytes = put 4 (complement 4 (q .num)) b i in
@@ -150,12 +155,15 @@ makes r b i e = record { is = e; proper = rw e (numberAt-proper b i) }
 orZero-none : (n : ℤ) (d : ℕ) → d < 1 → orZero (frac n (pos d)) ≡ whole (pos 0)
 orZero-none n d h = rw (le-ltb 0 d (omega arith), and-false (inRange (frac n (pos d))))
 
-pub zero-without-denominator : (b : Bytes) (i d : ℕ) (r : Rational) → r ≡ whole (pos 0) → d ≡ le 4 b (i + 4) → d < 1 → Makes r (numberAt b i)
+pub zero-without-denominator :
+    (b : Bytes) (i d : ℕ) (r : Rational) → r ≡ whole (pos 0) → d ≡ le 4 b (i + 4) → d < 1 →
+    Makes r (numberAt b i)
 unfolding numberAt
 zero-without-denominator b i d r zero-is d-is none =
     makes r b i (zero-is ∙ sym (orZero-none (signed 4 (le 4 b i)) (le 4 b (i + 4)) (omega arith)))
 
-pub zero-without-room : (b : Bytes) (i : ℕ) (r : Rational) → r ≡ whole (pos 0) → length b < i + 8 → Makes r (numberAt b i)
+pub zero-without-room :
+    (b : Bytes) (i : ℕ) (r : Rational) → r ≡ whole (pos 0) → length b < i + 8 → Makes r (numberAt b i)
 zero-without-room b i r zero-is h =
     zero-without-denominator b i 0 r zero-is (sym (le-outside 4 b (i + 4) (omega arith))) (lit≤ tt)
 
@@ -172,7 +180,9 @@ orZero-refused : (q : Rational) → checked q ≡ OutOfRange → whole (pos 0) �
 unfolding checked
 orZero-refused q e = go (inRange q) e
   where
-    go : (t : Bool) → cond t (Value q) OutOfRange ≡ OutOfRange → whole (pos 0) ≡ cond (t && ltZ (pos 0) (q .den)) q (whole (pos 0))
+    go :
+        (t : Bool) → cond t (Value q) OutOfRange ≡ OutOfRange →
+        whole (pos 0) ≡ cond (t && ltZ (pos 0) (q .den)) q (whole (pos 0))
     go true e = cc
     go false e = refl
 
@@ -194,6 +204,9 @@ module _ (b : Bytes) (i v d : ℕ) (n : ℤ) (a : Checked) (v-is : v ≡ le 4 b 
   unfolding numberAt
   zero-out-of-range r zero-is e = makes r b i (zero-is ∙ orZero-refused _ (answered ∙ e))
 
-pub number-written : (q : Rational) (b half full : Bytes) (i n d : ℕ) → full ≡ put 4 d half (i + 4) → d ≡ complement 4 (R (q .den)) → half ≡ put 4 n b i → n ≡ complement 4 (R (q .num)) → SFits w64 (q .num) → SFits w64 (q .den) → i + 8 ≤ length b → full ≡ putNumber q b i
+pub number-written :
+    (q : Rational) (b half full : Bytes) (i n d : ℕ) → full ≡ put 4 d half (i + 4) →
+    d ≡ complement 4 (R (q .den)) → half ≡ put 4 n b i → n ≡ complement 4 (R (q .num)) → SFits w64 (q .num) →
+    SFits w64 (q .den) → i + 8 ≤ length b → full ≡ putNumber q b i
 number-written q b half full i n d full-is d-is half-is n-is n-fits d-fits h =
     cc (toZ-ofZ n-fits, toZ-ofZ d-fits, putNumber-inside q b i h)

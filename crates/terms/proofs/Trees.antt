@@ -14,7 +14,8 @@ use lib.Seq.{take-append-le, drop-append-le}
 use Rattle.terms.specs.Bytes.{Bytes}
 use Rattle.terms.specs.Term.{Term}
 use Rattle.terms.specs.Term.Terms.{nil, _▹_}
-use Rattle.terms.specs.Book.{maxRecords, count, recordOf, argBytes, numbers, arguments, earlier, nothing, node, forest, treeWithin, tree, height}
+use Rattle.terms.specs.Book.{maxRecords, count, recordOf, argBytes, numbers, arguments, earlier, nothing}
+use Rattle.terms.specs.Book.{node, forest, treeWithin, tree, height}
 
 -- a record number is below the most that there are, or the record has no bytes
 data Placed (b : Bytes) (i : ℕ) : Type 0 where
@@ -55,7 +56,9 @@ earlier-lower i a h = go (ltb a i) refl
     go false e = rw (lt-ltb i maxRecords h) (omega arith)
 
 -- what two functions share on lower numbers they share on the arguments
-pub forest-arguments : (f g : ℕ → Term) (i : ℕ) → i < maxRecords → ((a : ℕ) → height a < height i → f a ≡ g a) → (l : List ℕ) → forest f (arguments i l) ≡ forest g (arguments i l)
+pub forest-arguments :
+    (f g : ℕ → Term) (i : ℕ) → i < maxRecords → ((a : ℕ) → height a < height i → f a ≡ g a) → (l : List ℕ) →
+    forest f (arguments i l) ≡ forest g (arguments i l)
 unfolding forest arguments
 forest-arguments f g i h e [] = refl
 forest-arguments f g i h e (a ∷ l) = ap₂ _▹_ (e (earlier i a) (earlier-lower i a h)) (forest-arguments f g i h e l)
@@ -63,7 +66,9 @@ forest-arguments f g i h e (a ∷ l) = ap₂ _▹_ (e (earlier i a) (earlier-low
 -- ---- the depth does not matter
 
 -- a record with no bytes has no arguments
-no-bytes : (f : ℕ → Term) (b : Bytes) (i : ℕ) → recordOf b i ≡ [] → node i (recordOf b i) (forest f (arguments i (numbers (argBytes (recordOf b i))))) ≡ node i [] nil
+no-bytes :
+    (f : ℕ → Term) (b : Bytes) (i : ℕ) → recordOf b i ≡ [] →
+    node i (recordOf b i) (forest f (arguments i (numbers (argBytes (recordOf b i))))) ≡ node i [] nil
 unfolding forest arguments numbers
 no-bytes f b i e = rw e
 
@@ -81,7 +86,9 @@ low b i p = go (placed b i)
     go (outside h e) = e
 
 -- one step: the arguments' terms are the same
-step : (j k : ℕ) (b : Bytes) (i : ℕ) → ((a : ℕ) → height a < height i → treeWithin j b a ≡ treeWithin k b a) → treeWithin (suc j) b i ≡ treeWithin (suc k) b i
+step :
+    (j k : ℕ) (b : Bytes) (i : ℕ) → ((a : ℕ) → height a < height i → treeWithin j b a ≡ treeWithin k b a) →
+    treeWithin (suc j) b i ≡ treeWithin (suc k) b i
 unfolding treeWithin
 step j k b i same = go (placed b i)
   where
@@ -90,7 +97,8 @@ step j k b i same = go (placed b i)
         ap (node i (recordOf b i)) (forest-arguments (treeWithin j b) (treeWithin k b) i h same (numbers (argBytes (recordOf b i))))
     go (outside h e) = within-outside (suc j) b i e ∙ sym (within-outside (suc k) b i e)
 
-pub within-same : (j k : ℕ) (b : Bytes) (i : ℕ) → height i ≤ j → height i ≤ k → treeWithin j b i ≡ treeWithin k b i
+pub within-same :
+    (j k : ℕ) (b : Bytes) (i : ℕ) → height i ≤ j → height i ≤ k → treeWithin j b i ≡ treeWithin k b i
 within-same zero k b i p q = within-outside 0 b i (low b i p) ∙ sym (within-outside k b i (low b i p))
 within-same (suc j) zero b i p q = within-outside (suc j) b i (low b i q) ∙ sym (within-outside 0 b i (low b i q))
 within-same (suc j) (suc k) b i p q = step j k b i (λ a h. within-same j k b a (omega arith) (omega arith))
@@ -104,11 +112,15 @@ height-le i = go (ltb i maxRecords)
 
 -- ---- the term of a record
 
-pub tree-node : (b : Bytes) (i : ℕ) → tree b i ≡ node i (recordOf b i) (forest (tree b) (arguments i (numbers (argBytes (recordOf b i)))))
+pub tree-node :
+    (b : Bytes) (i : ℕ) →
+    tree b i ≡ node i (recordOf b i) (forest (tree b) (arguments i (numbers (argBytes (recordOf b i)))))
 unfolding tree treeWithin
 tree-node b i = go (placed b i)
   where
-    go : Placed b i → tree b i ≡ node i (recordOf b i) (forest (tree b) (arguments i (numbers (argBytes (recordOf b i)))))
+    go :
+        Placed b i →
+        tree b i ≡ node i (recordOf b i) (forest (tree b) (arguments i (numbers (argBytes (recordOf b i)))))
     go (inside h) =
         ap (node i (recordOf b i))
         (forest-arguments (treeWithin i b) (tree b) i h
@@ -117,13 +129,17 @@ tree-node b i = go (placed b i)
 
 -- ---- a term depends on its record and earlier ones alone
 
-within-agree : (k : ℕ) (b c : Bytes) (i : ℕ) → ((j : ℕ) → j ≤ i → recordOf b j ≡ recordOf c j) → treeWithin k b i ≡ treeWithin k c i
+within-agree :
+    (k : ℕ) (b c : Bytes) (i : ℕ) → ((j : ℕ) → j ≤ i → recordOf b j ≡ recordOf c j) →
+    treeWithin k b i ≡ treeWithin k c i
 unfolding treeWithin
 within-agree zero b c i same = refl
 within-agree (suc k) b c i same =
     rw (same i (omega arith)) (go (placed c i) (λ a l. within-agree k b c a (λ j p. same j (omega arith))))
   where
-    go : Placed c i → ((a : ℕ) → a < i → treeWithin k b a ≡ treeWithin k c a) → node i (recordOf c i) (forest (treeWithin k b) (arguments i (numbers (argBytes (recordOf c i))))) ≡ treeWithin (suc k) c i
+    go :
+        Placed c i → ((a : ℕ) → a < i → treeWithin k b a ≡ treeWithin k c a) →
+        node i (recordOf c i) (forest (treeWithin k b) (arguments i (numbers (argBytes (recordOf c i))))) ≡ treeWithin (suc k) c i
     go (outside h e) below = no-bytes (treeWithin k b) c i e ∙ sym (no-bytes (treeWithin k c) c i e)
     go (inside h) below =
         ap (node i (recordOf c i))

@@ -41,7 +41,9 @@ pub record Negative (n v : ℕ) (z : ℤ) : Type 0 where
   pub fits : SFits w64 z
   pub is : R z ≡ signed n v
 
-negative : (n v : ℕ) {z : ℤ} → z ≡ negsuc (256 ^ n - suc v) → 256 ^ n / 2 ≤ v → 256 ^ n - suc v < 2 ^ 63 → Negative n v z
+negative :
+    (n v : ℕ) {z : ℤ} → z ≡ negsuc (256 ^ n - suc v) → 256 ^ n / 2 ≤ v → 256 ^ n - suc v < 2 ^ 63 →
+    Negative n v z
 unfolding signed
 negative n v {z} e high small =
     let f : SFits w64 z = subst (SFits w64) (sym e) (record { sfits = small }) in
@@ -55,7 +57,9 @@ negative-four v small high = negative 4 v less high (omega arith)
         let h : v < 2 ^ 63 = omega arith in
         ap (λ (z : ℤ). z -ℤ pos 4294967296) (toZ-pos w64 h) ∙ rw (lt-ltb v 4294967296 small)
 
-pub negative-eight : (v : ℕ) → v < 18446744073709551616 → 9223372036854775808 ≤ v → Negative 8 v (negsuc 0 -ℤ toZ w64 (18446744073709551615 - v))
+pub negative-eight :
+    (v : ℕ) → v < 18446744073709551616 → 9223372036854775808 ≤ v →
+    Negative 8 v (negsuc 0 -ℤ toZ w64 (18446744073709551615 - v))
 negative-eight v small high = negative 8 v less high (omega arith)
   where
     less : negsuc 0 -ℤ toZ w64 (18446744073709551615 - v) ≡ negsuc (18446744073709551616 - suc v)
@@ -80,7 +84,8 @@ natural-back h = toZ-ofZ (natural-fits h) ∙ h .is
 natural-cut : {z : ℤ} {n : ℕ} → Natural z n → Natural (remZ (R z) (pos 4294967296)) (n % 4294967296)
 natural-cut h = record { is = ap (λ (x : ℤ). remZ x (pos 4294967296)) (natural-back h); small = omega arith }
 
-natural-over : {z : ℤ} {n : ℕ} → Natural z n → n < 4294967296 → Natural (pos 4294967295 -ℤ R z) (4294967296 - suc n)
+natural-over :
+    {z : ℤ} {n : ℕ} → Natural z n → n < 4294967296 → Natural (pos 4294967295 -ℤ R z) (4294967296 - suc n)
 natural-over {z} {n} h below =
     record { is = ap (λ (x : ℤ). pos 4294967295 -ℤ x) (natural-back h) ∙ difference n below; small = omega arith }
   where

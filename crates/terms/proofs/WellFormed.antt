@@ -26,7 +26,8 @@ use Rattle.terms.specs.declared.book.BookRead.the-variants.{Records}
 use Rattle.terms.proofs.Trees.{tree-node}
 use Rattle.terms.proofs.Truths.{both}
 use Rattle.terms.proofs.Records.{length-numbers}
-use Rattle.terms.proofs.Nodes.{Laid, an-integer, a-rational, a-vector, an-atom, an-operation, laid, node-integer, node-rational, node-vector, node-atom, node-operation}
+use Rattle.terms.proofs.Nodes.{Laid, an-integer, a-rational, a-vector, an-atom, an-operation, laid}
+use Rattle.terms.proofs.Nodes.{node-integer, node-rational, node-vector, node-atom, node-operation}
 use Rattle.terms.proofs.Nodes.{integer-number, real-number, vector-fields}
 use Rattle.terms.proofs.Accepted.{accepted-count, accepted-layout, accepted-sort}
 
@@ -77,7 +78,9 @@ is-vector r e =
     record { width = is-width (field2 r) (h .0); below = ltb-true (field1 r) (2 ^ field2 r) (h .1) }
 
 -- `i`, `r` and `v` say that the sort is 2, 3 or 4
-atom-sort : (i r v : Bool) (w : ℕ) (x : Bool) → cond v (isWidth w) x ≡ true → AtomSort (if i then int else if r then real else if v then bits w else bool)
+atom-sort :
+    (i r v : Bool) (w : ℕ) (x : Bool) → cond v (isWidth w) x ≡ true →
+    AtomSort (if i then int else if r then real else if v then bits w else bool)
 unfolding if_then_else_
 atom-sort true r v w x e = tt
 atom-sort false true v w x e = tt
@@ -85,13 +88,13 @@ atom-sort false false true w x e = is-width w e
 atom-sort false false false w x e = tt
 
 -- what an operation's record says of itself
-record Operates (i : ℕ) (r : Bytes) : Type 0 where
-  least : 1 ≤ operator r
-  most : operator r ≤ BvMul
-  counted : countOk (operator r) (argCount r) ≡ true
-  below : allBelow i (numbers (argBytes r)) ≡ true
+pub record Operates (i : ℕ) (r : Bytes) : Type 0 where
+  pub least : 1 ≤ operator r
+  pub most : operator r ≤ BvMul
+  pub counted : countOk (operator r) (argCount r) ≡ true
+  pub below : allBelow i (numbers (argBytes r)) ≡ true
 
-operates : (i : ℕ) (r : Bytes) → operationOk i r ≡ true → Operates i r
+pub operates : (i : ℕ) (r : Bytes) → operationOk i r ≡ true → Operates i r
 operates i r e =
     let h = both (leb 1 (operator r)) _ e in
     let k = both (leb (operator r) BvMul) _ (h .1) in
@@ -106,7 +109,10 @@ operates i r e =
 
 module _ (i : ℕ) (r : Bytes) (ts : Terms) where
   -- an operation's arguments are given as well formed, and as many as its record says
-  node-well-formed : Laid i r → sortOk (node i r ts) ≡ true → (kind r ≡ 5 → Operates i r → (length (sorts ts) ≡ argCount r) × AllWellFormed ts) → WellFormed (node i r ts)
+  node-well-formed :
+      Laid i r → sortOk (node i r ts) ≡ true →
+      (kind r ≡ 5 → Operates i r → (length (sorts ts) ≡ argCount r) × AllWellFormed ts) →
+      WellFormed (node i r ts)
   unfolding WellFormed
   node-well-formed (an-integer k e) s f =
       rw (node-integer i r ts k (integer-number r e)) tt
@@ -145,7 +151,9 @@ unfolding countOk if_then_else_
 countOk-most o n =
     go (eqb o Not || (eqb o ToReal || eqb o BvNeg)) (eqb o IntDiv || (eqb o RealDiv || eqb o BvSub)) (if eqb o Sub then 1 else 2)
   where
-    go : (s t : Bool) (m : ℕ) → (if s then eqb n 1 else if t then eqb n 2 else leb n 14 && leb m n) ≡ true → n ≤ 14
+    go :
+        (s t : Bool) (m : ℕ) → (if s then eqb n 1 else if t then eqb n 2 else leb n 14 && leb m n) ≡ true →
+        n ≤ 14
     go true t m e = omega (arith, eqb-true n 1 e)
     go false true m e = omega (arith, eqb-true n 2 e)
     go false false m e = leb-true n 14 (both (leb n 14) (leb m n) e .0)
@@ -154,7 +162,8 @@ pub length-recordOf : (b : Bytes) (i : ℕ) → i < count b → length (recordOf
 unfolding recordOf
 length-recordOf b i h = rw (lt-ltb i (count b) h) (simp (length-take, length-drop) (omega arith))
 
-pub length-argBytes : (r : Bytes) → kind r ≡ 5 → length r ≡ 32 → argCount r ≤ 14 → length (argBytes r) ≡ 2 * argCount r
+pub length-argBytes :
+    (r : Bytes) → kind r ≡ 5 → length r ≡ 32 → argCount r ≤ 14 → length (argBytes r) ≡ 2 * argCount r
 length-argBytes r k l h = rw k (simp (length-take, length-drop) (omega arith))
 
 pub length-sorts : (f : ℕ → Term) (i : ℕ) (l : List ℕ) → length (sorts (forest f (arguments i l))) ≡ length l
@@ -162,7 +171,9 @@ unfolding sorts forest arguments
 length-sorts f i [] = refl
 length-sorts f i (a ∷ l) = ap suc (length-sorts f i l)
 
-all-well-formed : (f : ℕ → Term) (i : ℕ) → ((a : ℕ) → a < i → WellFormed (f a)) → (l : List ℕ) → allBelow i l ≡ true → AllWellFormed (forest f (arguments i l))
+all-well-formed :
+    (f : ℕ → Term) (i : ℕ) → ((a : ℕ) → a < i → WellFormed (f a)) → (l : List ℕ) → allBelow i l ≡ true →
+    AllWellFormed (forest f (arguments i l))
 unfolding forest arguments allBelow WellFormed
 all-well-formed f i w [] e = tt
 all-well-formed f i w (a ∷ l) e =
@@ -173,7 +184,10 @@ all-well-formed f i w (a ∷ l) e =
 
 module _ (b : Bytes) (n : ℕ) (e : readBook b ≡ Records n) where
   -- as many arguments as the record says
-  arguments-counted : (i : ℕ) → i < n → kind (recordOf b i) ≡ 5 → countOk (operator (recordOf b i)) (argCount (recordOf b i)) ≡ true → length (argBytes (recordOf b i)) / 2 ≡ argCount (recordOf b i)
+  arguments-counted :
+      (i : ℕ) → i < n → kind (recordOf b i) ≡ 5 →
+      countOk (operator (recordOf b i)) (argCount (recordOf b i)) ≡ true →
+      length (argBytes (recordOf b i)) / 2 ≡ argCount (recordOf b i)
   arguments-counted i h k o =
       let r = recordOf b i in
       let all : length r ≡ 32 = length-recordOf b i (omega (arith, accepted-count b n e)) in

@@ -10,15 +10,20 @@ use lib.Dec.{eqb}
 use lib.IntN.{ℤ, pos, negsuc}
 use lib.ListN.{length, replicate, set}
 use Rattle.terms.specs.Pair.{pair, eqP}
-use Rattle.terms.specs.Rational.{frac, whole, gcd, gcdWithin, lowest, divQ, negQ, isZero, isInteger, inRange}
+use Rattle.terms.specs.Rational.{frac, whole, gcd, gcdWithin, lowest, divQ, negQ, isZero, isInteger}
+use Rattle.terms.specs.Rational.{inRange}
 use Rattle.terms.specs.Rational as Rational
 use Rattle.terms.specs.Bytes.{Bytes, le, digits, put, putDigits, signed, complement}
-use Rattle.terms.specs.Operator.{Not, And, Equals, LessThan, Add, Sub, IntDiv, RealDiv, ToReal, BvAdd, BvNeg}
+use Rattle.terms.specs.Operator.{Not, And, Equals, LessThan, Add, Sub, IntDiv, RealDiv, ToReal, BvAdd}
+use Rattle.terms.specs.Operator.{BvNeg}
 use Rattle.terms.specs.Term.{sort, sorts, sortCode, takes, gives, all, if_then_else_, unary, binary}
-use Rattle.terms.specs.Book.{recordOf, numbers, arguments, node, forest, treeWithin, tree, allZero, countOk, allBelow, layoutOk}
+use Rattle.terms.specs.Book.{recordOf, numbers, arguments, node, forest, treeWithin, tree, allZero}
+use Rattle.terms.specs.Book.{countOk, allBelow, layoutOk}
 use Rattle.terms.specs.Book.{sameBytes, stands, recordRead, readRecords, readBook}
-use Rattle.terms.specs.Readers.{asNumber, asSignedNumber, quotientOf, asUnsignedFraction, asFraction, asBitvector, removeNegation, bounded, ranged}
-use Rattle.terms.specs.Smtlib.{Assignment, asPair, value, meaning, every, any, chain, foldLeft, sumZ, productZ, divsEven}
+use Rattle.terms.specs.Readers.{asNumber, asSignedNumber, quotientOf, asUnsignedFraction, asFraction}
+use Rattle.terms.specs.Readers.{asBitvector, removeNegation, bounded, ranged}
+use Rattle.terms.specs.Smtlib.{Assignment, asPair, value, meaning, every, any, chain, foldLeft, sumZ}
+use Rattle.terms.specs.Smtlib.{productZ, divsEven}
 use Rattle.terms.specs.declared.book.BookRead.{BookRead}
 use Rattle.terms.specs.declared.book.BookRead.the-variants.{Records, RefusedAt}
 use Rattle.terms.specs.declared.term.BitVector.the-variants.{Bits}

@@ -1,0 +1,12 @@
+pub mod Limited
+pub mod LimitedLinear
+pub mod LimitedPolynomial
+pub mod Holds
+pub mod NonzeroNumbers
+pub mod NoZero
+pub mod Yields
+pub mod Valuations
+pub mod IndexMaps
+pub mod Walks
+pub mod LinearWalk
+pub mod LinearMeaning

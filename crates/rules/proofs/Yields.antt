@@ -1,0 +1,97 @@
+-- What holds of a result wherever it is not a refusal. A law about a function of specs/ goes along the
+-- function's own steps: what a step yields is handed on by `and-then`.
+--     Yields, at-ok       P holds of what is yielded; what it says of an `ok`
+--     and-then, weaker, guarded, by-test, by-if       along `>>=`; from P to Q; behind `assert`; along a test
+--     ranged-yields, plus-yields, times-yields, over-yields, fraction-yields       under a limit as without one
+use mathlib.Core.Path.{_≡_, refl, subst}
+use mathlib.Core.Bool.{Bool, true, false, _&&_, cond}
+use mathlib.Core.Option.{Option, some, none}
+use Prim.Native.Nat.{ℕ}
+use native.Mathlib.Omega.{arith}
+use lib.IntN.{natAbs}
+use Rattle.terms.specs.Rational.{Rational, addQ, mulQ, divQ}
+use Rattle.terms.specs.Term.{Term, if_then_else_}
+use Rattle.terms.specs.Readers.{within, bounded, unbounded, asFraction}
+use Rattle.terms.specs.declared.term.Reading.{Reading}
+use Rattle.terms.specs.declared.term.Reading.the-variants.{Value, NotNumber, OutOfRange}
+use Rattle.terms.proofs.Readings.{fraction-unbounded}
+use Rattle.rules.specs.Refusal.{Refusal, Result, _>>=_, assert}
+use Rattle.rules.specs.Refusal.Result.{ok, refused}
+use Rattle.rules.specs.Limits.{Limits, inLimit, numberOr, ranged, plus, times, over, fractionOf}
+
+pub data Yields {A : Type 0} (P : A → Type 0) : Result A → Type 0 where
+  gives : {a : A} → P a → Yields P (ok a)
+  refuses : {r : Refusal} → Yields P (refused r)
+
+pub at-ok : {A : Type 0} {P : A → Type 0} {x : Result A} → Yields P x → {a : A} → x ≡ ok a → P a
+at-ok {P = P} (gives {a = b} p) {a} e = let h : b ≡ a = cc in subst P h p
+at-ok refuses e = let z : _≡_ {A = ℕ} 0 1 = cc in absurd (omega arith)
+
+module _ {A B : Type 0} {P : A → Type 0} {Q : B → Type 0} where
+  pub and-then :
+      {x : Result A} {f : A → Result B} → Yields P x → ((a : A) → P a → Yields Q (f a)) → Yields Q (x >>= f)
+  unfolding _>>=_
+  and-then (gives {a} p) h = h a p
+  and-then refuses h = refuses
+
+pub weaker : {A : Type 0} {P Q : A → Type 0} {x : Result A} → ((a : A) → P a → Q a) → Yields P x → Yields Q x
+weaker h (gives {a} p) = gives (h a p)
+weaker h refuses = refuses
+
+pub guarded :
+    {A : Type 0} {P : A → Type 0} (t : Bool) (r : Refusal) {f : Unit {0} → Result A} →
+    ((u : Unit {0}) → Yields P (f u)) → Yields P (assert t r >>= f)
+unfolding _>>=_ assert
+guarded true r h = h tt
+guarded false r h = refuses
+
+-- along a test
+pub by-test :
+    {A : Type 0} {P : A → Type 0} (t : Bool) (x y : Result A) → (t ≡ true → Yields P x) →
+    (t ≡ false → Yields P y) → Yields P (elim t as (λ z. Result A) [ true ↦ x | false ↦ y ])
+by-test true x y f g = f refl
+by-test false x y f g = g refl
+
+pub by-if :
+    {A : Type 0} (P : A → Type 0) (t : Bool) (x y : A) → (t ≡ true → P x) → (t ≡ false → P y) →
+    P (if t then x else y)
+unfolding if_then_else_
+by-if P true x y f g = f refl
+by-if P false x y f g = g refl
+
+-- ---- numbers under a limit
+
+-- a number that is read under a limit is read without one
+abbrev pub ReadAs : Term → Option Rational → Type 0
+ReadAs t (some q) = asFraction unbounded t ≡ Value q
+ReadAs t none = Unit {0}
+
+module _ (l : Limits) where
+  pub ranged-yields : (q : Rational) → Yields (λ r. r ≡ q) (ranged l q)
+  unfolding ranged bounded
+  ranged-yields q = go (within (l .numbers) (natAbs (q .num)) && within (l .numbers) (natAbs (q .den)))
+    where
+      go : (t : Bool) → Yields (λ r. r ≡ q) (inLimit (cond t (Value q) OutOfRange))
+      go true = gives refl
+      go false = refuses
+
+  pub plus-yields : (a b : Rational) → Yields (λ r. r ≡ addQ a b) (plus l a b)
+  unfolding plus
+  plus-yields a b = ranged-yields (addQ a b)
+
+  pub times-yields : (a b : Rational) → Yields (λ r. r ≡ mulQ a b) (times l a b)
+  unfolding times
+  times-yields a b = ranged-yields (mulQ a b)
+
+  pub over-yields : (a b : Rational) → Yields (λ r. r ≡ divQ a b) (over l a b)
+  unfolding over
+  over-yields a b = ranged-yields (divQ a b)
+
+  pub fraction-yields : (t : Term) → Yields (ReadAs t) (fractionOf l t)
+  unfolding fractionOf
+  fraction-yields t = go (asFraction (l .numbers) t) refl
+    where
+      go : (r : Reading) → asFraction (l .numbers) t ≡ r → Yields (ReadAs t) (numberOr r)
+      go (Value q) e = gives (fraction-unbounded (l .numbers) t q e)
+      go NotNumber e = gives tt
+      go OutOfRange e = refuses

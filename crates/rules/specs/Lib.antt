@@ -1,0 +1,9 @@
+pub mod Refusal
+pub mod Limits
+pub mod IndexMap
+pub mod LinearComb
+pub mod LinearArithmetic
+pub mod Polynomial
+pub mod Premises
+pub mod Alethe
+pub mod Computes

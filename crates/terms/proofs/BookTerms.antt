@@ -1,0 +1,133 @@
+-- Terms are compared by their record numbers, and equal numbers mean equal terms only among the terms of one
+-- book. A predicate is `Closed` where it holds of such terms: with a term it holds of the term's arguments,
+-- and each term is well formed and known by its number. The terms of a book that is read without a refusal
+-- are closed (`book-closed`).
+use mathlib.Core.Path.{_≡_, refl, sym, _∙_, ap, subst}
+use mathlib.Core.Bool.{Bool, true, false, _&&_}
+use mathlib.Core.List.{List, [], _∷_}
+use Prim.Native.Nat.{ℕ, _<_}
+use native.Mathlib.Omega.{arith}
+use borrow.Author.Tests.{ltb-true, eqb-true}
+use lib.Dec.{ltb, eqb}
+use Rattle.terms.specs.Bytes.{Bytes, signed}
+use Rattle.terms.specs.Term.{Term, Terms, recordNumber, same, if_then_else_}
+use Rattle.terms.specs.Term.Term.{integer, rational, bitvector, atom, op}
+use Rattle.terms.specs.Term.Terms.{nil, _▹_}
+use Rattle.terms.specs.Book.{recordOf, kind, operator, field1, field2, realOf, integerOf, isNumber}
+use Rattle.terms.specs.Book.{isVector, atomSort, numbers, argBytes}
+use Rattle.terms.specs.Book.{arguments, node, forest, tree, allBelow, readBook}
+use Rattle.terms.specs.Smtlib.{evenDiv, divsEven, allDivsEven}
+use Rattle.terms.specs.declared.book.BookRead.the-variants.{Records}
+use Rattle.terms.proofs.Trees.{tree-node}
+use Rattle.terms.proofs.Truths.{both}
+use Rattle.terms.proofs.Accepted.{accepted-layout}
+use Rattle.terms.proofs.Nodes.{Laid, an-integer, a-rational, a-vector, an-atom, an-operation, laid}
+use Rattle.terms.proofs.WellFormed.{WellFormed, operates, well-formed}
+
+abbrev pub Each : (Term → Type 0) → Terms → Type 0
+Each P nil = Unit {0}
+Each P (t ▹ ts) = P t × Each P ts
+
+pub record Closed (P : Term → Type 0) : Type 0 where
+  pub formed : (t : Term) → P t → WellFormed t
+  pub below : (i o : ℕ) (ts : Terms) → P (op i o ts) → Each P ts
+  pub known : (s t : Term) → P s → P t → same s t ≡ true → s ≡ t
+
+-- ---- one more condition that goes down to the arguments
+
+each-both : (P Q : Term → Type 0) (ts : Terms) → Each P ts → Each Q ts → Each (λ t. P t × Q t) ts
+each-both P Q nil p q = tt
+each-both P Q (t ▹ ts) (p, ps) (q, qs) = ((p, q), each-both P Q ts ps qs)
+
+pub closed-and :
+    {P Q : Term → Type 0} → Closed P → ((i o : ℕ) (ts : Terms) → Q (op i o ts) → Each Q ts) →
+    Closed (λ t. P t × Q t)
+closed-and {P} {Q} c q =
+    record {
+      formed = λ t h. c .formed t (h .0);
+      below = λ i o ts h. each-both P Q ts (c .below i o ts (h .0)) (q i o ts (h .1));
+      known = λ s t g h. c .known s t (g .0) (h .0);
+    }
+
+-- the premise on div is such a condition
+pub even-below : (i o : ℕ) (ts : Terms) → divsEven (op i o ts) ≡ true → Each (λ t. divsEven t ≡ true) ts
+unfolding divsEven
+even-below i o ts e = all ts (both (evenDiv o ts) (allDivsEven ts) e .1)
+  where
+    all : (ts : Terms) → allDivsEven ts ≡ true → Each (λ t. divsEven t ≡ true) ts
+    all nil e = tt
+    all (t ▹ ts) e = let h = both (divsEven t) (allDivsEven ts) e in (h .0, all ts (h .1))
+
+-- ---- the terms of a book
+
+-- t is the term of one of the first n records
+pub record OfBook (b : Bytes) (n : ℕ) (t : Term) : Type 0 where
+  pub number : ℕ
+  pub inside : number < n
+  pub is : t ≡ tree b number
+
+-- what the node of record i with bytes r and arguments us is
+record Node (i : ℕ) (r : Bytes) (us : Terms) (t : Term) : Type 0 where
+  numbered : recordNumber t ≡ i
+  operation : (j o : ℕ) (ts : Terms) → t ≡ op j o ts → (kind r ≡ 5) × (us ≡ ts)
+
+node-is : (i : ℕ) (r : Bytes) (us : Terms) → Node i r us (node i r us)
+unfolding node if_then_else_
+node-is i r us =
+    go (eqb (kind r) 1 && isNumber (integerOf r)) (eqb (kind r) 2 && isNumber (realOf r))
+    (eqb (kind r) 3 && isVector r) (eqb (kind r) 5) refl
+  where
+    go :
+        (s t u v : Bool) → eqb (kind r) 5 ≡ v →
+        Node i r us (if s then integer i (signed 8 (field1 r)) else if t then rational i (realOf r) else if u then bitvector i (field1 r) (field2 r) else if v then op i (operator r) us else atom i (atomSort r) (field1 r))
+    go true t u v k = record { numbered = refl; operation = λ j o ts e. (cc, cc) }
+    go false true u v k = record { numbered = refl; operation = λ j o ts e. (cc, cc) }
+    go false false true v k = record { numbered = refl; operation = λ j o ts e. (cc, cc) }
+    go false false false true k =
+        record { numbered = refl; operation = λ j o ts e. (eqb-true (kind r) 5 k, cc) }
+    go false false false false k = record { numbered = refl; operation = λ j o ts e. (cc, cc) }
+
+pub recordNumber-tree : (b : Bytes) (i : ℕ) → recordNumber (tree b i) ≡ i
+recordNumber-tree b i = ap recordNumber (tree-node b i) ∙ node-is i (recordOf b i) _ .numbered
+
+-- what holds of the terms of earlier records holds of the arguments
+each-argument :
+    (P : Term → Type 0) (f : ℕ → Term) (i : ℕ) → ((a : ℕ) → a < i → P (f a)) → (l : List ℕ) →
+    allBelow i l ≡ true → Each P (forest f (arguments i l))
+unfolding forest arguments allBelow
+each-argument P f i p [] e = tt
+each-argument P f i p (a ∷ l) e =
+    let h = both (ltb a i) (allBelow i l) e in
+    (rw (h .0) (p a (ltb-true a i (h .0))), each-argument P f i p l (h .1))
+
+-- an operation's arguments are earlier records
+laid-below : (i : ℕ) (r : Bytes) → Laid i r → kind r ≡ 5 → allBelow i (numbers (argBytes r)) ≡ true
+laid-below i r (an-integer k e) h = absurd (omega arith)
+laid-below i r (a-rational k e) h = absurd (omega arith)
+laid-below i r (a-vector k e) h = absurd (omega arith)
+laid-below i r (an-atom k e) h = absurd (omega arith)
+laid-below i r (an-operation k e) h = operates i r e .below
+
+module _ (b : Bytes) (n : ℕ) (e : readBook b ≡ Records n) where
+  book-below : (i o : ℕ) (ts : Terms) → OfBook b n (op i o ts) → Each (OfBook b n) ts
+  book-below i o ts h =
+      let j = h .number in
+      let r = recordOf b j in
+      let p = node-is j r _ .operation i o ts (sym (tree-node b j) ∙ sym (h .is)) in
+      subst (Each (OfBook b n)) (p .1)
+      (each-argument (OfBook b n) (tree b) j
+      (λ a l. record { number = a; inside = omega (arith, h .inside); is = refl })
+      (numbers (argBytes r)) (laid-below j r (laid j r (accepted-layout b n e j (h .inside))) (p .0)))
+
+  number-of : (t : Term) (h : OfBook b n t) → recordNumber t ≡ h .number
+  number-of t h = ap recordNumber (h .is) ∙ recordNumber-tree b (h .number)
+
+  pub book-closed : Closed (OfBook b n)
+  book-closed =
+      record {
+        formed = λ t h. subst WellFormed (sym (h .is)) (well-formed b n e (h .number) (h .inside));
+        below = book-below;
+        known = λ s t g h q.
+            let m = sym (number-of s g) ∙ eqb-true (recordNumber s) (recordNumber t) q ∙ number-of t h in
+            g .is ∙ ap (tree b) m ∙ sym (h .is);
+      }
