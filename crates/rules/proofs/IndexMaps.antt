@@ -143,7 +143,7 @@ module _ {K : Type 0} {keys : Keys K} (S : Values keys) where
         Yields (λ r. Totals r (total m + entry k q)) (enter keys l n m k q)
     unfolding enter total
     enter-totals n [] k q gs g =
-        guarded _ _ λ u.
+        guarded _ _ λ t u.
         gives (record { good = (g, tt); is = solve R (entry k q ∷ []) (λ x. x ⊕ 𝟘 ≐ 𝟘 ⊕ x) tt })
     enter-totals n (e ∷ m) k q (ge, gs) g =
         by-test (keys .same (e .0) k) _ _

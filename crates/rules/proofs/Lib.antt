@@ -1,7 +1,6 @@
 pub mod Limited
 pub mod LimitedLinear
 pub mod LimitedPolynomial
-pub mod Holds
 pub mod NonzeroNumbers
 pub mod NoZero
 pub mod Yields
@@ -10,3 +9,16 @@ pub mod IndexMaps
 pub mod Walks
 pub mod LinearWalk
 pub mod LinearMeaning
+pub mod Inferred
+pub mod WholeNumbers
+pub mod Monomials
+pub mod PolynomialProducts
+pub mod TermReadings
+pub mod PolynomialCases
+pub mod PolynomialWalk
+pub mod NumberReadings
+pub mod VectorReadings
+pub mod PolynomialValues
+pub mod PolynomialMeaning
+pub mod Reductions
+pub mod PolynomialsEqual

@@ -46,9 +46,8 @@ pub record Represents (P : Term → Type 0) (t : Term) (s : LinearComb) : Type 0
   pub kept : CombinationOf P Lowest s
   pub meant : (ρ : Assignment) → asPair (value ρ t) ≈ combinationAt ρ s
 
--- some assignment
-blank : Assignment
-blank = record { truths = λ i. false; integers = λ i. pos 0; reals = λ i. wholeP (pos 0); vectors = λ i. 0 }
+pub some-assignment : Assignment
+some-assignment = record { truths = λ i. false; integers = λ i. pos 0; reals = λ i. wholeP (pos 0); vectors = λ i. 0 }
 
 module _ {P : Term → Type 0} (closed : Closed P) where
   -- what atoms stand for
@@ -136,7 +135,7 @@ module _ {P : Term → Type 0} (closed : Closed P) where
           (added .is) (worth-is ρ (w .sum)) (new-amounts (at ρ) .is) (rationals .number-whole (pos 1)))
 
     pub linear-meaning : Represents P t (w .sum)
-    linear-meaning = record { kept = added blank .good; meant = value-kept }
+    linear-meaning = record { kept = added some-assignment .good; meant = value-kept }
 
 -- every term of a book that is read without a refusal
 pub record-linear-meaning :

@@ -3,48 +3,39 @@
 -- multiplied by a number that is not 0. So the test before the division in `inferred` never refuses
 -- (`inferred-untested`, `literal-untested`).
 use mathlib.Core.Path.{_≡_, refl}
-use mathlib.Core.Bool.{Bool, true, false, cond, _&&_, _||_}
+use mathlib.Core.Bool.{false, _&&_, _||_}
 use mathlib.Core.Option.{Option, some, none}
 use mathlib.Core.List.{List, [], _∷_}
 use Prim.Native.Nat.{ℕ, suc}
 use lib.Dec.{eqb}
-use lib.IntN.{ℤ, pos, natAbs}
+use lib.IntN.{ℤ, pos}
 use Rattle.terms.specs.Rational.{Rational, whole, mulQ, negQ, isZero, eqQ}
 use Rattle.terms.specs.Term.{Term, Terms}
 use Rattle.terms.specs.Term.Term.{integer, rational, bitvector, atom, op}
 use Rattle.terms.specs.Term.Terms.{nil, _▹_}
 use Rattle.terms.specs.Operator.{LessThan, LessEq, GreaterThan, GreaterEq}
-use Rattle.terms.specs.Readers.{within, bounded}
-use Rattle.terms.specs.declared.term.Reading.the-variants.{Value, OutOfRange}
+use Rattle.terms.specs.Readers.{within}
 use Rattle.rules.specs.Refusal.{Result, _>>=_, assert, orElse}
-use Rattle.rules.specs.Refusal.Result.{ok, refused}
+use Rattle.rules.specs.Refusal.Result.{refused}
 use Rattle.rules.specs.Refusal.Refusal.{visitLimit, polynomialSize, invalidDisequalityOp, notUnit}
 use Rattle.rules.specs.Refusal.Refusal.{coeffNotFound}
-use Rattle.rules.specs.Limits.{Limits, inLimit, ranged, times, plus, over, fractionOf}
+use Rattle.rules.specs.Limits.{Limits, times, plus, over, fractionOf}
 use Rattle.rules.specs.IndexMap.{Map, Combination, Keys, Walked, walked, new, combination, lastFirst}
 use Rattle.rules.specs.IndexMap.{swapRemove, negAll, scaleAll, get, enter, insert, insertAll, add, neg}
 use Rattle.rules.specs.IndexMap.{sub, visit, addEntry, addConstant}
 use Rattle.rules.specs.LinearComb.{LinearComb, terms, mul, coefficientsGcd, armOf, addLeaf, factorsOf}
 use Rattle.rules.specs.LinearComb.{addTerm, addArgs, addDifference, addFirst, addSecond, fromTerm}
-use Rattle.rules.specs.LinearArithmetic.{Clause, Progress, inner, twoSides, negateDisequality, turned}
+use Rattle.rules.specs.LinearArithmetic.{Clause, Disequality, Progress, inner, twoSides}
+use Rattle.rules.specs.LinearArithmetic.{negateDisequality, turned}
 use Rattle.rules.specs.LinearArithmetic.{disequalityOf, isIntegerTimes, raised, floored, strengthen}
 use Rattle.rules.specs.LinearArithmetic.{inferred, argumentOf, strengthened, scalar, processDisequality}
 use Rattle.rules.specs.LinearArithmetic.{foldLiterals}
 use Rattle.rules.proofs.NonzeroNumbers.{negQ-nonzero, mulQ-nonzero}
-use Rattle.rules.proofs.Holds.{Holds, of-ok, weaken, after, past, by-test, by-if, by-option, by-arm}
-use Rattle.rules.proofs.Holds.{by-factors}
-use Rattle.rules.proofs.Holds.Holds.{holds, refusal}
+use Rattle.rules.proofs.Yields.{Yields, and-then, past, weaker, by-test, by-if, by-option, by-arm}
+use Rattle.rules.proofs.Yields.{by-factors, ranged-yields}
+use Rattle.rules.proofs.Yields.Yields.{gives}
 
 -- ---- maps
-
--- a number that is in range is returned as it is
-ranged-exact : (l : Limits) (q : Rational) → Holds (λ r. r ≡ q) (ranged l q)
-unfolding ranged bounded
-ranged-exact l q = at (within (l .numbers) (natAbs (q .num)) && within (l .numbers) (natAbs (q .den)))
-  where
-    at : (c : Bool) → Holds (λ r. r ≡ q) (inLimit (cond c (Value q) OutOfRange))
-    at true = holds refl
-    at false = refusal
 
 pub data NoZero {K : Type 0} : Map K → Type 0 where
   empty : NoZero []
@@ -82,103 +73,99 @@ module _ {K : Type 0} where
   neg-nonzero a h = negAll-nonzero (a .entries) h
 
   scaleAll-nonzero : (l : Limits) (q : Rational) (m : Map K) → isZero q ≡ false → NoZero m →
-      Holds NoZero (scaleAll l q m)
+      Yields NoZero (scaleAll l q m)
   unfolding scaleAll times
-  scaleAll-nonzero l q [] y h = holds empty
+  scaleAll-nonzero l q [] y h = gives empty
   scaleAll-nonzero l q (e ∷ m) y (entry z h) =
-      after (ranged-exact l (mulQ (e .1) q)) λ v x.
-      after (scaleAll-nonzero l q m y h) λ r g. holds (entry (rw x (mulQ-nonzero (e .1) q z y)) g)
+      and-then (ranged-yields l (mulQ (e .1) q)) λ v x.
+      and-then (scaleAll-nonzero l q m y h) λ r g. gives (entry (rw x (mulQ-nonzero (e .1) q z y)) g)
 
 module _ {K : Type 0} (keys : Keys K) (l : Limits) where
   enter-nonzero : (n : ℕ) (m : Map K) (key : K) (v : Rational) → isZero v ≡ false → NoZero m →
-      Holds NoZero (enter keys l n m key v)
+      Yields NoZero (enter keys l n m key v)
   unfolding enter
   enter-nonzero n [] key v z h =
-      past (assert (within (keys .most l) (suc n)) polynomialSize) λ u. holds (entry z empty)
+      past (assert (within (keys .most l) (suc n)) polynomialSize) λ u. gives (entry z empty)
   enter-nonzero n (e ∷ m) key v z (entry y h) =
-      by-test (keys .same (e .0) key)
+      by-test (keys .same (e .0) key) _ _
       (λ s. past (plus l (e .1) v) λ q.
-      by-if (isZero q) (λ t. holds (swapRemove-nonzero m h)) (λ t. holds (entry t h)))
-      (λ s. after (enter-nonzero (suc n) m key v z h) λ r g. holds (entry y g))
+      gives (by-if NoZero (isZero q) _ _ (λ t. swapRemove-nonzero m h) (λ t. entry t h)))
+      (λ s. and-then (enter-nonzero (suc n) m key v z h) λ r g. gives (entry y g))
 
-  insert-nonzero : (m : Map K) (key : K) (v : Rational) → NoZero m → Holds NoZero (insert keys l m key v)
+  insert-nonzero : (m : Map K) (key : K) (v : Rational) → NoZero m → Yields NoZero (insert keys l m key v)
   unfolding insert
-  insert-nonzero m key v h = by-test (isZero v) (λ z. holds h) (λ z. enter-nonzero 0 m key v z h)
+  insert-nonzero m key v h = by-test (isZero v) _ _ (λ z. gives h) (λ z. enter-nonzero 0 m key v z h)
 
-  insertAll-nonzero : (m r : Map K) → NoZero m → Holds NoZero (insertAll keys l m r)
+  insertAll-nonzero : (m r : Map K) → NoZero m → Yields NoZero (insertAll keys l m r)
   unfolding insertAll
-  insertAll-nonzero m [] h = holds h
-  insertAll-nonzero m (e ∷ r) h = after (insert-nonzero m (e .0) (e .1) h) λ n g. insertAll-nonzero n r g
+  insertAll-nonzero m [] h = gives h
+  insertAll-nonzero m (e ∷ r) h = and-then (insert-nonzero m (e .0) (e .1) h) λ n g. insertAll-nonzero n r g
 
   -- of the combination that is added nothing is asked
-  pub add-nonzero : (a b : Combination K) → SumNoZero a → Holds SumNoZero (add keys l a b)
+  pub add-nonzero : (a b : Combination K) → SumNoZero a → Yields SumNoZero (add keys l a b)
   unfolding add
   add-nonzero a b h =
-      after (insertAll-nonzero (a .entries) (b .entries) h) λ m g.
-      past (plus l (a .constant) (b .constant)) λ c. holds g
+      and-then (insertAll-nonzero (a .entries) (b .entries) h) λ m g.
+      past (plus l (a .constant) (b .constant)) λ c. gives g
 
-  pub sub-nonzero : (a b : Combination K) → SumNoZero a → Holds SumNoZero (sub keys l a b)
+  pub sub-nonzero : (a b : Combination K) → SumNoZero a → Yields SumNoZero (sub keys l a b)
   unfolding sub
   sub-nonzero a b h = add-nonzero a (neg b) h
 
   addEntry-nonzero : (key : K) (v : Rational) (w : Walked K) → WalkNoZero w →
-      Holds WalkNoZero (addEntry keys l key v w)
+      Yields WalkNoZero (addEntry keys l key v w)
   unfolding addEntry
-  addEntry-nonzero key v w h = after (insert-nonzero (w .sum .entries) key v h) λ m g. holds g
+  addEntry-nonzero key v w h = and-then (insert-nonzero (w .sum .entries) key v h) λ m g. gives g
 
 module _ {K : Type 0} (l : Limits) where
-  visit-nonzero : (w : Walked K) → WalkNoZero w → Holds WalkNoZero (visit l w)
+  visit-nonzero : (w : Walked K) → WalkNoZero w → Yields WalkNoZero (visit l w)
   unfolding visit
-  visit-nonzero w h = past (assert (within (l .visits) (suc (w .visits))) visitLimit) λ u. holds h
+  visit-nonzero w h = past (assert (within (l .visits) (suc (w .visits))) visitLimit) λ u. gives h
 
-  addConstant-nonzero : (q : Rational) (w : Walked K) → WalkNoZero w → Holds WalkNoZero (addConstant l q w)
+  addConstant-nonzero : (q : Rational) (w : Walked K) → WalkNoZero w → Yields WalkNoZero (addConstant l q w)
   unfolding addConstant
-  addConstant-nonzero q w h = past (plus l (w .sum .constant) q) λ c. holds h
+  addConstant-nonzero q w h = past (plus l (w .sum .constant) q) λ c. gives h
 
 -- ---- linear combinations
 
-turned-holds : (o : ℕ) (s : LinearComb) (n : ℕ) → SumNoZero s →
-    Holds (λ d. SumNoZero (d .sum)) (ok (turned o s n))
-unfolding turned
-turned-holds o s n h =
-    by-if (eqb o LessThan) (λ e. holds (neg-nonzero s h)) λ e.
-    by-if (eqb o LessEq) (λ e. holds (neg-nonzero s h)) λ e. holds h
-
 pub turned-nonzero : (o : ℕ) (s : LinearComb) (n : ℕ) → SumNoZero s → SumNoZero (turned o s n .sum)
-turned-nonzero o s n h = of-ok (turned-holds o s n h)
+unfolding turned
+turned-nonzero o s n h =
+    by-if (λ (d : Disequality). SumNoZero (d .sum)) (eqb o LessThan) _ _ (λ e. neg-nonzero s h) λ e.
+    by-if (λ (d : Disequality). SumNoZero (d .sum)) (eqb o LessEq) _ _ (λ e. neg-nonzero s h) λ e. h
 
 module _ (l : Limits) where
   -- by any number: 0 leaves no entries
-  pub mul-nonzero : (s : LinearComb) (q : Rational) → SumNoZero s → Holds SumNoZero (mul l s q)
+  pub mul-nonzero : (s : LinearComb) (q : Rational) → SumNoZero s → Yields SumNoZero (mul l s q)
   unfolding mul
   mul-nonzero s q h =
-      by-test (isZero q) (λ z. holds empty) λ z.
-      by-test (eqQ q (whole (pos 1))) (λ e. holds h) λ e.
-      after (scaleAll-nonzero l q (s .entries) z h) λ m g. past (times l (s .constant) q) λ c. holds g
+      by-test (isZero q) _ _ (λ z. gives empty) λ z.
+      by-test (eqQ q (whole (pos 1))) _ _ (λ e. gives h) λ e.
+      and-then (scaleAll-nonzero l q (s .entries) z h) λ m g. past (times l (s .constant) q) λ c. gives g
 
   addAtom-nonzero : (t : Term) (c : Rational) (w : Walked Term) → WalkNoZero w →
-      Holds WalkNoZero (addEntry terms l t c w)
+      Yields WalkNoZero (addEntry terms l t c w)
   addAtom-nonzero = addEntry-nonzero terms l
 
   addLeaf-nonzero : (t : Term) (c : Rational) (w : Walked Term) → WalkNoZero w →
-      Holds WalkNoZero (addLeaf l t c w)
+      Yields WalkNoZero (addLeaf l t c w)
   unfolding addLeaf
   addLeaf-nonzero t c w h =
       past (fractionOf l t) λ f.
-      by-option f (λ q. past (times l q c) λ r. addConstant-nonzero l r w h) (addAtom-nonzero t c w h)
+      by-option (λ x. Unit {0}) (λ q u. past (times l q c) λ r. addConstant-nonzero l r w h) (λ u. addAtom-nonzero t c w h) f tt
 
   mutual
     unfolding addTerm
 
     pub addTerm-nonzero : (t : Term) (c : Rational) (w : Walked Term) → WalkNoZero w →
-        Holds WalkNoZero (addTerm t l c w)
-    addTerm-nonzero (integer i v) c w h = after (visit-nonzero l w h) (addLeaf-nonzero (integer i v) c)
-    addTerm-nonzero (rational i q) c w h = after (visit-nonzero l w h) (addLeaf-nonzero (rational i q) c)
+        Yields WalkNoZero (addTerm t l c w)
+    addTerm-nonzero (integer i v) c w h = and-then (visit-nonzero l w h) (addLeaf-nonzero (integer i v) c)
+    addTerm-nonzero (rational i q) c w h = and-then (visit-nonzero l w h) (addLeaf-nonzero (rational i q) c)
     addTerm-nonzero (bitvector i v n) c w h =
-        after (visit-nonzero l w h) (addLeaf-nonzero (bitvector i v n) c)
-    addTerm-nonzero (atom i s n) c w h = after (visit-nonzero l w h) (addLeaf-nonzero (atom i s n) c)
+        and-then (visit-nonzero l w h) (addLeaf-nonzero (bitvector i v n) c)
+    addTerm-nonzero (atom i s n) c w h = and-then (visit-nonzero l w h) (addLeaf-nonzero (atom i s n) c)
     addTerm-nonzero (op i o ts) c w h =
-        after (visit-nonzero l w h) λ v g.
+        and-then (visit-nonzero l w h) λ v g.
         by-arm (armOf o ts)
         (addArgs-nonzero ts c v g)
         (addArgs-nonzero ts (negQ c) v g)
@@ -191,79 +178,79 @@ module _ (l : Limits) where
         (addLeaf-nonzero (op i o ts) c v g)
 
     addArgs-nonzero : (ts : Terms) (c : Rational) (w : Walked Term) → WalkNoZero w →
-        Holds WalkNoZero (addArgs ts l c w)
-    addArgs-nonzero nil c w h = holds h
-    addArgs-nonzero (t ▹ ts) c w h = after (addTerm-nonzero t c w h) λ v g. addArgs-nonzero ts c v g
+        Yields WalkNoZero (addArgs ts l c w)
+    addArgs-nonzero nil c w h = gives h
+    addArgs-nonzero (t ▹ ts) c w h = and-then (addTerm-nonzero t c w h) λ v g. addArgs-nonzero ts c v g
 
     addDifference-nonzero : (ts : Terms) (c : Rational) (w : Walked Term) → WalkNoZero w →
-        Holds WalkNoZero (addDifference ts l c w)
-    addDifference-nonzero nil c w h = holds h
+        Yields WalkNoZero (addDifference ts l c w)
+    addDifference-nonzero nil c w h = gives h
     addDifference-nonzero (t ▹ ts) c w h =
-        after (addTerm-nonzero t c w h) λ v g. addArgs-nonzero ts (negQ c) v g
+        and-then (addTerm-nonzero t c w h) λ v g. addArgs-nonzero ts (negQ c) v g
 
     addFirst-nonzero : (ts : Terms) (c : Rational) (w : Walked Term) → WalkNoZero w →
-        Holds WalkNoZero (addFirst ts l c w)
-    addFirst-nonzero nil c w h = holds h
+        Yields WalkNoZero (addFirst ts l c w)
+    addFirst-nonzero nil c w h = gives h
     addFirst-nonzero (t ▹ ts) c w h = addTerm-nonzero t c w h
 
     addSecond-nonzero : (ts : Terms) (c : Rational) (w : Walked Term) → WalkNoZero w →
-        Holds WalkNoZero (addSecond ts l c w)
-    addSecond-nonzero nil c w h = holds h
+        Yields WalkNoZero (addSecond ts l c w)
+    addSecond-nonzero nil c w h = gives h
     addSecond-nonzero (t ▹ ts) c w h = addFirst-nonzero ts c w h
 
-  pub fromTerm-nonzero : (t : Term) (n : ℕ) → Holds WalkNoZero (fromTerm l t n)
+  pub fromTerm-nonzero : (t : Term) (n : ℕ) → Yields WalkNoZero (fromTerm l t n)
   unfolding fromTerm
   fromTerm-nonzero t n = addTerm-nonzero t (whole (pos 1)) (walked new n) empty
 
   -- ---- disequalities
 
-  negateDisequality-nonzero : (phi : Term) (n : ℕ) → Holds (λ r. SumNoZero (r .1)) (negateDisequality l phi n)
+  negateDisequality-nonzero : (phi : Term) (n : ℕ) → Yields (λ r. SumNoZero (r .1)) (negateDisequality l phi n)
   unfolding negateDisequality
   negateDisequality-nonzero phi n =
       past (orElse (inner phi) invalidDisequalityOp) λ (o, args).
       past (twoSides args) λ (a, b).
-      after (fromTerm-nonzero a n) λ s1 h. past (fromTerm l b (s1 .visits)) λ s2. holds h
+      and-then (fromTerm-nonzero a n) λ s1 h. past (fromTerm l b (s1 .visits)) λ s2. gives h
 
-  pub disequalityOf-nonzero : (phi : Term) (n : ℕ) → Holds (λ d. SumNoZero (d .sum)) (disequalityOf l phi n)
+  pub disequalityOf-nonzero : (phi : Term) (n : ℕ) → Yields (λ d. SumNoZero (d .sum)) (disequalityOf l phi n)
   unfolding disequalityOf
   disequalityOf-nonzero phi n =
-      after (negateDisequality-nonzero phi n) λ (o, s1, s2, visits) h.
-      after (sub-nonzero terms l s1 s2 h) λ s g.
-      turned-holds o (combination (s .entries) (negQ (s .constant))) visits g
+      and-then (negateDisequality-nonzero phi n) λ (o, s1, s2, visits) h.
+      and-then (sub-nonzero terms l s1 s2 h) λ s g.
+      gives (turned-nonzero o (combination (s .entries) (negQ (s .constant))) visits g)
 
-  raised-nonzero : (s : LinearComb) (z : ℤ) → SumNoZero s → Holds (λ r. SumNoZero (r .1)) (raised l s z)
+  raised-nonzero : (s : LinearComb) (z : ℤ) → SumNoZero s → Yields (λ r. SumNoZero (r .1)) (raised l s z)
   unfolding raised
-  raised-nonzero s z h = past (plus l (s .constant) (whole z)) λ c. holds h
+  raised-nonzero s z h = past (plus l (s .constant) (whole z)) λ c. gives h
 
   pub strengthen-nonzero : (o : ℕ) (s : LinearComb) (a : Rational) → SumNoZero s →
-      Holds (λ r. SumNoZero (r .1)) (strengthen l o s a)
+      Yields (λ r. SumNoZero (r .1)) (strengthen l o s a)
   unfolding strengthen
   strengthen-nonzero o s a h =
-      by-test (eqb o GreaterEq && isIntegerTimes (s .constant) a) (λ e. holds h) λ e.
-      by-test (eqb o GreaterThan && isIntegerTimes (s .constant) a)
+      by-test (eqb o GreaterEq && isIntegerTimes (s .constant) a) _ _ (λ e. gives h) λ e.
+      by-test (eqb o GreaterThan && isIntegerTimes (s .constant) a) _ _
       (λ e. raised-nonzero (floored s) (coefficientsGcd (floored s)) h) λ e.
-      by-test (eqb o GreaterThan || eqb o GreaterEq) (λ e. raised-nonzero (floored s) (pos 1) h) λ e. holds h
+      by-test (eqb o GreaterThan || eqb o GreaterEq) _ _ (λ e. raised-nonzero (floored s) (pos 1) h) λ e. gives h
 
   -- ---- the fold of la_generic
 
   pub processDisequality-nonzero : (p : Progress) (phi : Term) (arg : Option Rational) → SumNoZero (p .acc) →
-      Holds (λ q. SumNoZero (q .acc)) (processDisequality l p phi arg)
+      Yields (λ q. SumNoZero (q .acc)) (processDisequality l p phi arg)
   unfolding processDisequality
   processDisequality-nonzero p phi arg h =
       past (disequalityOf l phi (p .visits)) λ d.
       past (argumentOf l p (d .sum) arg) λ (a, trace).
       past (strengthened l (d .operator) (d .sum) a) λ (o, s).
       past (mul l s (scalar o a)) λ scaled.
-      after (add-nonzero terms l (p .acc) scaled h) λ acc g. holds g
+      and-then (add-nonzero terms l (p .acc) scaled h) λ acc g. gives g
 
   pub foldLiterals-nonzero : (c : Clause) (args : List Rational) (p : Progress) → SumNoZero (p .acc) →
-      Holds (λ q. SumNoZero (q .acc)) (foldLiterals l c args p)
+      Yields (λ q. SumNoZero (q .acc)) (foldLiterals l c args p)
   unfolding foldLiterals
-  foldLiterals-nonzero [] args p h = holds h
+  foldLiterals-nonzero [] args p h = gives h
   foldLiterals-nonzero (phi ∷ c) [] p h =
-      after (processDisequality-nonzero p phi none h) λ q g. foldLiterals-nonzero c [] q g
+      and-then (processDisequality-nonzero p phi none h) λ q g. foldLiterals-nonzero c [] q g
   foldLiterals-nonzero (phi ∷ c) (a ∷ args) p h =
-      after (processDisequality-nonzero p phi (some a) h) λ q g. foldLiterals-nonzero c args q g
+      and-then (processDisequality-nonzero p phi (some a) h) λ q g. foldLiterals-nonzero c args q g
 
   -- ---- the division
 
@@ -286,6 +273,6 @@ module _ (l : Limits) where
 
   -- of every literal
   pub literal-untested : (phi : Term) (n : ℕ) →
-      Holds (λ d. NeedsNoTest (d .sum .entries)) (disequalityOf l phi n)
+      Yields (λ d. NeedsNoTest (d .sum .entries)) (disequalityOf l phi n)
   literal-untested phi n =
-      weaken (disequalityOf-nonzero phi n) λ d h acc. inferred-untested acc (d .sum .entries) h
+      weaker (λ d h acc. inferred-untested acc (d .sum .entries) h) (disequalityOf-nonzero phi n)

@@ -62,7 +62,7 @@ module _ {K : Type 0} {keys : Keys K} (S : Values keys) where
     pub visit-adds : (w : Walked K) → Kept w → Yields (Adds w (ι (pos 0))) (visit l w)
     unfolding visit
     visit-adds w g =
-        guarded _ _ λ u. gives (record { good = g; is = solve R (worth S (w .sum) ∷ []) (λ w. w ≐ w ⊕ 𝟘) tt })
+        guarded _ _ λ t u. gives (record { good = g; is = solve R (worth S (w .sum) ∷ []) (λ w. w ≐ w ⊕ 𝟘) tt })
 
     pub visited :
         {x : carrier} {f : Walked K → Result (Walked K)} (w : Walked K) → Kept w →

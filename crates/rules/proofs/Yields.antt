@@ -1,7 +1,9 @@
 -- What holds of a result wherever it is not a refusal. A law about a function of specs/ goes along the
 -- function's own steps: what a step yields is handed on by `and-then`.
 --     Yields, at-ok       P holds of what is yielded; what it says of an `ok`
---     and-then, weaker, guarded, by-test, by-if       along `>>=`; from P to Q; behind `assert`; along a test
+--     and-then, known, past       along `>>=`: a law of the first value is known, or the value, or nothing
+--     weaker, guarded       from P to Q; behind `assert`
+--     by-test, by-if, by-option, by-arm, by-factors       along a case
 --     ranged-yields, plus-yields, times-yields, over-yields, fraction-yields       under a limit as without one
 use mathlib.Core.Path.{_≡_, refl, subst}
 use mathlib.Core.Bool.{Bool, true, false, _&&_, cond}
@@ -17,6 +19,9 @@ use Rattle.terms.specs.declared.term.Reading.the-variants.{Value, NotNumber, Ou
 use Rattle.terms.proofs.Readings.{fraction-unbounded}
 use Rattle.rules.specs.Refusal.{Refusal, Result, _>>=_, assert}
 use Rattle.rules.specs.Refusal.Result.{ok, refused}
+use Rattle.rules.specs.LinearComb.{Arm, Factors}
+use Rattle.rules.specs.LinearComb.Arm.{sum, negation, difference, product, leaf}
+use Rattle.rules.specs.LinearComb.Factors.{firstIs, secondIs, neitherIs}
 use Rattle.rules.specs.Limits.{Limits, inLimit, numberOr, ranged, plus, times, over, fractionOf}
 
 pub data Yields {A : Type 0} (P : A → Type 0) : Result A → Type 0 where
@@ -34,15 +39,27 @@ module _ {A B : Type 0} {P : A → Type 0} {Q : B → Type 0} where
   and-then (gives {a} p) h = h a p
   and-then refuses h = refuses
 
+module _ {A B : Type 0} {Q : B → Type 0} where
+  -- the first value, and where it comes from
+  pub known : (m : Result A) {f : A → Result B} → ((a : A) → m ≡ ok a → Yields Q (f a)) → Yields Q (m >>= f)
+  unfolding _>>=_
+  known (ok a) k = k a refl
+  known (refused r) k = refuses
+
+  -- nothing is known of the first value
+  pub past : (m : Result A) {f : A → Result B} → ((a : A) → Yields Q (f a)) → Yields Q (m >>= f)
+  past m k = known m λ a e. k a
+
 pub weaker : {A : Type 0} {P Q : A → Type 0} {x : Result A} → ((a : A) → P a → Q a) → Yields P x → Yields Q x
 weaker h (gives {a} p) = gives (h a p)
 weaker h refuses = refuses
 
+-- the test passed
 pub guarded :
     {A : Type 0} {P : A → Type 0} (t : Bool) (r : Refusal) {f : Unit {0} → Result A} →
-    ((u : Unit {0}) → Yields P (f u)) → Yields P (assert t r >>= f)
+    (t ≡ true → (u : Unit {0}) → Yields P (f u)) → Yields P (assert t r >>= f)
 unfolding _>>=_ assert
-guarded true r h = h tt
+guarded true r h = h refl tt
 guarded false r h = refuses
 
 -- along a test
@@ -58,6 +75,32 @@ pub by-if :
 unfolding if_then_else_
 by-if P true x y f g = f refl
 by-if P false x y f g = g refl
+
+-- Q says what is known of the option
+module _ {A B : Type 0} {P : B → Type 0} where
+  pub by-option :
+      (Q : Option A → Type 0) {f : A → Result B} {y : Result B} → ((a : A) → Q (some a) → Yields P (f a)) →
+      (Q none → Yields P y) → (o : Option A) → Q o →
+      Yields P (elim o as (λ x. Result B) [ some a ↦ f a | none ↦ y ])
+  by-option Q g h (some a) q = g a q
+  by-option Q g h none q = h q
+
+module _ {A : Type 0} {Q : A → Type 0} where
+  pub by-arm :
+      {a b c d e : Result A} (k : Arm) → Yields Q a → Yields Q b → Yields Q c → Yields Q d → Yields Q e →
+      Yields {A = A} Q (elim k [ sum ↦ a | negation ↦ b | difference ↦ c | product ↦ d | leaf ↦ e ])
+  by-arm sum p q r s t = p
+  by-arm negation p q r s t = q
+  by-arm difference p q r s t = r
+  by-arm product p q r s t = s
+  by-arm leaf p q r s t = t
+
+  pub by-factors : {f g : Rational → Result A} {y : Result A} (k : Factors) →
+      ((q : Rational) → Yields Q (f q)) → ((q : Rational) → Yields Q (g q)) → Yields Q y →
+      Yields {A = A} Q (elim k [ firstIs q ↦ f q | secondIs q ↦ g q | neitherIs ↦ y ])
+  by-factors (firstIs q) p r s = p q
+  by-factors (secondIs q) p r s = r q
+  by-factors neitherIs p r s = s
 
 -- ---- numbers under a limit
 

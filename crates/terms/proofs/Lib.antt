@@ -36,3 +36,6 @@ pub mod Meaning
 pub mod Quotient
 pub mod BookTerms
 pub mod Sums
+pub mod QuotientRings
+pub mod Residues
+pub mod Vectors
