@@ -2,3 +2,5 @@ pub mod Run
 pub mod Check
 pub mod Elaborate
 pub mod Demands
+pub mod Cases
+pub mod Marked

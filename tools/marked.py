@@ -1,0 +1,259 @@
+"""Writes crates/runs/specs/Marked.antt, the table of marked cases, from tools/marked.txt.
+
+    python3 tools/marked.py                     writes the file
+    python3 tools/marked.py --oracle PROGRAM    compares the expected answers with the Rust's, and writes nothing
+    python3 tools/marked.py --cases FILE        writes the cases for tools/try_definitions.py
+
+The Rust has no refusals 1 to 12: of such a case only the accepted steps are compared, and of one with refusal 1 to 7 nothing.
+"""
+import os
+import subprocess
+import sys
+import textwrap
+
+from books import Book, argument, batch, expressions, listed, record_text, run_bytes, run_text, shown, to_bytes
+
+HERE = os.path.dirname(os.path.abspath(__file__))
+TEXT = os.path.join(HERE, "marked.txt")
+TABLE = os.path.join(HERE, "..", "crates", "runs", "specs", "Marked.antt")
+
+USUAL = (1000, 65536, 1000, 1000)
+
+
+class Case:
+    def __init__(self, name, sorts):
+        self.name = name
+        self.book = Book(sorts)
+        self.run = []  # ("step", rule, premises, literals, arguments), ("record", ..) or ("bytes", n)
+        self.text = []  # what stands in marked.txt, in words
+        self.limit, self.work, *self.out = USUAL
+        self.answer = None
+        self.inferred = {}
+
+    # ---- reading a line
+
+    def read(self, word, rest):
+        if word == "book":
+            self.read_book(rest)
+        elif word == "step":
+            self.read_step(rest)
+        elif word == "run":
+            self.text.append("run " + rest)
+            mark, *numbers = rest.split()
+            self.run.append(("bytes", int(numbers[0])) if mark == "bytes" else ("record", mark, *map(int, numbers)))
+        elif word in ("limit", "work"):
+            self.text.append(word + " " + rest)
+            setattr(self, word, int(rest))
+        elif word == "out":
+            self.text.append("out areas " + rest)
+            self.out = tuple(map(int, rest.split()))
+        elif word == "answer":
+            self.answer = tuple(map(int, rest.split()))
+        elif word == "infers":
+            step, *numbers = rest.split()
+            self.inferred[int(step)] = [tuple(map(int, n.split("/"))) for n in numbers]
+        else:
+            raise ValueError(word)
+
+    def read_book(self, rest):
+        self.text.append("book " + rest)
+        kind, *parts = rest.split()
+        if kind in ("integer", "real", "vector", "atom", "operation", "kind", "bytes"):
+            self.book.append((kind, *map(int, parts)))
+        else:
+            for e in expressions(rest):
+                self.book.term(e)
+
+    def read_step(self, rest):
+        rule, literals, arguments, premises = (rest + "|||").split("|")[:4]
+        literals, arguments = expressions(literals), expressions(arguments)
+        words = ["rule " + rule.strip()]
+        words += [" ".join(map(shown, literals))] if literals else []
+        words += ["arguments " + " ".join(map(shown, arguments))] if arguments else []
+        words += ["premises " + premises.strip()] if premises.strip() else []
+        self.text.append(", ".join(words))
+        numbers = [int(p) for p in premises.split()]
+        self.run.append(
+            ("step", int(rule), numbers, [self.book.term(e) for e in literals], [self.book.term(e) for e in arguments])
+        )
+
+    # ---- what is expected to be written: document 01's 'Elaboration'
+
+    def written(self):
+        """The steps and the tail's constants."""
+        if self.answer[0] <= 8 and self.answer[0] != 0:
+            return [], []
+        constants = {record[1:]: i for i, record in enumerate(self.book.records) if record[0] == "real"}
+        count, tail, steps = len(self.book.records), [], []
+        for i, step in enumerate(self.run[: self.answer[1]]):
+            _, rule, premises, literals, arguments = step
+            for number in self.inferred.get(i, []):
+                if number not in constants:
+                    constants[number] = count + len(tail)
+                    tail.append(number)
+            more = [constants[number] for number in self.inferred.get(i, [])]
+            steps.append(("step", 5 if rule == 6 else rule, premises, literals, arguments + more))
+        return steps, tail
+
+    # ---- as bytes
+
+    def bytes(self):
+        steps, tail = self.written()
+        return (
+            self.book.bytes(),
+            b"".join(map(run_bytes, self.run)),
+            b"".join(map(run_bytes, steps)),
+            b"".join(to_bytes(("real", *q)) for q in tail),
+        )
+
+    # ---- as antt
+
+    def antt(self):
+        """Each part on lines of its own."""
+        steps, tail = self.written()
+        lent = (self.limit, self.work, *self.out)
+        answer = "answers %d %d %d %s %s" % (
+            *self.answer, argument(listed(map(run_text, steps))), argument(listed(record_text(("real", *q)) for q in tail))
+        )
+        return [
+            listed(map(record_text, self.book.records)),
+            listed(map(run_text, self.run)),
+            "usual" if lent == USUAL else "%d, %d, %d, %d" % lent,
+            answer,
+        ]
+
+
+def read_cases():
+    """Sections, each with a title and its cases."""
+    sorts, sections = {}, []
+    for line in open(TEXT):
+        line = line.strip()
+        word, _, rest = line.partition(" ")
+        if not line or word == "#" or word.startswith("#"):
+            continue
+        if word == "==":
+            sections.append((rest, []))
+        elif word == "atoms":
+            for group in rest.split(","):
+                *names, sort = group.split()
+                for name in names:
+                    sorts[name] = (len(sorts), int(sort) if sort.isdigit() else sort)
+        elif word == "case":
+            sections[-1][1].append(Case(rest, sorts))
+        else:
+            sections[-1][1][-1].read(word, rest)
+    return sections
+
+
+# ---- the three uses
+
+HEAD = """-- Written by tools/marked.py from tools/marked.txt: do not edit.
+-- Document 01's examples K1 to K12, the inputs of its table of verdicts, and the places where document 01 and
+-- the Rust are easy to misread, as one table that the checker computes. Expected answers come from document 01
+-- and from the Rust's own answers.
+use mathlib.Core.Path.{_≡_, refl}
+use mathlib.Core.Bool.{true}
+use mathlib.Core.List.{List, [], _∷_}
+use lib.IntN.{pos, negsuc}
+use lib.ListN.{replicate}
+use Rattle.terms.specs.Operator.{Not, And, Or, Equals, LessThan, LessEq, GreaterThan, GreaterEq}
+use Rattle.terms.specs.Operator.{Add, Sub, Mult, IntDiv, RealDiv, ToReal, BvAdd, BvSub, BvNeg, BvMul}
+use Rattle.terms.specs.BookExamples.{blank, integerRecord, realRecord, vectorRecord, atomRecord, operationRecord}
+use Rattle.runs.specs.Cases.{Case, marked, usual, answers, runRecord, stepRecords, allMarked, marks}
+"""
+
+
+def pieces(text):
+    """The text, parted before each cons that stands in the outermost parentheses."""
+    parts, depth, word = [], 0, ""
+    for i, ch in enumerate(text):
+        if depth == 1 and text.startswith(" ∷ ", i):
+            parts.append(word)
+            word = ""
+        else:
+            word += ch
+        depth += (ch == "(") - (ch == ")")
+    return parts + [word]
+
+
+def filled(words):
+    """Lines of at most 110 characters."""
+    lines, line = [], ""
+    for word in words:
+        if line and len("    " + line + " " + word) > 110:
+            lines.append("    " + line)
+            line = word
+        else:
+            line = line + " " + word if line else word
+    return lines + ["    " + line]
+
+
+def laid_out(cons, case):
+    """A case on one line, or its book and what follows on lines of their own."""
+    book, *others = map(argument, case.antt())
+    whole = filled([cons + "marked", book, *others])
+    if len(whole) == 1:
+        return whole
+    return ["    " + cons + "marked"] + filled(pieces(book)) + filled(others)
+
+
+def write_table(sections):
+    lines = [HEAD, "cases : List Case", "unfolding marks", "cases ="]
+    cons = ""
+    for title, cases in sections:
+        lines.append("    -- ---- " + title)
+        for case in cases:
+            said = ": ".join([case.name] + ["; ".join(case.text)] * bool(case.text))
+            lines += textwrap.wrap(said, 110, initial_indent="    -- ", subsequent_indent="    -- ", break_on_hyphens=False)
+            lines += laid_out(cons, case)
+            cons = "∷ "
+    lines += ["    ∷ []", "", "all-marked : allMarked cases ≡ true", "unfolding marks cases", "all-marked = refl", ""]
+    with open(TABLE, "w") as f:
+        f.write("\n".join(lines))
+
+
+def compare(sections, oracle):
+    cases = [c for _, cs in sections for c in cs if c.answer[0] == 0 or c.answer[0] >= 8]
+    told = []
+    for c in cases:
+        book, run, _, _ = c.bytes()
+        if 8 <= c.answer[0] <= 12:
+            run = b"".join(map(run_bytes, c.run[: c.answer[1]]))
+        told.append((book, run))
+    out = subprocess.run([oracle, "batch", "-", "--elaborate"], input=batch(told), stdout=subprocess.PIPE, check=True)
+    wrong = 0
+    for c, line in zip(cases, out.stdout.decode().splitlines()):
+        verdict, accepted, visits, _, run, tail = line.split()
+        limits = 8 <= c.answer[0] <= 12
+        want = ["0" if limits else str(c.answer[0]), str(c.answer[1]), str(c.answer[2])]
+        got = [verdict, accepted, visits]
+        if c.answer[0] != 8:
+            want += [part.hex() or "-" for part in c.bytes()[2:]]
+            got += [run, tail]
+        if want != got:
+            wrong += 1
+            print("%s: expected %s, the Rust says %s" % (c.name, " ".join(want), line))
+    print("%d cases compared, %d differ" % (len(cases), wrong))
+    return wrong
+
+
+def write_cases(sections, path):
+    with open(path, "w") as f:
+        for c in (c for _, cs in sections for c in cs):
+            parts = [part.hex() or "-" for part in c.bytes()]
+            f.write("%s %s %d %d %d %d %d %d %d %s %s # %s\n" % (*parts[:2], c.limit, c.work, *c.out, *c.answer, *parts[2:], c.name))
+
+
+def main():
+    sections = read_cases()
+    if sys.argv[1:2] == ["--oracle"]:
+        sys.exit(1 if compare(sections, sys.argv[2]) else 0)
+    if sys.argv[1:2] == ["--cases"]:
+        write_cases(sections, sys.argv[2])
+    else:
+        write_table(sections)
+    print("%d cases" % sum(len(cs) for _, cs in sections))
+
+
+if __name__ == "__main__":
+    main()
