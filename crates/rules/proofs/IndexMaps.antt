@@ -18,7 +18,8 @@ use Rattle.rules.specs.Limits.{Limits}
 use Rattle.rules.specs.IndexMap as IndexMap
 use Rattle.rules.specs.IndexMap.{Map, Combination, Keys, lastFirst, swapRemove, negAll, scaleAll, enter}
 use Rattle.rules.specs.IndexMap.{insert, insertAll, new}
-use Rattle.rules.proofs.Yields.{Yields, gives, and-then, weaker, guarded, by-test, by-if}
+use Rattle.terms.proofs.Truths.{if-either}
+use Rattle.rules.proofs.Yields.{Yields, gives, and-then, weaker, guarded, by-test}
 use Rattle.rules.proofs.Valuations.{Valuation, Stands, plus-stands, times-stands}
 
 -- ---- combinations whose keys are P and whose numbers are Q
@@ -119,7 +120,7 @@ module _ {K : Type 0} {keys : Keys K} (S : Values keys) where
         Totals (if isZero c then swapRemove m else (a, c) ∷ m) (total ((a, p) ∷ m) + entry k q)
     unfolding total
     enter-same a p m k q c (g, gs) e h =
-        by-if (λ r. Totals r (entry a p + total m + entry k q)) (isZero c) (swapRemove m) ((a, c) ∷ m)
+        if-either (λ r. Totals r (entry a p + total m + entry k q)) (isZero c)
         (λ z.
         let t = swapRemove-totals m gs in
         record {

@@ -22,3 +22,12 @@ pub mod PolynomialValues
 pub mod PolynomialMeaning
 pub mod Reductions
 pub mod PolynomialsEqual
+pub mod Shapes
+pub mod Literals
+pub mod ShapeRules
+pub mod Oppositions
+pub mod Shifts
+pub mod Constraints
+pub mod Disequalities
+pub mod BoundsForms
+pub mod TautologySound

@@ -15,6 +15,7 @@ use Rattle.terms.specs.Term.Term.{integer, rational, bitvector, atom, op}
 use Rattle.terms.specs.Term.Terms.{nil, _▹_}
 use Rattle.terms.specs.Operator.{LessThan, LessEq, GreaterThan, GreaterEq}
 use Rattle.terms.specs.Readers.{within}
+use Rattle.terms.proofs.Truths.{if-either}
 use Rattle.rules.specs.Refusal.{Result, _>>=_, assert, orElse}
 use Rattle.rules.specs.Refusal.Result.{refused}
 use Rattle.rules.specs.Refusal.Refusal.{visitLimit, polynomialSize, invalidDisequalityOp, notUnit}
@@ -31,7 +32,7 @@ use Rattle.rules.specs.LinearArithmetic.{disequalityOf, isIntegerTimes, 
 use Rattle.rules.specs.LinearArithmetic.{inferred, argumentOf, strengthened, scalar, processDisequality}
 use Rattle.rules.specs.LinearArithmetic.{foldLiterals}
 use Rattle.rules.proofs.NonzeroNumbers.{negQ-nonzero, mulQ-nonzero}
-use Rattle.rules.proofs.Yields.{Yields, and-then, past, weaker, by-test, by-if, by-option, by-arm}
+use Rattle.rules.proofs.Yields.{Yields, and-then, past, weaker, by-test, by-option, by-arm}
 use Rattle.rules.proofs.Yields.{by-factors, ranged-yields}
 use Rattle.rules.proofs.Yields.Yields.{gives}
 
@@ -89,7 +90,7 @@ module _ {K : Type 0} (keys : Keys K) (l : Limits) where
   enter-nonzero n (e ∷ m) key v z (entry y h) =
       by-test (keys .same (e .0) key) _ _
       (λ s. past (plus l (e .1) v) λ q.
-      gives (by-if NoZero (isZero q) _ _ (λ t. swapRemove-nonzero m h) (λ t. entry t h)))
+      gives (if-either NoZero (isZero q) (λ t. swapRemove-nonzero m h) (λ t. entry t h)))
       (λ s. and-then (enter-nonzero (suc n) m key v z h) λ r g. gives (entry y g))
 
   insert-nonzero : (m : Map K) (key : K) (v : Rational) → NoZero m → Yields NoZero (insert keys l m key v)
@@ -131,8 +132,8 @@ module _ {K : Type 0} (l : Limits) where
 pub turned-nonzero : (o : ℕ) (s : LinearComb) (n : ℕ) → SumNoZero s → SumNoZero (turned o s n .sum)
 unfolding turned
 turned-nonzero o s n h =
-    by-if (λ (d : Disequality). SumNoZero (d .sum)) (eqb o LessThan) _ _ (λ e. neg-nonzero s h) λ e.
-    by-if (λ (d : Disequality). SumNoZero (d .sum)) (eqb o LessEq) _ _ (λ e. neg-nonzero s h) λ e. h
+    if-either (λ (d : Disequality). SumNoZero (d .sum)) (eqb o LessThan) (λ e. neg-nonzero s h) λ e.
+    if-either (λ (d : Disequality). SumNoZero (d .sum)) (eqb o LessEq) (λ e. neg-nonzero s h) λ e. h
 
 module _ (l : Limits) where
   -- by any number: 0 leaves no entries

@@ -3,7 +3,7 @@
 --     Yields, at-ok       P holds of what is yielded; what it says of an `ok`
 --     and-then, known, past       along `>>=`: a law of the first value is known, or the value, or nothing
 --     weaker, guarded       from P to Q; behind `assert`
---     by-test, by-if, by-option, by-arm, by-factors       along a case
+--     by-test, by-option, by-arm, by-factors       along a case
 --     ranged-yields, plus-yields, times-yields, over-yields, fraction-yields       under a limit as without one
 use mathlib.Core.Path.{_≡_, refl, subst}
 use mathlib.Core.Bool.{Bool, true, false, _&&_, cond}
@@ -12,7 +12,7 @@ use Prim.Native.Nat.{ℕ}
 use native.Mathlib.Omega.{arith}
 use lib.IntN.{natAbs}
 use Rattle.terms.specs.Rational.{Rational, addQ, mulQ, divQ}
-use Rattle.terms.specs.Term.{Term, if_then_else_}
+use Rattle.terms.specs.Term.{Term}
 use Rattle.terms.specs.Readers.{within, bounded, unbounded, asFraction}
 use Rattle.terms.specs.declared.term.Reading.{Reading}
 use Rattle.terms.specs.declared.term.Reading.the-variants.{Value, NotNumber, OutOfRange}
@@ -68,13 +68,6 @@ pub by-test :
     (t ≡ false → Yields P y) → Yields P (elim t as (λ z. Result A) [ true ↦ x | false ↦ y ])
 by-test true x y f g = f refl
 by-test false x y f g = g refl
-
-pub by-if :
-    {A : Type 0} (P : A → Type 0) (t : Bool) (x y : A) → (t ≡ true → P x) → (t ≡ false → P y) →
-    P (if t then x else y)
-unfolding if_then_else_
-by-if P true x y f g = f refl
-by-if P false x y f g = g refl
 
 -- Q says what is known of the option
 module _ {A B : Type 0} {P : B → Type 0} where

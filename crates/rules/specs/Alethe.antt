@@ -17,7 +17,7 @@ use Rattle.terms.specs.Term.Term.{bitvector, op}
 use Rattle.terms.specs.Term.Terms.{nil, _▹_}
 use Rattle.terms.specs.Readers.{asFraction, asSignedNumber, unbounded}
 use Rattle.terms.specs.Smtlib as Smtlib
-use Rattle.terms.specs.Smtlib.{Assignment, asPair, isTrue, holds}
+use Rattle.terms.specs.Smtlib.{Assignment, asPair, holds}
 use Rattle.terms.specs.declared.term.Reading.the-variants.{Value}
 
 abbrev pub Clause : Type 0
@@ -46,6 +46,13 @@ pub record IsNot2 (o : ℕ) (a b phi : Term) : Type 0 where
   pub body : Term
   pub relation : Is2 o a b body
   pub negation : Is1 Not body phi
+
+pub data IsRelation : ℕ → Type 0 where
+  equals : IsRelation Equals
+  lessThan : IsRelation LessThan
+  lessEq : IsRelation LessEq
+  greaterThan : IsRelation GreaterThan
+  greaterEq : IsRelation GreaterEq
 
 -- ---- la_rw_eq: (= (= t u) (and (<= t u) (<= u t)))
 
@@ -109,9 +116,37 @@ Related gt a b = b <P a
 abbrev pub HoldsAt : Assignment → Constraint → Type 0
 HoldsAt ρ k = Related (k .relation) (sumAt ρ (k .terms)) (k .bound)
 
--- steps 1 to 3: the constraint says that the literal is false
-abbrev pub Negates : Term → Constraint → Type 0
-Negates phi k = (ρ : Assignment) → (isTrue (Smtlib.value ρ phi) ≡ false → HoldsAt ρ k) × (HoldsAt ρ k → isTrue (Smtlib.value ρ phi) ≡ false)
+-- steps 1 and 2: the literal is the opposite of (o ts), as its negation or as the opposite relation
+pub data Turns : ℕ → ℕ → Type 0 where
+  less : Turns LessThan GreaterEq
+  greater : Turns GreaterThan LessEq
+  lessEqual : Turns LessEq GreaterThan
+  greaterEqual : Turns GreaterEq LessThan
+
+pub data Opposite (ts : Terms) (phi : Term) (o : ℕ) : Type 0 where
+  negation : (body : Term) → IsRelation o → Is o ts body → Is1 Not body phi → Opposite ts phi o
+  turned : (p : ℕ) → Turns p o → Is p ts phi → Opposite ts phi o
+
+-- (o a b) is x ⋈ y: < and <= are turned round
+pub data Oriented (a b : Term) : ℕ → Relation → Term → Term → Type 0 where
+  as-equals : Oriented a b Equals eq a b
+  as-greater : Oriented a b GreaterThan gt a b
+  as-greaterEq : Oriented a b GreaterEq ge a b
+  turned-less : Oriented a b LessThan gt b a
+  turned-lessEq : Oriented a b LessEq ge b a
+
+-- step 3: the constraint is the opposite of the literal with the atoms moved to the left side and the numbers to the right: whatever
+-- the atoms are, its sides lie as far apart as x and y
+pub record States (phi : Term) (k : Constraint) : Type 0 where
+  pub o : ℕ
+  pub a : Term
+  pub b : Term
+  pub x : Term
+  pub y : Term
+  pub opposite : Opposite (a ▹ b ▹ nil) phi o
+  pub oriented : Oriented a b o (k .relation) x y
+  pub balanced :
+      (ρ : Assignment) → addP (k .bound) (asPair (Smtlib.value ρ x)) ≈ addP (asPair (Smtlib.value ρ y)) (sumAt ρ (k .terms))
 
 pub data AllInt : List (Pair × Term) → Type 0 where
   none : AllInt []
@@ -153,7 +188,7 @@ scaled k a =
 pub record Line (phi : Term) (a : Rational) (k : Constraint) : Type 0 where
   pub negated : Constraint
   pub strong : Constraint
-  pub negates : Negates phi negated
+  pub states : States phi negated
   pub strengthens : Strengthens negated strong
   pub scales : k ≡ scaled strong a
 
@@ -190,7 +225,7 @@ pub record LaGeneric (c : Clause) (as′ : List Rational) : Type 0 where
   pub cancels : (ρ : Assignment) → sumTerms ρ constraints ≈ wholeP (pos 0)
   pub contradicts : Related (sumRelation constraints) (wholeP (pos 0)) (sumBound constraints) → ⊥
 
--- ---- la_tautology: a comparison that la_generic's steps show to be valid with no scaling, or one of five forms (or phi1 phi2)
+-- ---- la_tautology: a comparison that la_generic's steps 1 to 3 refute, no atoms being left, or one of five forms (or phi1 phi2)
 
 abbrev pub IsNumber : Term → Rational → Type 0
 IsNumber t q = asSignedNumber t ≡ Value q
@@ -209,7 +244,9 @@ pub data BoundsForm (phi1 phi2 : Term) : Type 0 where
       T (lessQ q1 q2) → BoundsForm phi1 phi2
 
 pub data LaTautology (phi : Term) : Type 0 where
-  comparison : (k : Constraint) → Negates phi k → ((ρ : Assignment) → HoldsAt ρ k → ⊥) → LaTautology phi
+  comparison :
+      (k : Constraint) → States phi k → k .terms ≡ [] →
+      (Related (k .relation) (wholeP (pos 0)) (k .bound) → ⊥) → LaTautology phi
   bounds : (phi1 phi2 : Term) → Is2 Or phi1 phi2 phi → BoundsForm phi1 phi2 → LaTautology phi
 
 -- ---- poly_simp: (= t s), where t and s are one polynomial: they have the same value whatever the atoms are
@@ -271,13 +308,6 @@ pub record ScaledVectors (o : ℕ) (premise : Term) (x1 x2 y1 y2 : Term) : Type 
   pub leftProduct : Is2 BvMul (bitvector i1 n1 w1) dx left
   pub rightProduct : Is2 BvMul (bitvector i2 n2 w2) dy right
   pub equation : Is2 Equals left right premise
-
-pub data IsRelation : ℕ → Type 0 where
-  equals : IsRelation Equals
-  lessThan : IsRelation LessThan
-  lessEq : IsRelation LessEq
-  greaterThan : IsRelation GreaterThan
-  greaterEq : IsRelation GreaterEq
 
 pub record PolySimpRel (premise phi : Term) : Type 0 where
   pub o : ℕ

@@ -33,6 +33,7 @@ pub mod Fractions
 pub mod Operators
 pub mod Whole
 pub mod Meaning
+pub mod Comparisons
 pub mod Quotient
 pub mod BookTerms
 pub mod Sums

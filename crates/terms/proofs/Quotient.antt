@@ -6,15 +6,16 @@
 --     mk-add, mk-mul, mk-neg, mk-whole       an operation on pairs is the operation on their numbers
 --     mk-eq, ≈-of-mk-eq       a ≈ b and mk a ≡ mk b are the same
 use mathlib.Core.Path.{_≡_, refl, sym, _∙_, ap}
-use mathlib.Core.Bool.{Bool, true, false, Bool-set}
+use mathlib.Core.Bool.{Bool, Bool-set}
 use mathlib.Core.List.{[], _∷_}
 use mathlib.Core.Quot.{Quot, Quot·mk, Quot·sound, Quot·lift, Quot-set}
-use lib.IntN.{ℤ, pos, _*ℤ_}
+use lib.IntN.{ℤ}
+use Rattle.terms.proofs.Truths.{same-test}
+use Rattle.terms.proofs.Comparisons.{of-eqP, eqP-true}
 use Rattle.terms.specs.Pair.{Pair, wholeP, addP, mulP, negP, eqP, _≈_}
 use Rattle.terms.proofs.Integers.{Ring, _⊕_, _⊗_, neg, 𝟘, 𝟙, _≐_, solveℤ}
 use Rattle.terms.proofs.Pairs.{parts, ≈-refl, ≈-trans, add-resp, mul-resp, neg-resp}
 use Rattle.terms.proofs.QuotientRings.{RingUpTo, quotientRing, by-one, by-two, addᶜ, mulᶜ, negᶜ, ιᶜ}
-use Rattle.terms.proofs.Rationals.{eqZ-eq, eqZ-refl}
 
 abbrev pub ℚ : Type 0
 ℚ = Quot _≈_
@@ -105,26 +106,14 @@ mk-whole z = refl
 pub mk-eq : (a b : Pair) → a ≈ b → mk a ≡ mk b
 mk-eq a b h = Quot·sound h
 
--- two tests that say the same are one
-same-test : (s t : Bool) → (s ≡ true → t ≡ true) → (t ≡ true → s ≡ true) → s ≡ t
-same-test true t f g = sym (f refl)
-same-test false true f g = g refl
-same-test false false f g = refl
-
-≈-of-eqP : (a b : Pair) → eqP a b ≡ true → a ≈ b
-≈-of-eqP a b = eqZ-eq (a .num *ℤ pos (b .den)) (b .num *ℤ pos (a .den))
-
-eqP-of-≈ : (a b : Pair) → a ≈ b → eqP a b ≡ true
-eqP-of-≈ a b h = rw h (eqZ-refl (b .num *ℤ pos (a .den)))
-
 -- whether a number is that of the pair a
 is-of : Pair → ℚ → Bool
 is-of a x =
     Quot·lift {r = _≈_} Bool-set (eqP a)
     (λ b c h.
-    same-test (eqP a b) (eqP a c) (λ e. eqP-of-≈ a c (≈-trans a b c (≈-of-eqP a b e) h))
-    (λ e. eqP-of-≈ a b (≈-trans a c b (≈-of-eqP a c e) (sym h)))) x
+    same-test (eqP a b) (eqP a c) (λ e. eqP-true a c (≈-trans a b c (of-eqP a b e) h))
+    (λ e. eqP-true a b (≈-trans a c b (of-eqP a c e) (sym h)))) x
 
 pub ≈-of-mk-eq : (a b : Pair) → mk a ≡ mk b → a ≈ b
 unfolding is-of
-≈-of-mk-eq a b e = ≈-of-eqP a b (ap (is-of a) (sym e) ∙ eqP-of-≈ a a refl)
+≈-of-mk-eq a b e = of-eqP a b (ap (is-of a) (sym e) ∙ eqP-true a a refl)

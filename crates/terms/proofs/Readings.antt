@@ -40,7 +40,7 @@ alike none f g x x′ y h k e = k e
 
 -- ---- the shape of an operation of one or two arguments
 
-args-shape : (o : ℕ) (t : Term) (ts : Terms) → argsOf o t ≡ some ts → t ≡ op (recordNumber t) o ts
+pub args-shape : (o : ℕ) (t : Term) (ts : Terms) → argsOf o t ≡ some ts → t ≡ op (recordNumber t) o ts
 args-shape o (integer i v) ts e = cc
 args-shape o (rational i q) ts e = cc
 args-shape o (bitvector i v w) ts e = cc
