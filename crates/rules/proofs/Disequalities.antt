@@ -18,8 +18,6 @@ use Rattle.terms.specs.Smtlib.{Assignment}
 use Rattle.terms.proofs.Ring.{_⊕_, _⊖_, neg, 𝟙, _≐_, _·_, _and_, _from_, derive}
 use Rattle.terms.proofs.Quotient.{mk, ℚring, mk-add, mk-eq, ≈-of-mk-eq}
 use Rattle.terms.proofs.BookTerms.{Each, Closed}
-use Rattle.rules.specs.Refusal.{Result}
-use Rattle.rules.specs.Refusal.Result.{ok, refused}
 use Rattle.rules.specs.Limits.{Limits}
 use Rattle.rules.specs.IndexMap as IndexMap
 use Rattle.rules.specs.IndexMap.{combination}
@@ -30,7 +28,7 @@ use Rattle.rules.specs.LinearArithmetic.{disequalityOf}
 use Rattle.rules.specs.Alethe.{Constraint, Relation, sumAt, IsRelation, equals, lessThan, lessEq}
 use Rattle.rules.specs.Alethe.{greaterThan, greaterEq}
 use Rattle.rules.specs.Alethe.Relation.{eq, ge, gt}
-use Rattle.rules.proofs.Yields.{Yields, gives, refuses, at-ok, and-then}
+use Rattle.rules.proofs.Yields.{Yields, gives, refuses, at-ok, and-then, by-answer}
 use Rattle.rules.proofs.Valuations.{numberℚ, rationals}
 use Rattle.rules.proofs.IndexMaps.{CombinationOf, Amounts, total, worth, sub-amounts, neg-amounts}
 use Rattle.rules.proofs.LinearWalk.{atoms}
@@ -67,11 +65,6 @@ pub record Negated (P : Term → Type 0) (phi : Term) (d : Disequality) : Type 0
   pub kept : CombinationOf P Lowest (d .sum)
   pub upward : Upward (d .operator)
   pub states : States phi (constraintOf d)
-
-module _ {A : Type 0} {Q : A → Type 0} where
-  pub yields-by : (x : Result A) → ((a : A) → x ≡ ok a → Q a) → Yields Q x
-  yields-by (ok a) h = gives (h a refl)
-  yields-by (refused r) h = refuses
 
 two-sides : (ts : Terms) → Yields (λ p. ts ≡ p .0 ▹ p .1 ▹ nil) (twoSides ts)
 two-sides nil = refuses
@@ -127,7 +120,7 @@ module _ {P : Term → Type 0} (closed : Closed P) where
         (l : Limits) →
         Yields (λ s. Apart a b (combination (s .entries) (negQ (s .constant)))) (IndexMap.sub terms l s1 s2)
     difference-apart l =
-        yields-by (IndexMap.sub terms l s1 s2) λ s e.
+        by-answer (IndexMap.sub terms l s1 s2) λ s e.
         let amounts : (ρ : Assignment) → Amounts (atoms closed ρ) s (ℚring .add (worth (atoms closed ρ) s1) (ℚring .neg (worth (atoms closed ρ) s2))) =
         λ ρ. at-ok (sub-amounts (atoms closed ρ) l s1 s2 (left .kept) (right .kept)) e in
         let good = amounts some-assignment .good in
@@ -184,7 +177,7 @@ module _ {P : Term → Type 0} (closed : Closed P) where
 
   module _ (l : Limits) where
     from-term : (t : Term) → P t → (n : ℕ) → Yields (λ w. Represents P t (w .sum)) (fromTerm l t n)
-    from-term t p n = yields-by (fromTerm l t n) (linear-meaning closed l t p n)
+    from-term t p n = by-answer (fromTerm l t n) (linear-meaning closed l t p n)
 
     module _ (phi : Term) (p : P phi) (n : ℕ) where
       -- phi is the opposite of a relation of two terms, which s1 and s2 stand for

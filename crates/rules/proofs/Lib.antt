@@ -31,3 +31,12 @@ pub mod Constraints
 pub mod Disequalities
 pub mod BoundsForms
 pub mod TautologySound
+pub mod Signs
+pub mod Says
+pub mod Gaps
+pub mod FalseLiterals
+pub mod Multiples
+pub mod Strengthening
+pub mod VisitsFree
+pub mod LiteralSteps
+pub mod GenericSound

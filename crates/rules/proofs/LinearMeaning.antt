@@ -57,7 +57,7 @@ module _ {P : Term → Type 0} (closed : Closed P) where
   -- ---- the value among the rational numbers
 
   module _ (ρ : Assignment) where
-    total-is : (m : Map Term) → total (at ρ) m ≡ mk (sumAt ρ (termsOf m))
+    pub total-is : (m : Map Term) → total (at ρ) m ≡ mk (sumAt ρ (termsOf m))
     unfolding total sumAt termsOf
     total-is [] = sym (mk-whole (pos 0))
     total-is (e ∷ m) =

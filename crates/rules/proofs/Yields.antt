@@ -1,6 +1,7 @@
 -- What holds of a result wherever it is not a refusal. A law about a function of specs/ goes along the
 -- function's own steps: what a step yields is handed on by `and-then`.
 --     Yields, at-ok       P holds of what is yielded; what it says of an `ok`
+--     by-answer, through       from each answer; an answer behind `>>=` goes through one before it
 --     and-then, known, past       along `>>=`: a law of the first value is known, or the value, or nothing
 --     weaker, guarded       from P to Q; behind `assert`
 --     by-test, by-option, by-arm, by-factors       along a case
@@ -31,6 +32,21 @@ pub data Yields {A : Type 0} (P : A → Type 0) : Result A → Type 0 where
 pub at-ok : {A : Type 0} {P : A → Type 0} {x : Result A} → Yields P x → {a : A} → x ≡ ok a → P a
 at-ok {P = P} (gives {a = b} p) {a} e = let h : b ≡ a = cc in subst P h p
 at-ok refuses e = let z : _≡_ {A = ℕ} 0 1 = cc in absurd (omega arith)
+
+pub by-answer : {A : Type 0} {P : A → Type 0} (x : Result A) → ((a : A) → x ≡ ok a → P a) → Yields P x
+by-answer (ok a) h = gives (h a refl)
+by-answer (refused r) h = refuses
+
+-- x answers a, and f goes on from there to b
+pub record Through {A B : Type 0} (x : Result A) (f : A → Result B) (b : B) : Type 0 where
+  pub middle : A
+  pub first : x ≡ ok middle
+  pub then : f middle ≡ ok b
+
+pub through : {A B : Type 0} (x : Result A) (f : A → Result B) (b : B) → (x >>= f) ≡ ok b → Through x f b
+unfolding _>>=_
+through (ok a) f b e = record { middle = a; first = refl; then = e }
+through (refused r) f b e = let z : _≡_ {A = ℕ} 0 1 = cc in absurd (omega arith)
 
 module _ {A B : Type 0} {P : A → Type 0} {Q : B → Type 0} where
   pub and-then :

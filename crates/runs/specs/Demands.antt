@@ -9,13 +9,11 @@ use lib.ListN.{length, replicate}
 use Rattle.terms.specs.Rational.{Rational}
 use Rattle.terms.specs.Bytes.{Bytes}
 use Rattle.terms.specs.Term.{Term}
-use Rattle.terms.specs.Readers.{asFraction, unbounded}
 use Rattle.terms.specs.Smtlib.{Assignment, holds}
-use Rattle.terms.specs.declared.term.Reading.the-variants.{Value, NotNumber, OutOfRange}
 use Rattle.rules.specs.Refusal.Result.{ok, refused}
 use Rattle.rules.specs.Limits.{theRust, limited}
 use Rattle.rules.specs.LinearArithmetic.{Clause}
-use Rattle.rules.specs.Premises.{allEven, wholeLiterals}
+use Rattle.rules.specs.Premises.{allEven, wholeLiterals, givenArgs}
 use Rattle.rules.specs.Alethe as Alethe
 use Rattle.runs.specs.Run.{Step, readRun}
 use Rattle.runs.specs.Check.{mark, check, clausesOf}
@@ -99,11 +97,6 @@ abbrev pub AllPremises : List (Step × List Rational) → Type 0
 AllPremises = Every (λ x. Premises (x .0) (x .1))
 
 -- ---- demand 2: the Rust's answers
-
--- the arguments of a step, given and inferred
-unfoldable pub givenArgs : List Term → List Rational
-givenArgs [] = []
-givenArgs (a ∷ args) = elim (asFraction unbounded a) [ Value q ↦ q ∷ givenArgs args | NotNumber ↦ givenArgs args | OutOfRange ↦ givenArgs args ]
 
 -- a step meets its rule as the Alethe specification words it; run has the clauses of the steps before it
 pub data Meets (run : List Step) (s : Step) (inferred : List Rational) : Type 0 where
