@@ -1,14 +1,16 @@
 -- The limits theorem for runs, the specification's sentence 'on every book and run that refusals 1 to 12
 -- don't stop, each verdict, inferred coefficient and elaborated step equals the Rust's'. Under any limits a
 -- step answers as in the Rust, or ends the marking by refusal 10, 11 or 12; any other marking is the Rust's
--- (`mark-limits`), and so is its elaboration (`elaborateUnder-limits`). Then the same of the entry points.
+-- (`mark-limits`), and so is its elaboration (`elaborateUnder-limits`). Then the same of the entry points,
+-- which is demand 2's first half (`the-rusts-answers`).
 use mathlib.Core.Path.{_≡_, refl, ap}
-use mathlib.Core.Bool.{Bool, true, false}
+use mathlib.Core.Bool.{Bool, true, false, _&&_, not}
 use mathlib.Core.List.{List, [], _∷_}
 use mathlib.Core.Logic.{_⊎_, inl, inr}
 use Prim.Native.Nat.{ℕ, _<_, _≤_}
 use native.Mathlib.Omega.{arith}
-use lib.Dec.{eqb}
+use borrow.Author.Tests.{leb-false}
+use lib.Dec.{T, eqb, leb}
 use Rattle.terms.specs.Rational.{Rational}
 use Rattle.terms.specs.Bytes.{Bytes}
 use Rattle.terms.specs.Book.{readBook}
@@ -27,6 +29,7 @@ use Rattle.runs.specs.Check.{Accepted, Marking, clausesOf, checkStep, ma
 use Rattle.runs.specs.Check.{nothingMarked, markRun, mark, lentOk, check}
 use Rattle.runs.specs.Elaborate.{Answer, answer, written, addSteps, fits, elaborated, elaborateUnder}
 use Rattle.runs.specs.Elaborate.{elaborate}
+use Rattle.runs.specs.Demands.{isRefusal1to12, TheRustsAnswers}
 
 -- ---- one step
 
@@ -156,3 +159,17 @@ module _ (book run : Bytes) (limit work : ℕ) where
       (λ h.
       elaborateUnder-limits (limited limit) book run (marking-unstopped book outRun outTail _ h) outRun
       outTail)
+
+-- ---- demand 2's first half
+
+unstopped : (v : ℕ) → T (not (isRefusal1to12 v)) → Unstopped v
+unstopped v = go (leb 1 v) (leb v 12) refl refl
+  where
+    go : (s t : Bool) → leb 1 v ≡ s → leb v 12 ≡ t → T (not (s && t)) → Unstopped v
+    go false t e f h = inl (omega (arith, leb-false 1 v e))
+    go true false e f h = inr (leb-false v 12 f)
+    go true true e f h = absurd h
+
+pub the-rusts-answers : TheRustsAnswers
+the-rusts-answers book run limit work outRun outTail h =
+    elaborate-limits book run limit work outRun outTail (unstopped _ h)

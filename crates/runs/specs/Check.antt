@@ -11,6 +11,7 @@ use Rattle.terms.specs.Book.{readBook}
 use Rattle.terms.specs.declared.book.BookRead.the-variants.{Records, RefusedAt}
 use Rattle.rules.specs.Refusal.{Result, _>>=_, number}
 use Rattle.rules.specs.Refusal.Result.{ok, refused}
+use Rattle.rules.specs.Refusal.Refusal.{workAreaOrLimit}
 use Rattle.rules.specs.Limits.{Limits, limited}
 use Rattle.rules.specs.LinearArithmetic.{Clause, Progress, laRwEq, laDisequality, laTotality, laTautology}
 use Rattle.rules.specs.LinearArithmetic.{laGeneric, laGenericPartial}
@@ -108,4 +109,4 @@ abbrev pub lentOk : ℕ → ℕ → Bool
 lentOk work limit = eqb work 65536 && (leb 1 limit && leb limit 1000000)
 
 unfoldable pub check : Bytes → Bytes → ℕ → ℕ → Marking
-check book run limit work = elim (lentOk work limit) [ true ↦ mark (limited limit) book run | false ↦ nothingMarked 1 ]
+check book run limit work = elim (lentOk work limit) [ true ↦ mark (limited limit) book run | false ↦ nothingMarked (number workAreaOrLimit) ]

@@ -123,17 +123,23 @@ stepsOf book run = elim (readRun book run) [ ok ss ↦ ss | refused r ↦ [] ]
 abbrev pub isRefusal1to12 : ℕ → Bool
 isRefusal1to12 v = leb 1 v && leb v 12
 
+-- 'On every book and run that refusals 1 to 12 don't stop, each verdict, inferred coefficient and elaborated step equals the Rust's'
+abbrev pub TheRustsAnswers : Type 0
+TheRustsAnswers =
+    (book run : Bytes) (limit work outRun outTail : ℕ) →
+    T (not (isRefusal1to12 (elaborate book run limit work outRun outTail .verdict))) →
+    elaborate book run limit work outRun outTail ≡ elaborateUnder theRust book run outRun outTail
+
+-- 'and meets definitions written from the Alethe specification and SMT-LIB's theories': every accepted step does, where demand 3's
+-- premises hold. Without them the Rust accepts steps that the specification does not (K10, K11: docs/DIFFERENCES.md).
+abbrev pub MeetsAlethe : Type 0
+MeetsAlethe =
+    (book run : Bytes) (limit : ℕ) → AllPremises (mark (limited limit) book run .steps) →
+    Every (λ x. Meets (stepsOf book run) (x .0) (x .1)) (mark (limited limit) book run .steps)
+
 pub record Demand2 : Type 0 where
-  -- 'On every book and run that refusals 1 to 12 don't stop, each verdict, inferred coefficient and elaborated step equals the Rust's'
-  pub theRust :
-      (book run : Bytes) (limit work outRun outTail : ℕ) →
-      T (not (isRefusal1to12 (elaborate book run limit work outRun outTail .verdict))) →
-      elaborate book run limit work outRun outTail ≡ elaborateUnder theRust book run outRun outTail
-  -- 'and meets definitions written from the Alethe specification and SMT-LIB's theories': every accepted step for which demand 3's premises
-  -- hold does. Without them the Rust accepts steps that the specification does not (K10, K11: docs/DIFFERENCES.md).
-  pub alethe :
-      (book run : Bytes) (limit : ℕ) → AllPremises (mark (limited limit) book run .steps) →
-      Every (λ x. Meets (stepsOf book run) (x .0) (x .1)) (mark (limited limit) book run .steps)
+  pub theRust : TheRustsAnswers
+  pub alethe : MeetsAlethe
 
 -- ---- demand 3: elaboration
 

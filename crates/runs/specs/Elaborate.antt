@@ -12,6 +12,8 @@ use Rattle.terms.specs.Bytes.{Bytes, complement}
 use Rattle.terms.specs.Term.{Term, recordNumber, if_then_else_}
 use Rattle.terms.specs.Term.Term.{integer, rational, bitvector, atom, op}
 use Rattle.terms.specs.Book.{count, tree, maxRecords}
+use Rattle.rules.specs.Refusal.{number}
+use Rattle.rules.specs.Refusal.Refusal.{workAreaOrLimit, noRoom}
 use Rattle.rules.specs.Limits.{Limits, limited}
 use Rattle.runs.specs.Run.{Step, S, P, C, A, maxRunRecords}
 use Rattle.runs.specs.Check.{Marking, mark, lentOk}
@@ -120,7 +122,7 @@ elaborated book outRun outTail m =
     let w : Written = addSteps book (written [] []) (m .steps) in
     elim (fits book outRun outTail w) [
       | true ↦ answer (m .verdict) (length (m .steps)) (m .visits) (w .run) (tailBytes (w .tail))
-      | false ↦ answer 8 (length (m .steps)) (m .visits) [] []
+      | false ↦ answer (number noRoom) (length (m .steps)) (m .visits) [] []
     ]
 
 unfoldable pub elaborateUnder : Limits → Bytes → Bytes → ℕ → ℕ → Answer
@@ -130,7 +132,7 @@ elaborateUnder l book run outRun outTail = elaborated book outRun outTail (mark 
 unfoldable pub elaborate : Bytes → Bytes → ℕ → ℕ → ℕ → ℕ → Answer
 elaborate book run limit work outRun outTail = elim (lentOk work limit) [
   | true ↦ elaborateUnder (limited limit) book run outRun outTail
-  | false ↦ answer 1 0 0 [] []
+  | false ↦ answer (number workAreaOrLimit) 0 0 [] []
 ]
 
 -- ---- the lent bytes afterwards
