@@ -97,7 +97,7 @@ denied : {P : Term → Type 0} {o : ℕ} {t : Term} {q : Term × Term} → NotFo
 denied h = record { body = h .body; relation = h .relation .shape; negation = h .negation }
 
 module _ {P : Term → Type 0} (closed : Closed P) where
-  equal-yields : (a b : Term) → P a → P b → Yields (λ u. a ≡ b) (assertEq a b)
+  pub equal-yields : (a b : Term) → P a → P b → Yields (λ u. a ≡ b) (assertEq a b)
   unfolding assertEq
   equal-yields a b p q = asserted (same a b) _ (closed .known a b p q)
 

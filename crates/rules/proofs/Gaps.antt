@@ -2,6 +2,7 @@
 -- atoms less the constant (`gap`). Scaling and adding do to the gap what they do to a number.
 use mathlib.Core.Path.{_≡_, _∙_, ap}
 use mathlib.Core.List.{[], _∷_}
+use Prim.Native.Nat.{ℕ}
 use lib.IntN.{pos}
 use Rattle.terms.specs.Rational.{Rational, whole, Lowest, isZero, eqQ}
 use Rattle.terms.specs.Term.{Term}
@@ -20,6 +21,7 @@ use Rattle.rules.proofs.IndexMaps.{Values, GoodCombination, total, new-
 use Rattle.rules.proofs.IndexMaps.{scaleAll-totals}
 use Rattle.rules.proofs.LinearWalk.{atoms}
 use Rattle.rules.proofs.Signs.{_less_}
+use Rattle.rules.proofs.Says.{Says}
 
 module _ {P : Term → Type 0} (closed : Closed P) (ρ : Assignment) where
   abbrev at : Values terms
@@ -35,6 +37,15 @@ module _ {P : Term → Type 0} (closed : Closed P) (ρ : Assignment) where
   pub record Gap (s : LinearComb) (x : ℚ) : Type 0 where
     pub good : Good s
     pub is : gap s ≡ x
+
+  -- a disequality that is good and holds
+  pub record Holding (o : ℕ) (s : LinearComb) : Type 0 where
+    pub good : Good s
+    pub says : Says o (gap s)
+
+  -- the same of an operator with its sum
+  abbrev pub HoldingPair : ℕ × LinearComb → Type 0
+  HoldingPair r = Holding (r .0) (r .1)
 
   pub new-gap : Gap new (ι (pos 0))
   unfolding total

@@ -1,6 +1,6 @@
--- One literal of rules 5 and 6: where the literal is false and the disequality summed so far holds, the sum
--- with the literal's own disequality added holds (`step-holds`), under demand 3's premise on whole numbers.
--- The argument is the one given, or one more number of the trace (`argued`).
+-- One literal of rules 5 and 6: what an accepted one goes through (`steps`), that strengthening is right under
+-- demand 3's premise on whole numbers (`stronger-holds`), and that the argument is the one given, or one more
+-- number of the trace (`steps-argued`), in lowest terms (`argument-lowest`).
 use mathlib.Core.Path.{_≡_, refl, sym, ap, subst}
 use mathlib.Core.Bool.{Bool, true, false, not, _&&_, _||_}
 use mathlib.Core.Option.{Option, some, none}
@@ -9,7 +9,7 @@ use Prim.Native.Nat.{ℕ}
 use native.Mathlib.Omega.{arith}
 use Rattle.terms.specs.Rational.{Rational, Lowest, negQ, isInteger, isZero}
 use Rattle.terms.specs.Term.{Term}
-use Rattle.terms.specs.Smtlib.{Assignment, isTrue, value, divsEven}
+use Rattle.terms.specs.Smtlib.{Assignment, divsEven}
 use Rattle.terms.proofs.Truths.{both, never}
 use Rattle.terms.proofs.Rationals.{neg-lowest, div-lowest}
 use Rattle.terms.proofs.BookTerms.{Closed}
@@ -25,9 +25,7 @@ use Rattle.rules.specs.Premises.{wholeCoefficients, wholeLiteral}
 use Rattle.rules.proofs.Yields.{Yields, gives, refuses, at-ok, and-then, weaker, by-test, over-yields}
 use Rattle.rules.proofs.Yields.{by-answer, through}
 use Rattle.rules.proofs.IndexMaps.{EntriesOf}
-use Rattle.rules.proofs.Says.{scalar-lowest, says-scaled, says-add, says-as}
-use Rattle.rules.proofs.Gaps.{mul-gap, add-gap}
-use Rattle.rules.proofs.FalseLiterals.{Holding, HoldingPair, false-literal-says}
+use Rattle.rules.proofs.Gaps.{Holding, HoldingPair}
 use Rattle.rules.proofs.Strengthening.{int-atoms, strengthen-holds}
 use Rattle.rules.proofs.VisitsFree.{Follows, answers, stops, SameTerms, disequalityOf-free}
 
@@ -55,7 +53,7 @@ premise-of a (answers {a = c} {b} h) d e w i =
 premise-of a stops d e w i = let z : _≡_ {A = ℕ} 0 1 = cc in absurd (omega arith)
 
 module _ (l : Limits) where
-  literal-whole : (phi : Term) (n : ℕ) (d : Disequality) → disequalityOf l phi n ≡ ok d → (a : Rational) →
+  pub literal-whole : (phi : Term) (n : ℕ) (d : Disequality) → disequalityOf l phi n ≡ ok d → (a : Rational) →
       wholeLiteral phi a ≡ true → WholeOf (d .sum) a
   unfolding wholeLiteral
   literal-whole phi n d e a w = premise-of a (disequalityOf-free l phi n 0) d e w
@@ -114,7 +112,7 @@ module _ (l : Limits) where
   argument-argued p s none =
       and-then (by-answer (inferred l (p .acc .entries) (s .entries)) (λ a e. e)) λ a e. gives refl
 
-  argument-lowest : (P : Term → Type 0) (p : Progress) (s : LinearComb) (arg : Option Rational) →
+  pub argument-lowest : (P : Term → Type 0) (p : Progress) (s : LinearComb) (arg : Option Rational) →
       EntriesOf P Lowest (p .acc .entries) → EntriesOf P Lowest (s .entries) → LowestGiven arg →
       Yields (λ x. Lowest (x .0)) (argumentOf l p s arg)
   unfolding argumentOf
@@ -140,7 +138,7 @@ module _ (l : Limits) where
         ≡ q
 
   module _ (p : Progress) (phi : Term) (arg : Option Rational) (q : Progress) (e : processDisequality l p phi arg ≡ ok q) where
-    steps : Steps p phi arg q
+    pub steps : Steps p phi arg q
     unfolding processDisequality
     steps =
         let t1 = through (disequalityOf l phi (p .visits)) _ q e in
@@ -163,7 +161,7 @@ module _ (l : Limits) where
           is = (let h = t5 .then in cc);
         }
 
-    steps-argued : Argued arg (p .trace) (steps .argument .0) (q .trace)
+    pub steps-argued : Argued arg (p .trace) (steps .argument .0) (q .trace)
     steps-argued =
         subst (Argued arg (p .trace) (steps .argument .0)) (ap (λ (q : Progress). q .trace) (steps .is))
         (at-ok (argument-argued p (steps .literal .sum) arg) (steps .of-argument))
@@ -172,7 +170,7 @@ module _ (l : Limits) where
     argued = (steps .argument .0, steps-argued)
 
     module _ {P : Term → Type 0} (closed : Closed P) (even : (t : Term) → P t → divsEven t ≡ true) (ρ : Assignment) where
-      stronger-holds : (o : ℕ) (s : LinearComb) (a : Rational) → Lowest a → WholeOf s a →
+      pub stronger-holds : (o : ℕ) (s : LinearComb) (a : Rational) → Lowest a → WholeOf s a →
           Holding closed ρ o s → Yields (HoldingPair closed ρ) (strengthened l o s a)
       stronger-holds o s a la w h =
           by-test (allInt (s .entries)) _ _
@@ -180,29 +178,3 @@ module _ (l : Limits) where
           strengthen-holds closed ρ l s (h .good) (int-atoms closed ρ even (s .entries) (h .good .entries) i)
           (w i .0) a la (w i .1) (h .says))
           (λ i. gives h)
-
-      pub step-holds : P phi → isTrue (value ρ phi) ≡ false → LowestGiven arg →
-          ((a : Rational) → Argued arg (p .trace) a (q .trace) → wholeLiteral phi a ≡ true) →
-          Holding closed ρ (p .operator) (p .acc) → Holding closed ρ (q .operator) (q .acc)
-      step-holds k f la w h =
-          let s = steps in
-          let a = s .argument .0 in
-          let d = at-ok (false-literal-says closed ρ l phi k f (p .visits)) (s .of-literal) in
-          let lowest =
-          at-ok (argument-lowest P p (s .literal .sum) arg (h .good .entries) (d .good .entries) la)
-          (s .of-argument) in
-          let fits = literal-whole l phi (p .visits) (s .literal) (s .of-literal) a (w a steps-argued) in
-          let t =
-          at-ok (stronger-holds (s .literal .operator) (s .literal .sum) a lowest fits d) (s .of-stronger) in
-          let o = s .stronger .0 in
-          let m =
-          at-ok (mul-gap closed ρ l (s .stronger .1) (scalar o a) (t .good) (scalar-lowest a lowest o))
-          (s .of-scaled) in
-          let c = at-ok (add-gap closed ρ l (p .acc) (s .scaled) (h .good) (m .good)) (s .of-acc) in
-          subst (λ (q : Progress). Holding closed ρ (q .operator) (q .acc)) (s .is)
-          (record {
-            good = c .good;
-            says =
-                says-as (sym (c .is))
-                (says-add (h .says) (says-as (sym (m .is)) (says-scaled a lowest (t .says))));
-          })

@@ -57,7 +57,7 @@ pub record Opposed (P : Term → Type 0) (phi : Term) (q : ℕ × Terms) : Type 
   pub literal : Opposite (q .1) phi (q .0)
   pub inside : Each P (q .1)
 
-as-op-shape : (t : Term) (q : ℕ × Terms) → asOp t ≡ some q → t ≡ op (recordNumber t) (q .0) (q .1)
+pub as-op-shape : (t : Term) (q : ℕ × Terms) → asOp t ≡ some q → t ≡ op (recordNumber t) (q .0) (q .1)
 unfolding asOp
 as-op-shape (integer i v) q e = cc
 as-op-shape (rational i r) q e = cc

@@ -36,7 +36,9 @@ use Rattle.rules.specs.Limits.{Limits}
 use Rattle.rules.specs.IndexMap.{Map, combination, sub}
 use Rattle.rules.specs.LinearArithmetic.{onlyLiteral}
 use Rattle.rules.specs.Polynomial.{Monomial, Polynomial, monomials, isNought, reduced, fromTerm, polySimp}
-use Rattle.rules.specs.Alethe.{PolySimp, Is2, is}
+use Rattle.rules.specs.Alethe.{PolySimp, Is2, is, Valid, equals}
+use Rattle.rules.proofs.Literals.{at, relation-says, valid-literal}
+use Rattle.terms.proofs.Comparisons.{eqP-true}
 use Rattle.rules.proofs.Yields.{Yields, gives, at-ok, and-then, guarded}
 use Rattle.rules.proofs.Valuations.{Valuation, rationals}
 use Rattle.rules.proofs.WholeNumbers.{wholes}
@@ -102,7 +104,7 @@ either : (x y : Bool) → (x || y) ≡ true → (x ≡ true) ⊎ (y ≡ true)
 either true y e = inl refl
 either false y e = inr e
 
-data Sides : Sort → Sort → Type 0 where
+pub data Sides : Sort → Sort → Type 0 where
   no-vectors : {a b : Sort} → isBits a ≡ false → isBits b ≡ false → Sides a b
   vectors : (w : ℕ) → 1 ≤ w → Sides (bits w) (bits w)
 
@@ -126,7 +128,7 @@ sides (bits w) b p q (inl e) =
     subst (Sides (bits w)) (sym (argument-sort w (p w refl) b e)) (vectors w (p w refl))
 sides (bits w) b p q (inr e) = never (e .0)
 
-equation-sides : (i : ℕ) (t s : Term) → WellFormed (op i Equals (t ▹ s ▹ nil)) → Sides (sort t) (sort s)
+pub equation-sides : (i : ℕ) (t s : Term) → WellFormed (op i Equals (t ▹ s ▹ nil)) → Sides (sort t) (sort s)
 unfolding WellFormed takes if_then_else_ sorts all
 equation-sides i t s (h, (ht, (hs, u))) =
     sides (sort t) (sort s) (width-positive t ht) (width-positive s hs)
@@ -204,3 +206,8 @@ module _ {P : Term → Type 0} (closed : Closed P) (l : Limits) (phi : Term) (p 
                 (equation-sides (recordNumber phi) t s (closed .formed _ q)) refl refl e;
           }
       go none b e = let z : _≡_ {A = ℕ} 0 1 = cc in absurd (omega arith)
+
+-- and such an equation is true
+pub poly-simp-valid : {phi : Term} → PolySimp phi → Valid (phi ∷ [])
+poly-simp-valid {phi} h =
+    valid-literal phi λ ρ. relation-says ρ equals (h .conclusion) ∙ eqP-true (at ρ (h .t)) (at ρ (h .s)) (h .same ρ)

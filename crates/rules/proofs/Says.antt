@@ -67,7 +67,7 @@ nonneg-number a la =
     ∙ at-positive (λ d. lessEqP (wholeP (pos 0)) (Rational.overP (a .num) d) ≡ leZ (pos 0) (a .num))
     (λ k. ap₂ leZ (zero-*ℤ (pos (suc k))) (*ℤ-idr (a .num))) (a .den) (la .positive)
 
-positive-number : (a : Rational) → Lowest a → isPositive (numberℚ a) ≡ Rational.isPositive a
+pub positive-number : (a : Rational) → Lowest a → isPositive (numberℚ a) ≡ Rational.isPositive a
 positive-number a la = positive-is (Rational.value a) ∙ sym (isPositive-value a la)
 
 pub zero-of-number : (a : Rational) → Lowest a → numberℚ a ≡ ι (pos 0) → isZero a ≡ true

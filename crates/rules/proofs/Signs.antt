@@ -180,7 +180,7 @@ infixl 6 _less_
 abbrev pub _less_ : ℚ → ℚ → ℚ
 x less y = sum x (opposite y)
 
-mk-less : (a b : Pair) → mk (addP a (negP b)) ≡ mk a less mk b
+pub mk-less : (a b : Pair) → mk (addP a (negP b)) ≡ mk a less mk b
 mk-less a b = mk-add a (negP b) ∙ ap (sum (mk a)) (mk-neg b)
 
 module _ (a b : Pair) where

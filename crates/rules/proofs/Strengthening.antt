@@ -42,7 +42,7 @@ use Rattle.rules.proofs.Signs.{Nonneg, Positive, nonneg-as, positive-as
 use Rattle.rules.proofs.Signs.{positive-whole, positive-of-nonneg, at-most, _less_}
 use Rattle.rules.proofs.Says.{Says, is-zero, is-nonneg, is-positive}
 use Rattle.rules.proofs.Gaps.{Good, gap}
-use Rattle.rules.proofs.FalseLiterals.{HoldingPair}
+use Rattle.rules.proofs.Gaps.{HoldingPair}
 use Rattle.rules.proofs.Multiples.{Multiple, of-one, each-of-one, gcdFrom-divides, WholeAtoms, WholeSum}
 use Rattle.rules.proofs.Multiples.{sum-multiple}
 
@@ -111,7 +111,7 @@ times-whole d a ld la w z e =
 
 -- ---- Int atoms
 
-is-int : (s : Sort) → sameSort s int ≡ true → s ≡ int
+pub is-int : (s : Sort) → sameSort s int ≡ true → s ≡ int
 is-int bool e = cc
 is-int int e = refl
 is-int real e = cc

@@ -8,7 +8,7 @@ use Prim.Native.Nat.{ℕ, _%_}
 use lib.Dec.{T}
 use lib.IntN.{pos}
 use Rattle.terms.specs.Pair.{Pair, wholeP, addP, mulP, _≈_, _≤P_, _<P_}
-use Rattle.terms.specs.Rational.{Rational, value, isZero, isPositive, absQ, lessQ, lessEqQ}
+use Rattle.terms.specs.Rational.{Rational, Lowest, value, isZero, isPositive, absQ, lessQ, lessEqQ}
 use Rattle.terms.specs.Operator.{Not, And, Or, Equals, LessThan, LessEq, GreaterThan, GreaterEq, Sub, Mult}
 use Rattle.terms.specs.Operator.{ToReal, BvSub, BvMul}
 use Rattle.terms.specs.Term.{Term, Terms, sort}
@@ -152,8 +152,8 @@ pub data AllInt : List (Pair × Term) → Type 0 where
   none : AllInt []
   one : {c : Pair} {t : Term} {es : List (Pair × Term)} → sort t ≡ int → AllInt es → AllInt ((c, t) ∷ es)
 
--- step 4: over integers a constraint may be replaced by one with the same left side and a larger bound that follows from it. The
--- specification has one such bound, ⌊d⌋ + 1; Carcara has others too (docs/DIFFERENCES.md).
+-- step 4: over integers a constraint may be replaced by one with the same left side that follows from it. The specification has one
+-- such, with the bound ⌊d⌋ + 1; Carcara has others too (docs/DECISIONS.md).
 pub data Strengthens : Constraint → Constraint → Type 0 where
   unchanged : (k : Constraint) → Strengthens k k
   raised :
@@ -184,8 +184,9 @@ scaled k a =
       bound = mulP (factor (k .relation) a) (k .bound);
     }
 
--- one literal with its argument
+-- one literal with its argument, a number in lowest terms
 pub record Line (phi : Term) (a : Rational) (k : Constraint) : Type 0 where
+  pub number : Lowest a
   pub negated : Constraint
   pub strong : Constraint
   pub states : States phi negated

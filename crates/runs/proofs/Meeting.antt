@@ -1,0 +1,177 @@
+-- Every accepted step meets its rule as the Alethe specification words it, where demand 3's premises hold
+-- (`meets-alethe`). Rule by rule this is proved in the crate rules; here are the step loop and the run's terms,
+-- which are terms of the book. With the limits theorem it is demand 2 (`demand2`).
+use mathlib.Core.Path.{_≡_, refl, sym, _∙_, ap₂}
+use mathlib.Core.Bool.{Bool, true, false, _||_}
+use mathlib.Core.List.{List, [], _∷_}
+use Prim.Native.Nat.{ℕ, suc, _≤_}
+use native.Mathlib.Omega.{arith}
+use borrow.Author.Tests.{eqb-true, eqb-false}
+use lib.Dec.{T, eqb}
+use Rattle.terms.specs.Bytes.{Bytes}
+use Rattle.terms.specs.Term.{Term}
+use Rattle.terms.specs.Book.{readBook}
+use Rattle.terms.specs.declared.book.BookRead.{BookRead}
+use Rattle.terms.specs.declared.book.BookRead.the-variants.{Records, RefusedAt}
+use Rattle.terms.proofs.Truths.{both, T-true, true-T}
+use Rattle.terms.proofs.Accepted.{accepted-count}
+use Rattle.terms.proofs.BookTerms.{Closed, OfBook, book-closed}
+use Rattle.rules.specs.Refusal.{Result}
+use Rattle.rules.specs.Refusal.Result.{ok, refused}
+use Rattle.rules.specs.Limits.{Limits, limited}
+use Rattle.rules.specs.LinearArithmetic.{Progress, laRwEq, laDisequality, laTotality, laTautology, laGeneric}
+use Rattle.rules.specs.LinearArithmetic.{laGenericPartial}
+use Rattle.rules.specs.Polynomial.{polySimp, polySimpRel}
+use Rattle.rules.specs.Premises.{allEven, wholeLiterals}
+use Rattle.rules.proofs.Yields.{Yields, known, by-test}
+use Rattle.rules.proofs.Yields.Yields.{gives}
+use Rattle.rules.proofs.Shapes.{one-literal}
+use Rattle.rules.proofs.ShapeRules.{rw-eq-literal, rw-eq-shape, disequality-literal, disequality-shape}
+use Rattle.rules.proofs.ShapeRules.{totality-literal, totality-shape}
+use Rattle.rules.proofs.TautologySound.{tautology-literal, tautology-form}
+use Rattle.rules.proofs.PolynomialsEqual.{poly-simp-same}
+use Rattle.rules.proofs.RelationRule.{poly-simp-rel-literals, poly-simp-rel-form}
+use Rattle.rules.proofs.GenericForm.{laGeneric-form, laGenericPartial-form}
+use Rattle.runs.specs.Run.{Step, readRun}
+use Rattle.runs.specs.Check.{Accepted, Marking, clausesOf, checkStep, checkSteps, markRun, mark}
+use Rattle.runs.specs.Demands.{Every, end, also, Premises, AllPremises, Meets, stepsOf, MeetsAlethe}
+use Rattle.runs.specs.Demands.{Demand2}
+use Rattle.runs.specs.Demands.Meets.{assume, laRwEq as by-rw-eq, laDisequality as by-disequality}
+use Rattle.runs.specs.Demands.Meets.{laTotality as by-totality, laTautology as by-tautology}
+use Rattle.runs.specs.Demands.Meets.{laGeneric as by-generic}
+use Rattle.runs.specs.Demands.Meets.{polySimp as by-poly-simp, polySimpRel as by-poly-simp-rel}
+use Rattle.runs.proofs.Limits.{the-rusts-answers}
+use Rattle.runs.proofs.RunTerms.{StepOf, next, markBook, literal-of, premise-of, run-of-book}
+
+-- ---- one step
+
+either-true : (a : Bool) {b : Bool} → b ≡ true → T (a || b)
+either-true true e = tt
+either-true false e = true-T e
+
+-- a rule that is none of those below k and not k
+above : (k r : ℕ) → k ≤ r → eqb r k ≡ false → suc k ≤ r
+above k r h e = let n = eqb-false r k e in omega (arith, h, n)
+
+module _ {Q : Term → Type 0} (closed : Closed Q) (l : Limits) (run : List Step) (all : Every (StepOf Q) run) where
+  module _ (s : Step) (n : ℕ) (h : StepOf Q s) where
+    -- rules 1 to 4 and 7: one literal, whose form is the rule's
+    rw-eq-meets : s .rule ≡ 1 → (u : Unit {0}) → laRwEq (s .clause) ≡ ok u → Meets run s []
+    rw-eq-meets r u e =
+        let x = rw-eq-literal (s .clause) e in
+        by-rw-eq (x .0) r (x .1) (rw-eq-shape closed (x .0) (literal-of s h (x .0) (x .1)) (rw (x .1) at e))
+
+    disequality-meets : s .rule ≡ 2 → (u : Unit {0}) → laDisequality (s .clause) ≡ ok u → Meets run s []
+    disequality-meets r u e =
+        let x = disequality-literal (s .clause) e in
+        by-disequality (x .0) r (x .1)
+        (disequality-shape closed (x .0) (literal-of s h (x .0) (x .1)) (rw (x .1) at e))
+
+    totality-meets : s .rule ≡ 3 → (u : Unit {0}) → laTotality (s .clause) ≡ ok u → Meets run s []
+    totality-meets r u e =
+        let x = totality-literal (s .clause) e in
+        by-totality (x .0) r (x .1) (totality-shape closed (x .0) (literal-of s h (x .0) (x .1)) (rw (x .1) at e))
+
+    tautology-meets : s .rule ≡ 4 → (m : ℕ) → laTautology l (s .clause) n ≡ ok m → Meets run s []
+    tautology-meets r m e =
+        let x = tautology-literal l (s .clause) n m e in
+        by-tautology (x .0) r (x .1)
+        (tautology-form closed l (x .0) (literal-of s h (x .0) (x .1)) n m (rw (x .1) at e))
+
+    poly-simp-meets : s .rule ≡ 7 → (m : ℕ) → polySimp l (s .clause) n ≡ ok m → Meets run s []
+    unfolding polySimp
+    poly-simp-meets r m e =
+        let x = one-literal (s .clause) _ e in
+        by-poly-simp (x .0) r (x .1)
+        (poly-simp-same closed l (x .0) (literal-of s h (x .0) (x .1)) n m (rw (x .1) at e))
+
+    -- rules 5 and 6: demand 3's premises say that strengthening is right, and that every literal has one argument
+    module _ (p : Progress) (g : Premises s (p .trace)) (r : T (eqb (s .rule) 5 || eqb (s .rule) 6)) where
+      even : allEven (s .clause) ≡ true
+      even = both (allEven (s .clause)) (allEven (s .args)) (T-true _ (g .evenDivs)) .0
+
+      whole : wholeLiterals (s .clause) (s .args) (p .trace) ≡ true
+      whole = T-true _ (g .whole r)
+
+      generic-meets : laGeneric l (s .clause) (s .args) n ≡ ok p → Meets run s (p .trace)
+      generic-meets e =
+          by-generic r (laGeneric-form closed (s .clause) (h .clause) even l (s .args) (h .args) n p e whole)
+
+      partial-meets : s .rule ≡ 6 → laGenericPartial l (s .clause) (s .args) n ≡ ok p → Meets run s (p .trace)
+      partial-meets six e =
+          by-generic r
+          (laGenericPartial-form closed (s .clause) (h .clause) even l (s .args) (h .args) n p e whole (g .noSurplus six))
+
+    -- rule 8: the premise is a literal of an earlier step
+    rel-meets :
+        s .rule ≡ 8 → (u : Unit {0}) → polySimpRel l (s .clause) (clausesOf run (s .premises)) ≡ ok u → Meets run s []
+    rel-meets r u e =
+        let x = poly-simp-rel-literals l (s .clause) (clausesOf run (s .premises)) e in
+        by-poly-simp-rel (x .premise) (x .phi) r (x .premises) (x .conclusion)
+        (poly-simp-rel-form closed l (x .premise) (x .phi)
+        (premise-of run all (s .premises) (x .premise) (x .premises)) (literal-of s h (x .phi) (x .conclusion))
+        (sym (ap₂ (polySimpRel l) (x .conclusion) (x .premises)) ∙ e))
+
+    step-meets : Yields (λ a. Premises s (a .inferred) → Meets run s (a .inferred)) (checkStep l run s n)
+    unfolding checkStep
+    step-meets =
+        by-test (eqb (s .rule) 0) _ _ (λ e. gives λ g. assume (eqb-true (s .rule) 0 e)) λ n0.
+        by-test (eqb (s .rule) 1) _ _ (λ e. known _ λ u f. gives λ g. rw-eq-meets (eqb-true (s .rule) 1 e) u f) λ n1.
+        by-test (eqb (s .rule) 2) _ _ (λ e. known _ λ u f. gives λ g. disequality-meets (eqb-true (s .rule) 2 e) u f) λ n2.
+        by-test (eqb (s .rule) 3) _ _ (λ e. known _ λ u f. gives λ g. totality-meets (eqb-true (s .rule) 3 e) u f) λ n3.
+        by-test (eqb (s .rule) 4) _ _ (λ e. known _ λ m f. gives λ g. tautology-meets (eqb-true (s .rule) 4 e) m f) λ n4.
+        by-test (eqb (s .rule) 5) _ _ (λ e. known _ λ p f. gives λ g. generic-meets p g (rw e tt) f) λ n5.
+        by-test (eqb (s .rule) 6) _ _ (λ e. known _ λ p f. gives λ g. partial-meets p g (either-true (eqb (s .rule) 5) e) (eqb-true (s .rule) 6 e) f) λ n6.
+        by-test (eqb (s .rule) 7) _ _ (λ e. known _ λ m f. gives λ g. poly-simp-meets (eqb-true (s .rule) 7 e) m f) λ n7.
+        let r = s .rule in
+        let least : 8 ≤ r =
+        above 7 r (above 6 r (above 5 r (above 4 r (above 3 r (above 2 r (above 1 r (above 0 r (omega arith) n0) n1) n2) n3) n4) n5) n6) n7 in
+        known _ λ u f. gives λ g. rel-meets (omega (arith, least, h .rule)) u f
+
+  -- ---- the steps in turn
+
+  -- where the premises hold of them, the accepted steps meet their rules
+  abbrev Meet : Marking → Type 0
+  Meet m = AllPremises (m .steps) → Every (λ x. Meets run (x .0) (x .1)) (m .steps)
+
+  steps-meet : (ss : List Step) → Every (StepOf Q) ss → (n : ℕ) → Meet (checkSteps l run ss n)
+  unfolding checkSteps
+  steps-meet [] hs n g = end
+  steps-meet (s ∷ ss) (also h hs) n g = go (checkStep l run s n) (step-meets s n h) (steps-meet ss hs) g
+    where
+      go :
+          (x : Result Accepted) → Yields (λ a. Premises s (a .inferred) → Meets run s (a .inferred)) x →
+          ((k : ℕ) → Meet (checkSteps l run ss k)) → Meet (next l run s ss n x)
+      go (refused r) y rest g = end
+      go (ok a) (gives y) rest (also g gs) = also (y g) (rest (a .visits) gs)
+
+-- ---- a run
+
+module _ (l : Limits) (book run : Bytes) where
+  run-meets :
+      (n : ℕ) → readBook book ≡ Records n → AllPremises (markRun l (readRun book run) .steps) →
+      Every (λ x. Meets (stepsOf book run) (x .0) (x .1)) (markRun l (readRun book run) .steps)
+  unfolding markRun
+  run-meets n e = go (readRun book run) (run-of-book book n (accepted-count book n e) run)
+    where
+      go :
+          (r : Result (List Step)) → Yields (Every (StepOf (OfBook book n))) r → AllPremises (markRun l r .steps) →
+          Every (λ x. Meets (elim r [ ok ss ↦ ss | refused r ↦ [] ]) (x .0) (x .1)) (markRun l r .steps)
+      go (ok ss) (gives h) g = steps-meet (book-closed book n e) l ss h ss h 0 g
+      go (refused r) y g = end
+
+pub meets-alethe : MeetsAlethe
+unfolding mark
+meets-alethe book run limit = go (readBook book) refl
+  where
+    go :
+        (b : BookRead) → readBook book ≡ b →
+        AllPremises (markBook (limited limit) book run b .steps) →
+        Every (λ x. Meets (stepsOf book run) (x .0) (x .1)) (markBook (limited limit) book run b .steps)
+    go (Records n) e g = run-meets (limited limit) book run n e g
+    go (RefusedAt c i) e g = end
+
+-- ---- demand 2
+
+pub demand2 : Demand2
+demand2 = record { theRust = the-rusts-answers; alethe = meets-alethe }
