@@ -51,3 +51,4 @@ pub mod RelationShapes
 pub mod RelationRule
 pub mod RelationNumbers
 pub mod RelationSound
+pub mod LinearCases

@@ -12,14 +12,12 @@ use Rattle.terms.specs.Term.{Term, Terms, binary}
 use Rattle.terms.specs.Term.Term.{integer, rational, bitvector, atom, op}
 use Rattle.terms.specs.Term.Terms.{nil, _▹_}
 use Rattle.terms.specs.Operator.{Or, Equals, GreaterThan, GreaterEq}
-use Rattle.rules.specs.Refusal.{Result}
 use Rattle.rules.specs.Limits.{Limits, theRust}
 use Rattle.rules.specs.IndexMap.{Map, Walked, walked, new, addEntry}
-use Rattle.rules.specs.LinearComb.{LinearComb, Arm, Factors, terms, mul, coefficientsGcd, armOf, addLeaf}
+use Rattle.rules.specs.LinearComb.{LinearComb, terms, mul, coefficientsGcd, armOf, addLeaf}
 use Rattle.rules.specs.LinearComb.{factorsOf, addTerm, addArgs, addDifference, addFirst, addSecond}
 use Rattle.rules.specs.LinearComb.{fromTerm}
-use Rattle.rules.specs.LinearComb.Arm.{sum, negation, difference, product, leaf}
-use Rattle.rules.specs.LinearComb.Factors.{firstIs, secondIs, neitherIs}
+use Rattle.rules.specs.LinearComb.Arm.{sum}
 use Rattle.rules.specs.LinearArithmetic.{Clause, Progress, progress, onlyLiteral, negateDisequality}
 use Rattle.rules.specs.LinearArithmetic.{disequalityOf, isIntegerTimes, raised, floored, strengthen}
 use Rattle.rules.specs.LinearArithmetic.{inferred, argumentOf, allInt, strengthened, scalar}
@@ -29,6 +27,7 @@ use Rattle.rules.proofs.Limited.{_≼_, bind, either, maybe, fractionOf
 use Rattle.rules.proofs.Limited.{times-limited, plus-limited, over-limited, scaleAll-limited}
 use Rattle.rules.proofs.Limited.{add-limited, sub-limited, visit-limited, addEntry-limited}
 use Rattle.rules.proofs.Limited.{addProduct-limited, Unbounded}
+use Rattle.rules.proofs.LinearCases.{at-arm, at-factors}
 use Rattle.rules.proofs.Limited._≼_.{equal}
 
 -- ---- linear combinations
@@ -61,24 +60,6 @@ module _ (l : Limits) where
   factorsOf-limited (a ▹ b ▹ ts) =
       bind (fractionOf-limited l a) λ p. bind (fractionOf-limited l b) λ q. equal _
 
-module _ {A : Type 0} where
-  at-arm : {a b c d e a′ b′ c′ d′ e′ : Result A} (k : Arm) → a ≼ a′ → b ≼ b′ → c ≼ c′ → d ≼ d′ → e ≼ e′ →
-      _≼_ {A = A} (elim k [ sum ↦ a | negation ↦ b | difference ↦ c | product ↦ d | leaf ↦ e ])
-      (elim k [ sum ↦ a′ | negation ↦ b′ | difference ↦ c′ | product ↦ d′ | leaf ↦ e′ ])
-  at-arm sum p q r s t = p
-  at-arm negation p q r s t = q
-  at-arm difference p q r s t = r
-  at-arm product p q r s t = s
-  at-arm leaf p q r s t = t
-
-  at-factors : {f g f′ g′ : Rational → Result A} {y y′ : Result A} (k : Factors) →
-      ((q : Rational) → f q ≼ f′ q) → ((q : Rational) → g q ≼ g′ q) → y ≼ y′ →
-      _≼_ {A = A} (elim k [ firstIs q ↦ f q | secondIs q ↦ g q | neitherIs ↦ y ])
-      (elim k [ firstIs q ↦ f′ q | secondIs q ↦ g′ q | neitherIs ↦ y′ ])
-  at-factors (firstIs q) p r s = p q
-  at-factors (secondIs q) p r s = r q
-  at-factors neitherIs p r s = s
-
 module _ (l : Limits) where
   mutual
     unfolding addTerm
@@ -90,12 +71,12 @@ module _ (l : Limits) where
     addTerm-limited (atom i s n) c w = bind (visit-limited l w) (addLeaf-limited l (atom i s n) c)
     addTerm-limited (op i o ts) c w =
         bind (visit-limited l w) λ v.
-        at-arm (armOf o ts)
+        at-arm _≼_ (armOf o ts)
         (addArgs-limited ts c v)
         (addArgs-limited ts (negQ c) v)
         (addDifference-limited ts c v)
         (bind (factorsOf-limited l ts) λ k.
-        at-factors k
+        at-factors _≼_ k
         (λ q. bind (times-limited l q c) λ r. addSecond-limited ts r v)
         (λ q. bind (times-limited l q c) λ r. addFirst-limited ts r v)
         (addAtom-limited l (op i o ts) c v))

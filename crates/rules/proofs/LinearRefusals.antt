@@ -14,11 +14,9 @@ use Rattle.terms.specs.Term.Terms.{nil, _▹_}
 use Rattle.rules.specs.Refusal.{Result}
 use Rattle.rules.specs.Limits.{Limits}
 use Rattle.rules.specs.IndexMap.{Map, Walked}
-use Rattle.rules.specs.LinearComb.{LinearComb, Arm, Factors, terms, mul, armOf, addLeaf}
+use Rattle.rules.specs.LinearComb.{LinearComb, terms, mul, armOf, addLeaf}
 use Rattle.rules.specs.LinearComb.{factorsOf, addTerm, addArgs, addDifference, addFirst, addSecond}
 use Rattle.rules.specs.LinearComb.{fromTerm}
-use Rattle.rules.specs.LinearComb.Arm.{sum, negation, difference, product, leaf}
-use Rattle.rules.specs.LinearComb.Factors.{firstIs, secondIs, neitherIs}
 use Rattle.rules.specs.LinearArithmetic.{Clause, Progress, onlyLiteral, twoSides, negateDisequality}
 use Rattle.rules.specs.LinearArithmetic.{isIntegerTimes, allInt, strengthened, both, negatedBinary}
 use Rattle.rules.specs.LinearArithmetic.{disequalityOf, raised, strengthen, inferred, argumentOf}
@@ -29,6 +27,7 @@ use Rattle.rules.specs.LinearArithmetic.{tautologyCase}
 use Rattle.rules.proofs.StepRefusals.{Late, then, either, maybe, along, numbers-late, lates}
 use Rattle.rules.proofs.StepRefusals.{signedNumberErr-late, times-late, fractionOf-late}
 use Rattle.rules.proofs.StepRefusals.{addEntry-late, visit-late}
+use Rattle.rules.proofs.LinearCases.{by-arm, by-factors}
 use Rattle.rules.proofs.StepRefusals.Late.{answers, refuses}
 
 -- ---- rules 1 to 3
@@ -52,22 +51,6 @@ unfolding laTotality
 laTotality-late c = search (along, onlyLiteral-late) depth 12
 
 -- ---- linear combinations
-
-module _ {A : Type 0} where
-  at-arm : {a b c d e : Result A} (k : Arm) → Late a → Late b → Late c → Late d → Late e →
-      Late {A = A} (elim k [ sum ↦ a | negation ↦ b | difference ↦ c | product ↦ d | leaf ↦ e ])
-  at-arm sum p q r s t = p
-  at-arm negation p q r s t = q
-  at-arm difference p q r s t = r
-  at-arm product p q r s t = s
-  at-arm leaf p q r s t = t
-
-  at-factors : {f g : Rational → Result A} {y : Result A} (k : Factors) → ((q : Rational) → Late (f q)) →
-      ((q : Rational) → Late (g q)) → Late y →
-      Late {A = A} (elim k [ firstIs q ↦ f q | secondIs q ↦ g q | neitherIs ↦ y ])
-  at-factors (firstIs q) p r s = p q
-  at-factors (secondIs q) p r s = r q
-  at-factors neitherIs p r s = s
 
 module _ (l : Limits) where
   mul-late : (s : LinearComb) (q : Rational) → Late (mul l s q)
@@ -95,12 +78,12 @@ module _ (l : Limits) where
     addTerm-late (atom i s n) c w = search (lates, addLeaf-late)
     addTerm-late (op i o ts) c w =
         then (visit-late l w) λ v.
-        at-arm (armOf o ts)
+        by-arm Late (armOf o ts)
         (addArgs-late ts c v)
         (addArgs-late ts (negQ c) v)
         (addDifference-late ts c v)
         (then (factorsOf-late ts) λ k.
-        at-factors k
+        by-factors Late k
         (λ q. then (times-late l q c) λ r. addSecond-late ts r v)
         (λ q. then (times-late l q c) λ r. addFirst-late ts r v)
         (addEntry-late terms l (op i o ts) c v))

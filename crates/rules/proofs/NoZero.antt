@@ -32,8 +32,9 @@ use Rattle.rules.specs.LinearArithmetic.{disequalityOf, isIntegerTimes, 
 use Rattle.rules.specs.LinearArithmetic.{inferred, argumentOf, strengthened, scalar, processDisequality}
 use Rattle.rules.specs.LinearArithmetic.{foldLiterals}
 use Rattle.rules.proofs.NonzeroNumbers.{negQ-nonzero, mulQ-nonzero}
-use Rattle.rules.proofs.Yields.{Yields, and-then, past, weaker, by-test, by-option, by-arm}
-use Rattle.rules.proofs.Yields.{by-factors, ranged-yields}
+use Rattle.rules.proofs.Yields.{Yields, and-then, past, weaker, by-test, by-option}
+use Rattle.rules.proofs.Yields.{ranged-yields}
+use Rattle.rules.proofs.LinearCases.{by-arm, by-factors}
 use Rattle.rules.proofs.Yields.Yields.{gives}
 
 -- ---- maps
@@ -167,12 +168,12 @@ module _ (l : Limits) where
     addTerm-nonzero (atom i s n) c w h = and-then (visit-nonzero l w h) (addLeaf-nonzero (atom i s n) c)
     addTerm-nonzero (op i o ts) c w h =
         and-then (visit-nonzero l w h) λ v g.
-        by-arm (armOf o ts)
+        by-arm (Yields WalkNoZero) (armOf o ts)
         (addArgs-nonzero ts c v g)
         (addArgs-nonzero ts (negQ c) v g)
         (addDifference-nonzero ts c v g)
         (past (factorsOf l ts) λ k.
-        by-factors k
+        by-factors (Yields WalkNoZero) k
         (λ q. past (times l q c) λ r. addSecond-nonzero ts r v g)
         (λ q. past (times l q c) λ r. addFirst-nonzero ts r v g)
         (addAtom-nonzero (op i o ts) c v g))

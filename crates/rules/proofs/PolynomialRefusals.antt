@@ -15,35 +15,21 @@ use Rattle.rules.specs.Refusal.Result.{ok, refused}
 use Rattle.rules.specs.Limits.{Limits}
 use Rattle.rules.specs.IndexMap.{Map, Walked}
 use Rattle.rules.specs.LinearArithmetic.{Clause, unaryErr, binaryErr}
-use Rattle.rules.specs.Polynomial.{Monomial, Polynomial, monomials, Scaled, Arm, mulEach, mulLeft}
+use Rattle.rules.specs.Polynomial.{Monomial, Polynomial, monomials, Scaled, mulEach, mulLeft}
 use Rattle.rules.specs.Polynomial.{insertScaled, mul, premiseTerm, onlyPremise, operands, numberCase}
 use Rattle.rules.specs.Polynomial.{armOf, addLeaf, divisorOf, addTerm, addArgs, addDifference, addFirst}
 use Rattle.rules.specs.Polynomial.{firstFactor, otherFactors, fromTerm, polySimp, polySimpRel}
 use Rattle.rules.specs.Polynomial.{scaled, differenceOf, assertSides, assertOdd, bitvectorCase}
-use Rattle.rules.specs.Polynomial.Arm.{sum, negation, difference, product, quotient, leaf}
 use Rattle.rules.proofs.StepRefusals.{Late, then, maybe, along, numbers-late, lates, orElse-late}
 use Rattle.rules.proofs.StepRefusals.{assert-late, over-late, fractionOf-late, addEntry-late}
 use Rattle.rules.proofs.StepRefusals.{visit-late}
 use Rattle.rules.proofs.StepRefusals.Late.{answers, refuses}
+use Rattle.rules.proofs.PolynomialCases.{by-vector, by-arm}
 use Rattle.rules.proofs.LinearRefusals.{onlyLiteral-late, assertEq-late}
 
 -- ---- cases
 
 module _ {A : Type 0} where
-  at-arm : {a b c d e f : Result A} (k : Arm) → Late a → Late b → Late c → Late d → Late e → Late f →
-      Late {A = A} (elim k [ sum ↦ a | negation ↦ b | difference ↦ c | product ↦ d | quotient ↦ e | leaf ↦ f ])
-  at-arm sum p q r s t u = p
-  at-arm negation p q r s t u = q
-  at-arm difference p q r s t u = r
-  at-arm product p q r s t u = s
-  at-arm quotient p q r s t u = t
-  at-arm leaf p q r s t u = u
-
-  at-bits : {f : ℕ → ℕ → Result A} {y : Result A} (b : BitVector) → ((v n : ℕ) → Late (f v n)) → Late y →
-      Late {A = A} (elim b [ Bits v n ↦ f v n | NotBitvector ↦ y ])
-  at-bits (Bits v n) p q = p v n
-  at-bits NotBitvector p q = q
-
   -- by an attempt, whose refusal does not matter
   at-attempt : {B : Type 0} {f : B → Result A} {y : Result A} (m : Result B) → ((b : B) → Late (f b)) →
       Late y →
@@ -80,7 +66,7 @@ module _ (l : Limits) where
   addLeaf-late t c w =
       then (fractionOf-late l t) λ f.
       maybe f (λ q. search lates)
-      (at-bits (asBitvector t) (λ v n. search lates) (addEntry-late monomials l (t ∷ []) c w))
+      (by-vector Late (asBitvector t) (λ v n e. search lates) (addEntry-late monomials l (t ∷ []) c w))
 
   divisorOf-late : (ts : Terms) → Late (divisorOf l ts)
   unfolding divisorOf
@@ -98,15 +84,17 @@ module _ (l : Limits) where
     addTerm-late (atom i s n) d c w = search (lates, addLeaf-late)
     addTerm-late (op i o ts) d c w =
         then (visit-late l w) λ v.
-        at-arm (armOf o ts)
-        (addArgs-late ts d c v)
-        (addArgs-late ts d (negQ c) v)
-        (addDifference-late ts d c v)
-        (then (assert-late _ _ tt) λ u.
+        by-arm Late (λ a. Unit {0}) (armOf o ts) tt
+        (λ a. addArgs-late ts d c v)
+        (λ a. addArgs-late ts d (negQ c) v)
+        (λ a. addDifference-late ts d c v)
+        (λ a.
+        then (assert-late _ _ tt) λ u.
         then (firstFactor-late ts (suc d) (v .visits)) λ r. search (lates, insertScaled-late))
-        (then (divisorOf-late ts) λ q.
+        (λ a.
+        then (divisorOf-late ts) λ q.
         maybe q (λ r. then (over-late l c r) λ k. addFirst-late ts d k v) (addLeaf-late (op i o ts) c v))
-        (addLeaf-late (op i o ts) c v)
+        (λ a. addLeaf-late (op i o ts) c v)
 
     addArgs-late : (ts : Terms) (d : ℕ) (c : Rational) (w : Walked Monomial) → Late (addArgs ts l d c w)
     addArgs-late nil d c w = answers

@@ -99,7 +99,7 @@ module _ {R : Ring} {N : Valuation R} (T : TermReading N) where
         (by-option (ReadAs t)
         (λ q r. let h = T .fraction t f q r in times-as (h .1) (constant-adds q (h .0)) c w gc g)
         (λ r.
-        by-vector (asBitvector t)
+        by-vector (Yields _) (asBitvector t)
         (λ v n e.
         times-as (vector-value t f v n e) (constant-adds (whole (pos v)) (N .good-whole (pos v))) c w gc g)
         (times-as (sym (atom-value R value t)) (entry-adds t f) c w gc g)))
@@ -189,7 +189,7 @@ module _ {R : Ring} {N : Valuation R} (T : TermReading N) where
       adds = λ f d c w gc g.
           visited S l w g
           (λ u k.
-          by-arm (λ a. Taken N value Fits a ts (value (op i o ts))) (armOf o ts) (T .operation i o ts f)
+          by-arm (Yields _) (λ a. Taken N value Fits a ts (value (op i o ts))) (armOf o ts) (T .operation i o ts f)
           (λ q. times-as (q .1) (h .args (q .0) d) c u gc k)
           (λ q. times-as (q .1) (negation-adds ts h (q .0) d) c u gc k)
           (λ q. times-as (q .1) (h .rest (q .0) d) c u gc k)

@@ -17,14 +17,14 @@ use Rattle.rules.specs.Refusal.Result.{ok, refused}
 use Rattle.rules.specs.Limits.{Limits, theRust, times}
 use Rattle.rules.specs.IndexMap as IndexMap
 use Rattle.rules.specs.IndexMap.{combination, Walked, walked, new, visit, addEntry, addConstant}
-use Rattle.rules.specs.LinearComb.{LinearComb, Arm, Factors, terms, armOf, addLeaf, addTerm, addArgs}
+use Rattle.rules.specs.LinearComb.{LinearComb, terms, armOf, addLeaf, addTerm, addArgs}
 use Rattle.rules.specs.LinearComb.{addDifference, addFirst, addSecond, fromTerm}
-use Rattle.rules.specs.LinearComb.Arm.{sum, negation, difference, product, leaf}
-use Rattle.rules.specs.LinearComb.Factors.{firstIs, secondIs, neitherIs}
+use Rattle.rules.specs.LinearComb.Arm.{sum}
 use Rattle.rules.specs.LinearArithmetic.{Disequality, disequality, negateDisequality, turned}
 use Rattle.rules.specs.LinearArithmetic.{disequalityOf}
 use Rattle.rules.proofs.Limited.{_≼_, sub-limited, Unbounded}
 use Rattle.rules.proofs.Limited._≼_.{equal, stopped}
+use Rattle.rules.proofs.LinearCases.{at-arm, at-factors}
 use Rattle.rules.proofs.LimitedLinear.{fromTerm-limited}
 
 -- ---- where the first answers, the second answers in the relation R
@@ -103,24 +103,6 @@ leaf-free t c s n k = limited-then (equal _) at
     at (some q) = limited-then (equal _) λ r. constant-free r s n k
     at none = entry-free t c s n k
 
-at-arm : {a b c d e a′ b′ c′ d′ e′ : Result (Walked Term)} (k : Arm) → a ↝ a′ → b ↝ b′ → c ↝ c′ → d ↝ d′ →
-    e ↝ e′ →
-    _↝_ (elim k [ sum ↦ a | negation ↦ b | difference ↦ c | product ↦ d | leaf ↦ e ])
-    (elim k [ sum ↦ a′ | negation ↦ b′ | difference ↦ c′ | product ↦ d′ | leaf ↦ e′ ])
-at-arm sum p q r s t = p
-at-arm negation p q r s t = q
-at-arm difference p q r s t = r
-at-arm product p q r s t = s
-at-arm leaf p q r s t = t
-
-at-factors : {f g f′ g′ : Rational → Result (Walked Term)} {y y′ : Result (Walked Term)} (k : Factors) →
-    ((q : Rational) → f q ↝ f′ q) → ((q : Rational) → g q ↝ g′ q) → y ↝ y′ →
-    _↝_ (elim k [ firstIs q ↦ f q | secondIs q ↦ g q | neitherIs ↦ y ])
-    (elim k [ firstIs q ↦ f′ q | secondIs q ↦ g′ q | neitherIs ↦ y′ ])
-at-factors (firstIs q) p r s = p q
-at-factors (secondIs q) p r s = r q
-at-factors neitherIs p r s = s
-
 mutual
   unfolding addTerm
 
@@ -131,9 +113,9 @@ mutual
   term-free (atom i a v) c s n k = walk-then _ (visit-free s n k) (leaf-free (atom i a v) c)
   term-free (op i o ts) c s n k =
       walk-then _ (visit-free s n k) λ s n k.
-      at-arm (armOf o ts) (args-free ts c s n k) (args-free ts (negQ c) s n k) (difference-free ts c s n k)
+      at-arm _↝_ (armOf o ts) (args-free ts c s n k) (args-free ts (negQ c) s n k) (difference-free ts c s n k)
       (limited-then (equal _) λ f.
-      at-factors f (λ q. limited-then (equal _) λ d. second-free ts d s n k)
+      at-factors _↝_ f (λ q. limited-then (equal _) λ d. second-free ts d s n k)
       (λ q. limited-then (equal _) λ d. first-free ts d s n k)
       (entry-free (op i o ts) c s n k))
       (leaf-free (op i o ts) c s n k)

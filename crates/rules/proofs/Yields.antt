@@ -4,7 +4,7 @@
 --     by-answer, through       from each answer; an answer behind `>>=` goes through one before it
 --     and-then, known, past       along `>>=`: a law of the first value is known, or the value, or nothing
 --     weaker, guarded       from P to Q; behind `assert`
---     by-test, by-option, by-arm, by-factors       along a case
+--     by-test, by-option       along a case
 --     ranged-yields, plus-yields, times-yields, over-yields, fraction-yields       under a limit as without one
 use mathlib.Core.Path.{_≡_, refl, subst}
 use mathlib.Core.Bool.{Bool, true, false, _&&_, cond}
@@ -20,9 +20,6 @@ use Rattle.terms.specs.declared.term.Reading.the-variants.{Value, NotNumber, Ou
 use Rattle.terms.proofs.Readings.{fraction-unbounded}
 use Rattle.rules.specs.Refusal.{Refusal, Result, _>>=_, assert}
 use Rattle.rules.specs.Refusal.Result.{ok, refused}
-use Rattle.rules.specs.LinearComb.{Arm, Factors}
-use Rattle.rules.specs.LinearComb.Arm.{sum, negation, difference, product, leaf}
-use Rattle.rules.specs.LinearComb.Factors.{firstIs, secondIs, neitherIs}
 use Rattle.rules.specs.Limits.{Limits, inLimit, numberOr, ranged, plus, times, over, fractionOf}
 
 pub data Yields {A : Type 0} (P : A → Type 0) : Result A → Type 0 where
@@ -93,23 +90,6 @@ module _ {A B : Type 0} {P : B → Type 0} where
       Yields P (elim o as (λ x. Result B) [ some a ↦ f a | none ↦ y ])
   by-option Q g h (some a) q = g a q
   by-option Q g h none q = h q
-
-module _ {A : Type 0} {Q : A → Type 0} where
-  pub by-arm :
-      {a b c d e : Result A} (k : Arm) → Yields Q a → Yields Q b → Yields Q c → Yields Q d → Yields Q e →
-      Yields {A = A} Q (elim k [ sum ↦ a | negation ↦ b | difference ↦ c | product ↦ d | leaf ↦ e ])
-  by-arm sum p q r s t = p
-  by-arm negation p q r s t = q
-  by-arm difference p q r s t = r
-  by-arm product p q r s t = s
-  by-arm leaf p q r s t = t
-
-  pub by-factors : {f g : Rational → Result A} {y : Result A} (k : Factors) →
-      ((q : Rational) → Yields Q (f q)) → ((q : Rational) → Yields Q (g q)) → Yields Q y →
-      Yields {A = A} Q (elim k [ firstIs q ↦ f q | secondIs q ↦ g q | neitherIs ↦ y ])
-  by-factors (firstIs q) p r s = p q
-  by-factors (secondIs q) p r s = r q
-  by-factors neitherIs p r s = s
 
 -- ---- numbers under a limit
 
