@@ -2,19 +2,19 @@
 -- its area, for the elaboration is tested (`fits`). On a verdict from 1 to 8 nothing is written: 8 writes
 -- nothing by definition, a book or run that is refused has no steps, and a rule refuses a step by 10 or later
 -- (rules/proofs/StepRefusals.antt), so a marking that has begun never ends by such a verdict.
-use mathlib.Core.Path.{_≡_, refl, ap, _∙_}
+use mathlib.Core.Path.{_≡_, refl, sym, ap, _∙_}
 use mathlib.Core.Bool.{Bool, true, false}
 use mathlib.Core.List.{List, [], _∷_, _++_}
-use Prim.Native.Nat.{ℕ, _*_, _-_, _≤_}
+use Prim.Native.Nat.{ℕ, _+_, _*_, _-_, _≤_}
 use native.Mathlib.Omega.{arith}
 use native.Mathlib.Nat.{sub-zero}
 use lib.Dec.{T, eqb, leb, leb→le}
 use lib.ListN.{length, replicate, length-append, length-replicate}
-use borrow.Author.Tests.{leb-true}
-use Rattle.terms.proofs.Truths.{both, T-true}
+use borrow.Author.Tests.{leb-true, le-leb}
+use Rattle.terms.proofs.Truths.{both, never, T-true}
 use Rattle.terms.specs.Rational.{Rational}
 use Rattle.terms.specs.Bytes.{Bytes}
-use Rattle.terms.specs.Book.{readBook}
+use Rattle.terms.specs.Book.{count, maxRecords, readBook}
 use Rattle.terms.specs.declared.book.BookRead.{BookRead}
 use Rattle.terms.specs.declared.book.BookRead.the-variants.{Records, RefusedAt}
 use Rattle.rules.specs.Refusal.{Result, number}
@@ -108,19 +108,21 @@ record Answers (outRun outTail : ℕ) (m : Marking) (a : Answer) : Type 0 where
   noRun : Early (a .verdict) → a .run ≡ []
   noTail : Early (a .verdict) → a .tail ≡ []
   sameVerdict : (a .verdict ≡ 8 → ⊥) → a .verdict ≡ m .verdict
+  nothingFits : m .steps ≡ [] → a .verdict ≡ m .verdict
   sameSteps : a .steps ≡ length (m .steps)
   sameVisits : a .visits ≡ m .visits
 
 module _ (outRun outTail : ℕ) where
   nothing-answers : (m : Marking) (v : ℕ) → ((v ≡ 8 → ⊥) → v ≡ m .verdict) →
-      Answers outRun outTail m (answer v (length (m .steps)) (m .visits) [] [])
-  nothing-answers m v h =
+      (m .steps ≡ [] → v ≡ m .verdict) → Answers outRun outTail m (answer v (length (m .steps)) (m .visits) [] [])
+  nothing-answers m v h k =
       record {
         runFits = omega arith;
         tailFits = omega arith;
         noRun = λ e. refl;
         noTail = λ e. refl;
         sameVerdict = h;
+        nothingFits = k;
         sameSteps = refl;
         sameVisits = refl;
       }
@@ -133,6 +135,11 @@ module _ (outRun outTail : ℕ) where
         let n = 32 * length (w .tail) in
         let areas = both (leb (length (w .run)) outRun) (leb n outTail) (both _ _ e .0) in
         (leb-true _ _ (areas .0), omega (arith, tailBytes-length (w .tail), leb-true n outTail (areas .1)))
+
+    nothing-fits : fits book outRun outTail (written [] []) ≡ true
+    unfolding fits
+    nothing-fits =
+        rw (le-leb 0 outRun (omega arith), le-leb 0 outTail (omega arith), le-leb (count book + 0) maxRecords (omega arith))
 
     abbrev writes : Marking → Written
     writes m = addSteps book (written [] []) (m .steps)
@@ -162,10 +169,13 @@ module _ (outRun outTail : ℕ) where
               noRun = λ v. ap (λ (w : Written). w .run) (no-steps-write m (h v));
               noTail = λ v. ap (λ (w : Written). tailBytes (w .tail)) (no-steps-write m (h v)) ∙ no-tail;
               sameVerdict = λ n. refl;
+              nothingFits = λ n. refl;
               sameSteps = refl;
               sameVisits = refl;
             }
-        at false e = nothing-answers m 8 λ n. absurd (n refl)
+        at false e =
+            nothing-answers m 8 (λ n. absurd (n refl)) λ n.
+            never (sym e ∙ ap (fits book outRun outTail) (no-steps-write m n) ∙ nothing-fits)
 
   elaborate-answers : (book run : Bytes) (limit work : ℕ) →
       Answers outRun outTail (check book run limit work) (elaborate book run limit work outRun outTail)
@@ -179,7 +189,7 @@ module _ (outRun outTail : ℕ) where
           Answers outRun outTail (elim b [ true ↦ mark l book run | false ↦ nothingMarked 1 ])
           (elim b [ true ↦ elaborated book outRun outTail (mark l book run) | false ↦ answer 1 0 0 [] [] ])
       at true = elaborated-answers book (mark l book run) (mark-no-steps l book run)
-      at false = nothing-answers (nothingMarked 1) 1 λ n. refl
+      at false = nothing-answers (nothingMarked 1) 1 (λ n. refl) λ n. refl
 
 -- ---- the areas
 
@@ -223,6 +233,7 @@ demand1 =
     record {
       memory = known-state;
       sameVerdict = λ m limit. answers-to m limit .sameVerdict;
+      nothingFits = λ m limit. answers-to m limit .nothingFits;
       sameSteps = λ m limit. answers-to m limit .sameSteps;
       sameVisits = λ m limit. answers-to m limit .sameVisits;
     }

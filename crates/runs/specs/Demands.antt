@@ -1,5 +1,5 @@
--- The three demands, as statements over the definitions, for all bytes, lengths, limits and lent memory. Nothing is proved here. Each part
--- is commented with the sentence that it renders.
+-- The three demands, as statements over the definitions, for all bytes, lengths, limits and lent memory. Each part is commented with
+-- the sentence that it renders. Nothing is proved here: proofs/Memory proves demand 1 of the definitions, proofs/Meeting demand 2.
 use mathlib.Core.Path.{_≡_}
 use mathlib.Core.Bool.{Bool, _&&_, _||_, not}
 use mathlib.Core.List.{List, [], _∷_, _++_}
@@ -71,11 +71,15 @@ pub record KnownState (m after : Memory) (a : Answer) : Type 0 where
   pub refusedTail : T (isRefusal1to8 (a .verdict)) → after .outTail ≡ zeros (m .outTail)
 
 -- That every entry point finishes and puts no condition on its caller is the code's proof; that it refuses by document 01's table is
--- its contract, which equates the answer with `elaborate` and `check`. The two give one verdict and one count, refusal 8 aside.
+-- its contract, which equates the answer with `elaborate` and `check`. The two give one verdict and one count, refusal 8 aside, which
+-- does not arise where nothing was accepted: so 1 to 7 come before it.
 pub record Demand1 : Type 0 where
   pub memory : (m : Memory) (limit : ℕ) → KnownState m (memoryAfter m limit) (answerTo m limit)
   pub sameVerdict :
       (m : Memory) (limit : ℕ) → (answerTo m limit .verdict ≡ 8 → ⊥) →
+      answerTo m limit .verdict ≡ check (m .book) (m .run) limit (length (m .work)) .verdict
+  pub nothingFits :
+      (m : Memory) (limit : ℕ) → check (m .book) (m .run) limit (length (m .work)) .steps ≡ [] →
       answerTo m limit .verdict ≡ check (m .book) (m .run) limit (length (m .work)) .verdict
   pub sameSteps :
       (m : Memory) (limit : ℕ) → answerTo m limit .steps ≡ length (check (m .book) (m .run) limit (length (m .work)) .steps)
