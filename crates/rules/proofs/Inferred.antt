@@ -1,6 +1,6 @@
 -- A step that infers arguments says what it says with these arguments given, the trace aside. So a bounded_farkas step,
 -- elaborated, is a la_generic step that is accepted with the same sum and the same visits, and infers nothing.
---     literal-inferred, literal-given       one literal
+--     literal-again       one literal
 --     fold-again       the fold over the literals
 --     laGeneric-again       the step, with the inferred numbers appended as real constants
 use mathlib.Core.Path.{_≡_, refl, sym, subst}
