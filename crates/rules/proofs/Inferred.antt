@@ -3,14 +3,16 @@
 --     literal-again       one literal
 --     fold-again       the fold over the literals
 --     laGeneric-again       the step, with the inferred numbers appended as real constants
-use mathlib.Core.Path.{_≡_, refl, sym, subst}
+--     laGeneric-infers-nothing       the step with all arguments given
+use mathlib.Core.Path.{_≡_, refl, sym, subst, _∙_}
 use mathlib.Core.Bool.{_&&_, not}
 use mathlib.Core.Option.{Option, some, none}
 use mathlib.Core.List.{List, [], _∷_, _++_, append-assoc, append-nil}
 use Prim.Native.Nat.{ℕ, _≤_}
 use native.Mathlib.Omega.{arith}
 use lib.ListN.{length, length-append}
-use borrow.Author.Tests.{eq-eqb}
+use borrow.Author.Tests.{eq-eqb, eqb-true}
+use lib.Dec.{eqb}
 use Rattle.terms.specs.Rational.{Rational}
 use Rattle.terms.specs.Term.{Term, unary, binary}
 use Rattle.terms.specs.Term.Term.{rational}
@@ -26,7 +28,7 @@ use Rattle.rules.specs.LinearArithmetic.{Clause, Progress, progress, dis
 use Rattle.rules.specs.LinearArithmetic.{inferred, argumentOf, strengthened, scalar, processDisequality}
 use Rattle.rules.specs.LinearArithmetic.{foldLiterals, isTrueAtZero, readArgs, laGenericPartial}
 use Rattle.rules.specs.LinearArithmetic.{laGeneric}
-use Rattle.rules.proofs.Yields.{Yields, and-then, known, past, weaker}
+use Rattle.rules.proofs.Yields.{Yields, and-then, known, past, weaker, guarded}
 use Rattle.rules.proofs.Yields.Yields.{gives}
 
 -- with another trace
@@ -44,6 +46,10 @@ pub data Reals : List Term → List Rational → Type 0 where
   also :
       {q : Rational} {ts : List Term} {qs : List Rational} → (i : ℕ) → Reals ts qs →
       Reals (rational i q ∷ ts) (q ∷ qs)
+
+empty-list : {X : Type 0} (xs : List X) → length xs ≡ 0 → xs ≡ []
+empty-list [] e = refl
+empty-list (x ∷ xs) e = absurd (omega (arith, e))
 
 module _ (l : Limits) where
   -- the same literal with its argument given
@@ -166,3 +172,16 @@ module _ (l : Limits) where
       rw (length-append args ts, reals-length g, f .supplied, sym (r .0), sym (length-append qs (f .numbers))) (f .complete) in
       rw (eq-eqb (length (args ++ ts)) (length c) b, a, f .again [], e)
       )
+
+  -- a la_generic step has all arguments given
+  pub laGeneric-infers-nothing :
+      (c : Clause) (args : List Term) (n : ℕ) → Yields (λ p. p .trace ≡ []) (laGeneric l c args n)
+  unfolding laGenericPartial laGeneric
+  laGeneric-infers-nothing c args n =
+      guarded (eqb (length args) (length c)) _ λ e u.
+      let same = eqb-true (length args) (length c) e in
+      and-then (readArgs-again args) λ qs r.
+      and-then (fold-again c qs (progress Equals new [] n) (omega (arith, same, r .0))) λ p f.
+      past _ λ v.
+      let sum = length-append qs (f .numbers) in
+      gives (f .supplied ∙ empty-list (f .numbers) (omega (arith, same, r .0, f .complete, sum)))

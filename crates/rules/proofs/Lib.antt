@@ -52,3 +52,4 @@ pub mod RelationRule
 pub mod RelationNumbers
 pub mod RelationSound
 pub mod LinearCases
+pub mod InferredNumbers

@@ -3,3 +3,11 @@ pub mod RunTerms
 pub mod Meeting
 pub mod Truth
 pub mod Memory
+pub mod WrittenRuns
+pub mod WrittenSteps
+pub mod TailBook
+pub mod WrittenTail
+pub mod SecondMarking
+pub mod Storing
+pub mod RowRecords
+pub mod RealRecord

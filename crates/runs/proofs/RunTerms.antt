@@ -120,12 +120,15 @@ module _ (b : Bytes) (n : ℕ) (counted : n ≡ count b) where
 
 -- ---- premises
 
-earlier : (k : ℕ) (rs : List Rec) → allRight (λ p. ltb p k) rs ≡ true → Every (λ p. p < k) (numbersOf rs)
+-- what follows from the test of a row's numbers holds of each
+pub right-numbers :
+    {p : ℕ → Bool} (Q : ℕ → Type 0) → ((i : ℕ) → p i ≡ true → Q i) → (rs : List Rec) → allRight p rs ≡ true →
+    Every Q (numbersOf rs)
 unfolding allRight numbersOf
-earlier k [] e = end
-earlier k (r ∷ rs) e =
-    let x = both (eqb (r .byte) 0 && ltb (r .number) k) (allRight (λ p. ltb p k) rs) e in
-    also (ltb-true (r .number) k (both (eqb (r .byte) 0) (ltb (r .number) k) (x .0) .1)) (earlier k rs (x .1))
+right-numbers Q f [] e = end
+right-numbers {p} Q f (r ∷ rs) e =
+    let x = both (eqb (r .byte) 0 && p (r .number)) (allRight p rs) e in
+    also (f (r .number) (both (eqb (r .byte) 0) (p (r .number)) (x .0) .1)) (right-numbers Q f rs (x .1))
 
 step-ordered :
     (b : Bytes) (k : ℕ) (s : Rec) (ps cs as′ : List Rec) →
@@ -134,7 +137,10 @@ unfolding readStep
 step-ordered b k s ps cs as′ =
     guarded _ _ λ e1 u1.
     guarded _ _ λ e2 u2.
-    guarded _ _ λ e3 u3. guarded _ _ λ e4 u4. guarded _ _ λ e5 u5. gives (earlier k ps e2)
+    guarded _ _ λ e3 u3.
+    guarded _ _ λ e4 u4.
+    guarded _ _ λ e5 u5.
+    gives (right-numbers _ (λ i e. ltb-true i k e) ps e2)
 
 steps-ordered : (m : ℕ) (b : Bytes) (k : ℕ) (rs : List Rec) → Yields (Ordered k) (readSteps m b k rs)
 unfolding readSteps
