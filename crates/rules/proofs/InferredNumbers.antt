@@ -16,7 +16,8 @@ use Rattle.rules.specs.Refusal.{orElse}
 use Rattle.rules.specs.Limits.{limited, inLimit, ranged, over}
 use Rattle.rules.specs.IndexMap.{Map, get}
 use Rattle.rules.specs.LinearComb.{LinearComb, terms}
-use Rattle.rules.specs.LinearArithmetic.{Clause, Progress, inferred, argumentOf, processDisequality, foldLiterals}
+use Rattle.rules.specs.LinearArithmetic.{Clause, Progress, inferred, argumentOf, processDisequality}
+use Rattle.rules.specs.LinearArithmetic.{foldLiterals}
 use Rattle.rules.specs.LinearArithmetic.{laGenericPartial, disequalityOf, readArgs}
 use Rattle.rules.proofs.Yields.{Yields, gives, refuses, and-then, past, weaker, guarded}
 
@@ -37,7 +38,9 @@ module _ (n : ℕ) where
   unfolding ranged bounded
   ranged-in q = go (leb (natAbs (q .num)) limit && leb (natAbs (q .den)) limit) refl
     where
-      go : (t : Bool) → (leb (natAbs (q .num)) limit && leb (natAbs (q .den)) limit) ≡ t → Yields InRange (inLimit (cond t (Value q) OutOfRange))
+      go :
+          (t : Bool) → (leb (natAbs (q .num)) limit && leb (natAbs (q .den)) limit) ≡ t →
+          Yields InRange (inLimit (cond t (Value q) OutOfRange))
       go true e =
           let h = both (leb (natAbs (q .num)) limit) (leb (natAbs (q .den)) limit) e in
           gives (record { numerator = leb-true _ _ (h .0); denominator = leb-true _ _ (h .1) })
@@ -53,19 +56,25 @@ module _ (n : ℕ) where
   abbrev Keeps : Progress → Progress → Type 0
   Keeps p q = AllInRange (p .trace) → AllInRange (q .trace)
 
-  argument-in : (p : Progress) (s : LinearComb) (arg : Option Rational) → Yields (λ x. AllInRange (p .trace) → AllInRange (x .1)) (argumentOf (limited n) p s arg)
+  argument-in :
+      (p : Progress) (s : LinearComb) (arg : Option Rational) →
+      Yields (λ x. AllInRange (p .trace) → AllInRange (x .1)) (argumentOf (limited n) p s arg)
   unfolding argumentOf
   argument-in p s (some a) = gives λ h. h
   argument-in p s none = and-then (inferred-in (p .acc .entries) (s .entries)) λ a g. gives λ h. one-more (p .trace) a h g
 
-  literal-in : (p : Progress) (phi : Term) (arg : Option Rational) → Yields (Keeps p) (processDisequality (limited n) p phi arg)
+  literal-in :
+      (p : Progress) (phi : Term) (arg : Option Rational) →
+      Yields (Keeps p) (processDisequality (limited n) p phi arg)
   unfolding processDisequality
   literal-in p phi arg =
       past (disequalityOf (limited n) phi (p .visits)) λ d.
       and-then (argument-in p (d .sum) arg) λ (a, trace) h.
       past _ λ (o, s). past _ λ scaled. past _ λ acc. gives h
 
-  fold-in : (c : Clause) (args : List Rational) (p : Progress) → Yields (Keeps p) (foldLiterals (limited n) c args p)
+  fold-in :
+      (c : Clause) (args : List Rational) (p : Progress) →
+      Yields (Keeps p) (foldLiterals (limited n) c args p)
   unfolding foldLiterals
   fold-in [] args p = gives λ h. h
   fold-in (phi ∷ c) [] p =
@@ -73,7 +82,9 @@ module _ (n : ℕ) where
   fold-in (phi ∷ c) (a ∷ args) p =
       and-then (literal-in p phi (some a)) λ q g. weaker (λ r k h. k (g h)) (fold-in c args q)
 
-  pub partial-in-range : (c : Clause) (args : List Term) (k : ℕ) → Yields (λ p. AllInRange (p .trace)) (laGenericPartial (limited n) c args k)
+  pub partial-in-range :
+      (c : Clause) (args : List Term) (k : ℕ) →
+      Yields (λ p. AllInRange (p .trace)) (laGenericPartial (limited n) c args k)
   unfolding laGenericPartial
   partial-in-range c args k =
       past (readArgs (limited n) args) λ qs. and-then (fold-in c qs _) λ p g. guarded _ _ λ e u. gives (g tt)

@@ -11,3 +11,6 @@ pub mod SecondMarking
 pub mod Storing
 pub mod RowRecords
 pub mod RealRecord
+pub mod Elaboration
+pub mod Unrefused
+pub mod ElaboratedSteps

@@ -134,7 +134,7 @@ module _ {Q : Term → Type 0} (closed : Closed Q) (l : Limits) (run : List Step
   abbrev Meet : Marking → Type 0
   Meet m = AllPremises (m .steps) → Every (λ x. Meets run (x .0) (x .1)) (m .steps)
 
-  steps-meet : (ss : List Step) → Every (StepOf Q) ss → (n : ℕ) → Meet (checkSteps l run ss n)
+  pub steps-meet : (ss : List Step) → Every (StepOf Q) ss → (n : ℕ) → Meet (checkSteps l run ss n)
   unfolding checkSteps
   steps-meet [] hs n g = end
   steps-meet (s ∷ ss) (also h hs) n g = go (checkStep l run s n) (step-meets s n h) (steps-meet ss hs) g

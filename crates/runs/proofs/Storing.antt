@@ -23,7 +23,8 @@ use Rattle.runs.specs.Run.{Step}
 use Rattle.runs.specs.Check.{Accepted, traced, checkStep, checkSteps}
 use Rattle.runs.specs.Demands as Demands
 use Rattle.runs.specs.Demands.{Every, Meets}
-use Rattle.runs.specs.Demands.Meets.{assume, laRwEq, laDisequality, laTotality, laTautology, laGeneric, polySimp, polySimpRel}
+use Rattle.runs.specs.Demands.Meets.{assume, laRwEq, laDisequality, laTotality, laTautology, laGeneric}
+use Rattle.runs.specs.Demands.Meets.{polySimp, polySimpRel}
 use Rattle.runs.proofs.RunTerms.{next}
 use Rattle.runs.proofs.SecondMarking.{infers-nothing}
 use Rattle.runs.proofs.RealRecord.{Storable}
@@ -61,18 +62,22 @@ storable (q ∷ qs) (l, ls) (r, rs) =
 -- ---- in range
 
 module _ (n : ℕ) (run : List Step) where
-  six-checks : (s : Step) (k : ℕ) → s .rule ≡ 6 → checkStep (limited n) run s k ≡ traced (laGenericPartial (limited n) (s .clause) (s .args) k)
+  six-checks :
+      (s : Step) (k : ℕ) → s .rule ≡ 6 →
+      checkStep (limited n) run s k ≡ traced (laGenericPartial (limited n) (s .clause) (s .args) k)
   unfolding checkStep
   six-checks s k e = rw e
 
   -- only rule 6 infers, and what it infers is in range
-  abbrev Infers : Step → List Rational → Type 0
+  abbrev pub Infers : Step → List Rational → Type 0
   Infers s qs = (eqb (s .rule) 6 ≡ false → qs ≡ []) × AllInRange qs
 
   step-infers : (s : Step) (k : ℕ) → Yields (λ a. Infers s (a .inferred)) (checkStep (limited n) run s k)
   step-infers s k = go (eqb (s .rule) 6) refl
     where
-      go : (t : Bool) → eqb (s .rule) 6 ≡ t → Yields (λ a. Infers s (a .inferred)) (checkStep (limited n) run s k)
+      go :
+          (t : Bool) → eqb (s .rule) 6 ≡ t →
+          Yields (λ a. Infers s (a .inferred)) (checkStep (limited n) run s k)
       go true e =
           subst (Yields (λ a. Infers s (a .inferred))) (sym (six-checks s k (eqb-true (s .rule) 6 e)))
           (and-then (partial-in-range n (s .clause) (s .args) k) λ p h. gives (λ f. never (sym f ∙ e), h))
@@ -80,7 +85,8 @@ module _ (n : ℕ) (run : List Step) where
 
   -- ---- the steps in turn
 
-  steps-infer : (ss : List Step) (k : ℕ) → Every (λ x. Infers (x .0) (x .1)) (checkSteps (limited n) run ss k .steps)
+  pub steps-infer :
+      (ss : List Step) (k : ℕ) → Every (λ x. Infers (x .0) (x .1)) (checkSteps (limited n) run ss k .steps)
   unfolding checkSteps
   steps-infer [] k = Demands.end
   steps-infer (s ∷ ss) k = go (checkStep (limited n) run s k) (step-infers s k) (steps-infer ss)

@@ -18,7 +18,8 @@ use Rattle.terms.specs.Term.Term.{rational}
 use Rattle.terms.specs.Book.{count}
 use Rattle.terms.proofs.Rationals.{eqQ-refl}
 use Rattle.runs.specs.Run.{Step, S, C, A, step}
-use Rattle.runs.specs.Elaborate.{Written, written, findReal, placeIn, withTail, addReal, addReals, addSteps}
+use Rattle.runs.specs.Elaborate.{Written, written, findReal, placeIn, withTail, addReal, addReals}
+use Rattle.runs.specs.Elaborate.{addSteps}
 use Rattle.runs.specs.Elaborate.{elaboratedRule, recordBytes, premiseBytes, termBytes, stepBytes}
 use Rattle.runs.proofs.WrittenRuns.{plainBytes, runBytes}
 
@@ -28,7 +29,8 @@ use Rattle.runs.proofs.WrittenRuns.{plainBytes, runBytes}
 abbrev placeOn : Bool → ℕ → ℕ
 placeOn e k = elim e [ true ↦ 0 | false ↦ suc k ]
 
-placeIn-append : (t u : List Rational) (q : Rational) → placeIn t q < length t → placeIn (t ++ u) q ≡ placeIn t q
+pub placeIn-append :
+    (t u : List Rational) (q : Rational) → placeIn t q < length t → placeIn (t ++ u) q ≡ placeIn t q
 unfolding placeIn
 placeIn-append [] u q h = absurd (omega (arith, h))
 placeIn-append (r ∷ t) u q h = go (eqQ r q) (placeIn-append t u q) h
@@ -41,7 +43,8 @@ placeIn-append (r ∷ t) u q h = go (eqQ r q) (placeIn-append t u q) h
     go false k h = ap suc (k (omega (arith, h)))
 
 -- a number that is not in the tail stands behind it
-placeIn-new : (t : List Rational) (q : Rational) → length t ≤ placeIn t q → placeIn (t ++ q ∷ []) q ≡ length t
+pub placeIn-new :
+    (t : List Rational) (q : Rational) → length t ≤ placeIn t q → placeIn (t ++ q ∷ []) q ≡ length t
 unfolding placeIn
 placeIn-new [] q h = rw (eqQ-refl q, placeIn)
 placeIn-new (r ∷ t) q h = go (eqQ r q) (placeIn-new t q) h
@@ -154,7 +157,8 @@ module _ (b : Bytes) where
       let h = one-more (findReal (count b) b q 0) w q in
       record { more = h .more; tail = h .tail; run = h .run }
 
-  reals-grow : (qs : List Rational) (w : Written) → Grows w (addReals b w qs) (λ t. termBytes A (reals t qs))
+  pub reals-grow :
+      (qs : List Rational) (w : Written) → Grows w (addReals b w qs) (λ t. termBytes A (reals t qs))
   unfolding addReals termBytes
   reals-grow [] w = nothing-grows w
   reals-grow (q ∷ qs) w = both-grow w (addReal b w q) _ _ _ (real-grows w q) (reals-grow qs (addReal b w q))

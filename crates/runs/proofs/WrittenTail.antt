@@ -15,7 +15,8 @@ use Rattle.terms.specs.Rational.{Rational, eqQ}
 use Rattle.terms.specs.Bytes.{Bytes}
 use Rattle.terms.specs.Book.{count, tree}
 use Rattle.runs.specs.Run.{Step, A}
-use Rattle.runs.specs.Elaborate.{Written, written, isReal, findReal, placeIn, withTail, addReal, addReals, addSteps}
+use Rattle.runs.specs.Elaborate.{Written, written, isReal, findReal, placeIn, withTail, addReal, addReals}
+use Rattle.runs.specs.Elaborate.{addSteps}
 use Rattle.runs.specs.Elaborate.{recordBytes}
 use Rattle.runs.specs.Demands.{Every, end, also}
 use Rattle.runs.proofs.RealRecord.{Storable, Lacks}
@@ -57,7 +58,8 @@ no-place (r ∷ t) q h = go (eqQ r q) refl (no-place t q) h
     go true f rest h = absurd (omega (arith, h))
     go false f rest h = also f (rest (omega (arith, h)))
 
-differ-snoc : (t : List Rational) (q : Rational) → Differ t → Every (λ r. eqQ r q ≡ false) t → Differ (t ++ q ∷ [])
+differ-snoc :
+    (t : List Rational) (q : Rational) → Differ t → Every (λ r. eqQ r q ≡ false) t → Differ (t ++ q ∷ [])
 differ-snoc [] q d h = one-more end no-more
 differ-snoc (r ∷ t) q (one-more x d) (also h hs) = one-more (every-snoc t q x h) (differ-snoc t q d hs)
 
@@ -69,7 +71,8 @@ pub record GoodTail (b : Bytes) (t : List Rational) : Type 0 where
   pub differ : Differ t
 
 module _ (b : Bytes) where
-  real-good : (w : Written) (q : Rational) → Storable q → GoodTail b (w .tail) → GoodTail b (addReal b w q .tail)
+  real-good :
+      (w : Written) (q : Rational) → Storable q → GoodTail b (w .tail) → GoodTail b (addReal b w q .tail)
   unfolding addReal
   real-good w q s g = found (findReal (count b) b q 0) refl
     where
@@ -96,7 +99,9 @@ module _ (b : Bytes) where
           placed (ltb (placeIn (w .tail) q) (length (w .tail))) refl
           (λ j h. not-found (count b) b q 0 e j (omega arith) (omega (arith, h)))
 
-  reals-good : (qs : List Rational) (w : Written) → Every Storable qs → GoodTail b (w .tail) → GoodTail b (addReals b w qs .tail)
+  reals-good :
+      (qs : List Rational) (w : Written) → Every Storable qs → GoodTail b (w .tail) →
+      GoodTail b (addReals b w qs .tail)
   unfolding addReals
   reals-good [] w end g = g
   reals-good (q ∷ qs) w (also s ss) g = reals-good qs (addReal b w q) ss (real-good w q s g)

@@ -1,5 +1,5 @@
 -- The three demands, as statements over the definitions, for all bytes, lengths, limits and lent memory. Each part is commented with
--- the sentence that it renders. Nothing is proved here: proofs/Memory proves demand 1 of the definitions, proofs/Meeting demand 2.
+-- the sentence that it renders. Nothing is proved here: proofs/Memory, proofs/Meeting and proofs/Elaboration prove demands 1, 2 and 3 of the definitions.
 use mathlib.Core.Path.{_≡_}
 use mathlib.Core.Bool.{Bool, _&&_, _||_, not}
 use mathlib.Core.List.{List, [], _∷_, _++_}
