@@ -30,11 +30,13 @@ use Rattle.runs.specs.Elaborate.{addSteps}
 use Rattle.runs.specs.Elaborate.{elaboratedRule, recordBytes, stepBytes, tailBytes}
 use Rattle.runs.specs.Demands.{Every, end, also}
 use Rattle.runs.proofs.RunTerms.{next}
-use Rattle.runs.proofs.RowRecords.{every-weaker, InBook}
+use Rattle.runs.proofs.RowRecords.{InBook}
 use Rattle.runs.proofs.WrittenRuns.{Writable, AllWritable}
 use Rattle.runs.proofs.WrittenRuns.AllWritable.{none as no-step, one as one-step}
 use Rattle.runs.proofs.WrittenSteps.{placeIn-append, placeIn-new, placeOf, realAt, reals, reals-grow}
 use Rattle.runs.proofs.WrittenSteps.{elaboratedSteps, steps-grow}
+use Rattle.runs.proofs.Everywhere.{every-append}
+use Rattle.runs.proofs.Everywhere.{every-weaker}
 use Rattle.runs.proofs.TailBook.{TailOf, tail-count, tail-old, tail-new}
 
 -- ---- each number has a place
@@ -148,10 +150,6 @@ assume-stays r = go (eqb r 6)
     go : (t : Bool) → (if t then 5 else r) ≡ 0 → r ≡ 0
     go true e = absurd (omega (arith, e))
     go false e = e
-
-every-append : {X : Type 0} {R : X → Type 0} (xs ys : List X) → Every R xs → Every R ys → Every R (xs ++ ys)
-every-append [] ys end h = h
-every-append (x ∷ xs) ys (also g gs) h = also g (every-append xs ys gs h)
 
 module _ (b : Bytes) (n : ℕ) (read : readBook b ≡ Records n) (T : List Rational) (t : TailOf b n T) where
   abbrev longer : Bytes

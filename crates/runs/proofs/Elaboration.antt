@@ -29,7 +29,6 @@ use Rattle.runs.proofs.WrittenRuns.{plainBytes, runBytes, AllWritable, 
 use Rattle.runs.proofs.WrittenSteps.{reals, elaboratedSteps, steps-grow}
 use Rattle.runs.proofs.SecondMarking.{AllElaborate, finished, first, NoSurplus, untraced, marked-again}
 use Rattle.runs.proofs.RunTerms.{StepOf, run-of-book, run-ordered}
-use Rattle.runs.proofs.RowRecords.{every-weaker}
 use Rattle.runs.proofs.Meeting.{steps-meet}
 use Rattle.runs.proofs.Truth.{AssumedTrue, AllTrue, accepted-true}
 use Rattle.runs.proofs.RealRecord.{Lacks}
@@ -37,11 +36,12 @@ use Rattle.runs.proofs.TailBook.{TailOf, tail-read, tail-count}
 use Rattle.runs.proofs.WrittenTail.{GoodTail, steps-good, no-tail-good}
 use Rattle.runs.proofs.Storing.{steps-infer, steps-storable}
 use Rattle.runs.proofs.ElaboratedSteps.{Placed, steps-placed, elaborated-writable}
+use Rattle.runs.proofs.Everywhere.{every-weaker}
 use Rattle.runs.proofs.Unrefused.{Marked, unrefused, marked-is, answer-is}
 
 -- ---- the elaborated steps
 
--- a rule of the elaboration is not 6, and is 0 only for 0
+-- a rule of the elaboration is not 6, and 0 stays 0
 not-six : (r : ℕ) → elaboratedRule r ≡ 6 → ⊥
 unfolding if_then_else_
 not-six r = go (eqb r 6) refl
@@ -49,14 +49,6 @@ not-six r = go (eqb r 6) refl
     go : (t : Bool) → eqb r 6 ≡ t → (if t then 5 else r) ≡ 6 → ⊥
     go true e f = omega (arith, f)
     go false e f = eqb-false r 6 e f
-
-assumed-zero : (r : ℕ) → elaboratedRule r ≡ 0 → r ≡ 0
-unfolding if_then_else_
-assumed-zero r = go (eqb r 6)
-  where
-    go : (t : Bool) → (if t then 5 else r) ≡ 0 → r ≡ 0
-    go true f = absurd (omega (arith, f))
-    go false f = f
 
 zero-stays : (r : ℕ) → r ≡ 0 → elaboratedRule r ≡ 0
 unfolding if_then_else_

@@ -14,3 +14,4 @@ pub mod RealRecord
 pub mod Elaboration
 pub mod Unrefused
 pub mod ElaboratedSteps
+pub mod Everywhere

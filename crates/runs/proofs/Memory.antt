@@ -48,7 +48,7 @@ checkStep-late l run s n =
 
 -- ---- a marking that ends by a verdict from 1 to 8 has no steps
 
-abbrev Early : ℕ → Type 0
+abbrev pub Early : ℕ → Type 0
 Early v = T (isRefusal1to8 v)
 
 late-not-early : (v : ℕ) → T (leb 10 v) → Early v → ⊥

@@ -103,11 +103,6 @@ parted m ns rs h = (leading-marked m ns rs h, after-marked m ns rs h)
 
 -- ---- the numbers of a row
 
-pub every-weaker :
-    {X : Type 0} {Q R : X → Type 0} → ((x : X) → Q x → R x) → (xs : List X) → Every Q xs → Every R xs
-every-weaker f [] end = end
-every-weaker f (x ∷ xs) (also h hs) = also (f x h) (every-weaker f xs hs)
-
 pub every-number :
     {Q : Term → Type 0} (R : ℕ → Type 0) → ((t : Term) → Q t → R (recordNumber t)) → (ts : List Term) →
     Every Q ts → Every R (recordNumbers ts)

@@ -26,6 +26,7 @@ use Rattle.runs.specs.Run.{Step, Rec, S, A, step, allRight, numbersOf, t
 use Rattle.runs.specs.Run.{readStep, readSteps, readRun}
 use Rattle.runs.specs.Check.{Accepted, Marking, marking, before, checkSteps, markRun, nothingMarked}
 use Rattle.runs.specs.Check.{clausesOf}
+use Rattle.runs.proofs.Everywhere.{every-getD}
 use Rattle.runs.specs.Demands.{Every, end, also}
 
 -- each step names earlier ones alone; k steps stand before these
@@ -44,11 +45,6 @@ pub record StepOf (Q : Term → Type 0) (s : Step) : Type 0 where
 
 pub literal-of : {Q : Term → Type 0} (s : Step) → StepOf Q s → (phi : Term) → s .clause ≡ phi ∷ [] → Q phi
 literal-of {Q} s h phi e = subst (EachOf Q) e (h .clause) .0
-
-every-getD : {X : Type 0} {R : X → Type 0} (xs : List X) (d : X) → R d → Every R xs → (i : ℕ) → R (getD xs i d)
-every-getD [] d h e i = h
-every-getD (x ∷ xs) d h (also g e) zero = g
-every-getD (x ∷ xs) d h (also g e) (suc i) = every-getD xs d h e i
 
 pub premise-of :
     {Q : Term → Type 0} (run : List Step) → Every (StepOf Q) run → (ps : List ℕ) (premise : Term) →

@@ -27,6 +27,7 @@ use Rattle.terms.proofs.Trees.{recordOf-inside, recordOf-append, tree-append}
 use Rattle.terms.proofs.Accepted.{Accepted, accepted, accepted-count}
 use Rattle.runs.specs.Elaborate.{realRecord, tailBytes, isReal}
 use Rattle.runs.specs.Demands.{Every, end, also}
+use Rattle.runs.proofs.Everywhere.{every-both}
 use Rattle.runs.proofs.RealRecord.{Storable, Lacks, length-real, real-tree, real-new, real-layout}
 
 -- ---- a book that is read
@@ -188,13 +189,6 @@ one-followed c n q qs here f =
     new (suc k) h d =
         let place : suc n + k ≡ n + suc k = omega arith in
         rw (← place) (f .new k (omega arith) d)
-
--- what two facts say of each element
-every-both :
-    {P Q R : Rational → Type 0} → ((r : Rational) → P r → Q r → R r) → (qs : List Rational) → Every P qs →
-    Every Q qs → Every R qs
-every-both f [] end end = end
-every-both f (r ∷ qs) (also p ps) (also q rest) = also (f r p q) (every-both f qs ps rest)
 
 followed :
     (qs : List Rational) (b : Bytes) (n : ℕ) → readBook b ≡ Records n → Every Storable qs →

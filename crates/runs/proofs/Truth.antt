@@ -4,7 +4,7 @@
 use mathlib.Core.Path.{_≡_, refl, sym, _∙_, ap, subst}
 use mathlib.Core.Bool.{true, or-false}
 use mathlib.Core.List.{List, [], _∷_, _++_, append-assoc}
-use Prim.Native.Nat.{ℕ, zero, suc, _<_}
+use Prim.Native.Nat.{ℕ, suc, _<_}
 use native.Mathlib.Omega.{arith}
 use lib.Dec.{T}
 use lib.ListN.{length, length-append, getD, List·getD-append}
@@ -38,6 +38,7 @@ use Rattle.runs.specs.Demands.Meets.{polySimp, polySimpRel}
 use Rattle.runs.proofs.RunTerms.{Ordered, one, StepOf, next, markBook, literal-of, premise-of}
 use Rattle.runs.proofs.RunTerms.{run-of-book}
 use Rattle.runs.proofs.RunTerms.{run-ordered}
+use Rattle.runs.proofs.Everywhere.{every-append, every-at}
 use Rattle.runs.proofs.Meeting.{meets-alethe}
 
 -- ---- one step
@@ -61,13 +62,6 @@ module _ {Q : Term → Type 0} (closed : Closed Q) (ρ : Assignment) (run : List
       go : (cs : List Clause) → cs ≡ c ∷ [] → Every True cs → True c
       go [] e h = let z : _≡_ {A = ℕ} 0 1 = cc in absurd (omega arith)
       go (d ∷ ds) e (also h hs) = let f : d ≡ c = cc in subst True f h
-
-  every-at :
-      {X : Type 0} {R : X → Type 0} (xs : List X) (d : X) → Every R xs → (i : ℕ) → i < length xs →
-      R (getD xs i d)
-  every-at [] d h i l = absurd (omega (arith, l))
-  every-at (x ∷ xs) d (also g h) zero l = g
-  every-at (x ∷ xs) d (also g h) (suc i) l = every-at xs d h i (omega (arith, l))
 
   pub meets-true :
       (s : Step) (inferred : List Rational) → StepOf Q s → Meets run s inferred → (s .rule ≡ 0 → True (s .clause)) →
@@ -108,11 +102,6 @@ module _ {Q : Term → Type 0} (closed : Closed Q) (ρ : Assignment) (run : List
   one-longer : (before : List Step) (s : Step) → suc (length before) ≡ length (before ++ s ∷ [])
   one-longer before s = let e = length-append before (s ∷ []) in omega (arith, e)
 
-  every-append :
-      (before : List Step) (s : Step) → Every (λ s. True (s .clause)) before → True (s .clause) → Every (λ s. True (s .clause)) (before ++ s ∷ [])
-  every-append [] s end t = also t end
-  every-append (x ∷ before) s (also h hs) t = also h (every-append before s hs t)
-
   module _ (l : Limits) where
     steps-true :
         (before : List Step) → Every (λ s. True (s .clause)) before → (ss : List Step) → run ≡ before ++ ss →
@@ -121,7 +110,7 @@ module _ {Q : Term → Type 0} (closed : Closed Q) (ρ : Assignment) (run : List
     steps-true before h [] e o hs n = λ ms fs. end
     steps-true before h (s ∷ ss) e (one ps o) (also g hs) n =
         go (checkStep l run s n)
-        (λ t. steps-true (before ++ s ∷ []) (every-append before s h t) ss (e ∙ sym (append-assoc before (s ∷ []) ss))
+        (λ t. steps-true (before ++ s ∷ []) (every-append before (s ∷ []) h (also t end)) ss (e ∙ sym (append-assoc before (s ∷ []) ss))
         (subst (λ k. Ordered k ss) (one-longer before s) o) hs)
       where
         go :

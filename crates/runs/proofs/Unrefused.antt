@@ -22,12 +22,10 @@ use Rattle.runs.specs.Check.{Marking, checkSteps, markRun, mark, lentOk}
 use Rattle.runs.specs.Elaborate.{Answer, answer, written, addSteps, tailBytes, fits, elaborated}
 use Rattle.runs.specs.Elaborate.{elaborateUnder, elaborate}
 use Rattle.runs.specs.Demands.{isRefusal1to8}
+use Rattle.runs.proofs.Memory.{Early}
 use Rattle.runs.proofs.RunTerms.{markBook}
 
--- one of refusals 1 to 8, and none of them
-abbrev Early : ℕ → Type 0
-Early v = T (isRefusal1to8 v)
-
+-- none of refusals 1 to 8
 abbrev Free : ℕ → Type 0
 Free v = T (not (isRefusal1to8 v))
 

@@ -25,9 +25,10 @@ use Rattle.runs.specs.Demands.{Every}
 use Rattle.runs.proofs.RunTerms.{right-numbers}
 use Rattle.runs.proofs.RowRecords.{numberBytes, marked, recordNumbers, premises-are-numbers}
 use Rattle.runs.proofs.RowRecords.{terms-are-numbers, length-numberBytes, Small, recs-record}
-use Rattle.runs.proofs.RowRecords.{recs-numbers, Elsewhere, elsewhere-marked, parted, every-weaker}
+use Rattle.runs.proofs.RowRecords.{recs-numbers, Elsewhere, elsewhere-marked, parted}
 use Rattle.runs.proofs.RowRecords.{every-number, all-right, numbers-back, length-marked, InBook}
 use Rattle.runs.proofs.RowRecords.{isLiteral, number-inside, tree-of-number, terms-back, every-term}
+use Rattle.runs.proofs.Everywhere.{every-weaker}
 use Rattle.runs.proofs.RowRecords.{Literal, length-terms, in-book, literal}
 
 -- ---- a run as bytes

@@ -21,11 +21,8 @@ use Rattle.runs.specs.Elaborate.{recordBytes}
 use Rattle.runs.specs.Demands.{Every, end, also}
 use Rattle.runs.proofs.RealRecord.{Storable, Lacks}
 use Rattle.runs.proofs.TailBook.{Differ}
+use Rattle.runs.proofs.Everywhere.{every-append}
 use Rattle.runs.proofs.TailBook.Differ.{none as no-more, one as one-more}
-
-every-snoc : {X : Type 0} {R : X → Type 0} (xs : List X) (x : X) → Every R xs → R x → Every R (xs ++ x ∷ [])
-every-snoc [] x end h = also h end
-every-snoc (y ∷ xs) x (also g gs) h = also g (every-snoc xs x gs h)
 
 -- ---- the book lacks what is not found in it
 
@@ -61,7 +58,7 @@ no-place (r ∷ t) q h = go (eqQ r q) refl (no-place t q) h
 differ-snoc :
     (t : List Rational) (q : Rational) → Differ t → Every (λ r. eqQ r q ≡ false) t → Differ (t ++ q ∷ [])
 differ-snoc [] q d h = one-more end no-more
-differ-snoc (r ∷ t) q (one-more x d) (also h hs) = one-more (every-snoc t q x h) (differ-snoc t q d hs)
+differ-snoc (r ∷ t) q (one-more x d) (also h hs) = one-more (every-append t (q ∷ []) x (also h end)) (differ-snoc t q d hs)
 
 -- ---- the tail as it grows
 
@@ -82,8 +79,8 @@ module _ (b : Bytes) where
       placed true e l = g
       placed false e l =
           record {
-            storable = every-snoc (w .tail) q (g .storable) s;
-            lacks = every-snoc (w .tail) q (g .lacks) l;
+            storable = every-append (w .tail) (q ∷ []) (g .storable) (also s end);
+            lacks = every-append (w .tail) (q ∷ []) (g .lacks) (also l end);
             differ = differ-snoc (w .tail) q (g .differ) (no-place (w .tail) q (ltb-false _ _ e));
           }
 
