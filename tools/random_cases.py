@@ -37,11 +37,16 @@ def number(e):
     return Fraction(e)
 
 
-def signed(e):
+def signed_by(read, e):
+    """What is read, or one minus over it."""
     if isinstance(e, list) and e[0] == "-" and len(e) == 2:
-        inner = number(e[1])
+        inner = read(e[1])
         return None if inner is None else -inner
-    return number(e)
+    return read(e)
+
+
+def signed(e):
+    return signed_by(number, e)
 
 
 def quotient(e):
@@ -52,10 +57,7 @@ def quotient(e):
 
 
 def fraction(e):
-    if isinstance(e, list) and e[0] == "-" and len(e) == 2:
-        inner = quotient(e[1])
-        return None if inner is None else -inner
-    return quotient(e)
+    return signed_by(quotient, e)
 
 
 def is_numeric(e):

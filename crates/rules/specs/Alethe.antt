@@ -1,5 +1,6 @@
--- The arithmetic rules as the Alethe specification words them, on terms and what they mean, with no word of the Rust: what a step of
--- each rule claims of its clause. A shape is one of terms; equal names in it are equal terms.
+-- The arithmetic rules as the Alethe specification words them, on terms and what they mean: what a step of each rule claims of its
+-- clause. Nothing here follows the Rust but how a written number is read (`asSignedNumber`, `asFraction`). A shape is one of terms;
+-- equal names in it are equal terms.
 use mathlib.Core.Path.{_≡_}
 use mathlib.Core.Bool.{true, false}
 use mathlib.Core.List.{List, [], _∷_}
@@ -226,7 +227,8 @@ pub record LaGeneric (c : Clause) (as′ : List Rational) : Type 0 where
   pub cancels : (ρ : Assignment) → sumTerms ρ constraints ≈ wholeP (pos 0)
   pub contradicts : Related (sumRelation constraints) (wholeP (pos 0)) (sumBound constraints) → ⊥
 
--- ---- la_tautology: a comparison that la_generic's steps 1 to 3 refute, no atoms being left, or one of five forms (or phi1 phi2)
+-- ---- la_tautology: a comparison that la_generic's steps 1 to 3 refute, no atoms being left, or one of five forms (or phi1 phi2).
+-- d is any term in the second and fourth (docs/DIFFERENCES.md)
 
 abbrev pub IsNumber : Term → Rational → Type 0
 IsNumber t q = asSignedNumber t ≡ Value q

@@ -29,7 +29,7 @@ use Rattle.runs.proofs.WrittenRuns.{plainBytes, runBytes, AllWritable, 
 use Rattle.runs.proofs.WrittenSteps.{reals, elaboratedSteps, steps-grow}
 use Rattle.runs.proofs.SecondMarking.{AllElaborate, finished, first, NoSurplus, untraced, marked-again}
 use Rattle.runs.proofs.RunTerms.{StepOf, run-of-book, run-ordered}
-use Rattle.runs.proofs.Meeting.{steps-meet}
+use Rattle.runs.proofs.Meeting.{steps-meet, all-meet}
 use Rattle.runs.proofs.Truth.{AssumedTrue, AllTrue, accepted-true}
 use Rattle.runs.proofs.RealRecord.{Lacks}
 use Rattle.runs.proofs.TailBook.{TailOf, tail-read, tail-count}
@@ -165,7 +165,9 @@ module _
   of-book = at-ok (run-of-book book (m .records) (accepted-count book (m .records) (m .read)) run) (m .ran)
 
   meets : Every (λ x. Meets (m .steps) (x .0) (x .1)) (c .steps)
-  meets = steps-meet (book-closed book (m .records) (m .read)) l (m .steps) of-book (m .steps) of-book 0 premises
+  meets =
+      all-meet (m .steps) (c .steps)
+      (steps-meet (book-closed book (m .records) (m .read)) l (m .steps) of-book (m .steps) of-book 0) premises
 
   good : GoodTail book (w .tail)
   good = steps-good book (c .steps) (written [] []) (steps-storable limit (m .steps) (m .steps) 0 meets) (no-tail-good book)

@@ -1,5 +1,5 @@
--- Every accepted step meets its rule as the Alethe specification words it, where demand 3's premises hold
--- (`meets-alethe`). Rule by rule this is proved in the crate rules; here are the step loop and the run's terms,
+-- Every accepted step meets its rule as the Alethe specification words it, one of rule 5 or 6 where demand 3's
+-- premises hold of it (`meets-alethe`). Rule by rule this is proved in the crate rules; here are the step loop and the run's terms,
 -- which are terms of the book. With the limits theorem it is demand 2 (`demand2`).
 use mathlib.Core.Path.{_≡_, refl, sym, _∙_, ap₂}
 use mathlib.Core.Bool.{Bool, true, false, _||_}
@@ -8,6 +8,7 @@ use Prim.Native.Nat.{ℕ, suc, _≤_}
 use native.Mathlib.Omega.{arith}
 use borrow.Author.Tests.{eqb-true, eqb-false}
 use lib.Dec.{T, eqb}
+use Rattle.terms.specs.Rational.{Rational}
 use Rattle.terms.specs.Bytes.{Bytes}
 use Rattle.terms.specs.Term.{Term}
 use Rattle.terms.specs.Book.{readBook}
@@ -34,13 +35,15 @@ use Rattle.rules.proofs.RelationRule.{poly-simp-rel-literals, poly-simp-rel-for
 use Rattle.rules.proofs.GenericForm.{laGeneric-form, laGenericPartial-form}
 use Rattle.runs.specs.Run.{Step, readRun}
 use Rattle.runs.specs.Check.{Accepted, Marking, clausesOf, checkStep, checkSteps, markRun, mark}
-use Rattle.runs.specs.Demands.{Every, end, also, Premises, AllPremises, Meets, stepsOf, MeetsAlethe}
+use Rattle.runs.specs.Demands.{Every, end, also, Premises, NeededPremises, AllPremises, Meets, stepsOf}
+use Rattle.runs.specs.Demands.{MeetsAlethe}
 use Rattle.runs.specs.Demands.{Demand2}
 use Rattle.runs.specs.Demands.Meets.{assume, laRwEq as by-rw-eq, laDisequality as by-disequality}
 use Rattle.runs.specs.Demands.Meets.{laTotality as by-totality, laTautology as by-tautology}
 use Rattle.runs.specs.Demands.Meets.{laGeneric as by-generic}
 use Rattle.runs.specs.Demands.Meets.{polySimp as by-poly-simp, polySimpRel as by-poly-simp-rel}
 use Rattle.runs.proofs.Limits.{the-rusts-answers}
+use Rattle.runs.proofs.Everywhere.{every-both}
 use Rattle.runs.proofs.RunTerms.{StepOf, next, markBook, literal-of, premise-of, run-of-book}
 
 -- ---- one step
@@ -48,6 +51,14 @@ use Rattle.runs.proofs.RunTerms.{StepOf, next, markBook, literal-of, pr
 either-true : (a : Bool) {b : Bool} → b ≡ true → T (a || b)
 either-true true e = tt
 either-true false e = true-T e
+
+-- rule 5 or 6
+abbrev Generic : Step → Type 0
+Generic s = T (eqb (s .rule) 5 || eqb (s .rule) 6)
+
+-- a step meets its rule, where it needs them under demand 3's premises
+abbrev pub MeetsIf : List Step → Step → List Rational → Type 0
+MeetsIf run s inferred = NeededPremises s inferred → Meets run s inferred
 
 -- a rule that is none of those below k and not k
 above : (k r : ℕ) → k ≤ r → eqb r k ≡ false → suc k ≤ r
@@ -86,7 +97,7 @@ module _ {Q : Term → Type 0} (closed : Closed Q) (l : Limits) (run : List Step
         (poly-simp-same closed l (x .0) (literal-of s h (x .0) (x .1)) n m (rw (x .1) at e))
 
     -- rules 5 and 6: demand 3's premises say that strengthening is right, and that every literal has one argument
-    module _ (p : Progress) (g : Premises s (p .trace)) (r : T (eqb (s .rule) 5 || eqb (s .rule) 6)) where
+    module _ (p : Progress) (g : Premises s (p .trace)) (r : Generic s) where
       even : allEven (s .clause) ≡ true
       even = both (allEven (s .clause)) (allEven (s .args)) (T-true _ (g .evenDivs)) .0
 
@@ -112,7 +123,7 @@ module _ {Q : Term → Type 0} (closed : Closed Q) (l : Limits) (run : List Step
         (premise-of run all (s .premises) (x .premise) (x .premises)) (literal-of s h (x .phi) (x .conclusion))
         (sym (ap₂ (polySimpRel l) (x .conclusion) (x .premises)) ∙ e))
 
-    step-meets : Yields (λ a. Premises s (a .inferred) → Meets run s (a .inferred)) (checkStep l run s n)
+    step-meets : Yields (λ a. NeededPremises s (a .inferred) → Meets run s (a .inferred)) (checkStep l run s n)
     unfolding checkStep
     step-meets =
         by-test (eqb (s .rule) 0) _ _ (λ e. gives λ g. assume (eqb-true (s .rule) 0 e)) λ n0.
@@ -120,8 +131,8 @@ module _ {Q : Term → Type 0} (closed : Closed Q) (l : Limits) (run : List Step
         by-test (eqb (s .rule) 2) _ _ (λ e. known _ λ u f. gives λ g. disequality-meets (eqb-true (s .rule) 2 e) u f) λ n2.
         by-test (eqb (s .rule) 3) _ _ (λ e. known _ λ u f. gives λ g. totality-meets (eqb-true (s .rule) 3 e) u f) λ n3.
         by-test (eqb (s .rule) 4) _ _ (λ e. known _ λ m f. gives λ g. tautology-meets (eqb-true (s .rule) 4 e) m f) λ n4.
-        by-test (eqb (s .rule) 5) _ _ (λ e. known _ λ p f. gives λ g. generic-meets p g (rw e tt) f) λ n5.
-        by-test (eqb (s .rule) 6) _ _ (λ e. known _ λ p f. gives λ g. partial-meets p g (either-true (eqb (s .rule) 5) e) (eqb-true (s .rule) 6 e) f) λ n6.
+        by-test (eqb (s .rule) 5) _ _ (λ e. known _ λ p f. gives λ g. let r : Generic s = rw e tt in generic-meets p (g r) r f) λ n5.
+        by-test (eqb (s .rule) 6) _ _ (λ e. known _ λ p f. gives λ g. let r : Generic s = either-true (eqb (s .rule) 5) e in partial-meets p (g r) r (eqb-true (s .rule) 6 e) f) λ n6.
         by-test (eqb (s .rule) 7) _ _ (λ e. known _ λ m f. gives λ g. poly-simp-meets (eqb-true (s .rule) 7 e) m f) λ n7.
         let r = s .rule in
         let least : 8 ≤ r =
@@ -130,35 +141,39 @@ module _ {Q : Term → Type 0} (closed : Closed Q) (l : Limits) (run : List Step
 
   -- ---- the steps in turn
 
-  -- where the premises hold of them, the accepted steps meet their rules
-  abbrev Meet : Marking → Type 0
-  Meet m = AllPremises (m .steps) → Every (λ x. Meets run (x .0) (x .1)) (m .steps)
-
-  pub steps-meet : (ss : List Step) → Every (StepOf Q) ss → (n : ℕ) → Meet (checkSteps l run ss n)
+  pub steps-meet :
+      (ss : List Step) → Every (StepOf Q) ss → (n : ℕ) → Every (λ x. MeetsIf run (x .0) (x .1)) (checkSteps l run ss n .steps)
   unfolding checkSteps
-  steps-meet [] hs n g = end
-  steps-meet (s ∷ ss) (also h hs) n g = go (checkStep l run s n) (step-meets s n h) (steps-meet ss hs) g
+  steps-meet [] hs n = end
+  steps-meet (s ∷ ss) (also h hs) n = go (checkStep l run s n) (step-meets s n h) (steps-meet ss hs)
     where
       go :
-          (x : Result Accepted) → Yields (λ a. Premises s (a .inferred) → Meets run s (a .inferred)) x →
-          ((k : ℕ) → Meet (checkSteps l run ss k)) → Meet (next l run s ss n x)
-      go (refused r) y rest g = end
-      go (ok a) (gives y) rest (also g gs) = also (y g) (rest (a .visits) gs)
+          (x : Result Accepted) → Yields (λ a. MeetsIf run s (a .inferred)) x →
+          ((k : ℕ) → Every (λ x. MeetsIf run (x .0) (x .1)) (checkSteps l run ss k .steps)) →
+          Every (λ x. MeetsIf run (x .0) (x .1)) (next l run s ss n x .steps)
+      go (refused r) y rest = end
+      go (ok a) (gives y) rest = also y (rest (a .visits))
+
+-- where the premises hold of all steps, all meet their rules
+pub all-meet :
+    (run : List Step) (xs : List (Step × List Rational)) → Every (λ x. MeetsIf run (x .0) (x .1)) xs → AllPremises xs →
+    Every (λ x. Meets run (x .0) (x .1)) xs
+all-meet run = every-both λ x h g. h (λ r. g)
 
 -- ---- a run
 
 module _ (l : Limits) (book run : Bytes) where
   run-meets :
-      (n : ℕ) → readBook book ≡ Records n → AllPremises (markRun l (readRun book run) .steps) →
-      Every (λ x. Meets (stepsOf book run) (x .0) (x .1)) (markRun l (readRun book run) .steps)
+      (n : ℕ) → readBook book ≡ Records n →
+      Every (λ x. MeetsIf (stepsOf book run) (x .0) (x .1)) (markRun l (readRun book run) .steps)
   unfolding markRun
   run-meets n e = go (readRun book run) (run-of-book book n (accepted-count book n e) run)
     where
       go :
-          (r : Result (List Step)) → Yields (Every (StepOf (OfBook book n))) r → AllPremises (markRun l r .steps) →
-          Every (λ x. Meets (elim r [ ok ss ↦ ss | refused r ↦ [] ]) (x .0) (x .1)) (markRun l r .steps)
-      go (ok ss) (gives h) g = steps-meet (book-closed book n e) l ss h ss h 0 g
-      go (refused r) y g = end
+          (r : Result (List Step)) → Yields (Every (StepOf (OfBook book n))) r →
+          Every (λ x. MeetsIf (elim r [ ok ss ↦ ss | refused r ↦ [] ]) (x .0) (x .1)) (markRun l r .steps)
+      go (ok ss) (gives h) = steps-meet (book-closed book n e) l ss h ss h 0
+      go (refused r) y = end
 
 pub meets-alethe : MeetsAlethe
 unfolding mark
@@ -166,10 +181,9 @@ meets-alethe book run limit = go (readBook book) refl
   where
     go :
         (b : BookRead) → readBook book ≡ b →
-        AllPremises (markBook (limited limit) book run b .steps) →
-        Every (λ x. Meets (stepsOf book run) (x .0) (x .1)) (markBook (limited limit) book run b .steps)
-    go (Records n) e g = run-meets (limited limit) book run n e g
-    go (RefusedAt c i) e g = end
+        Every (λ x. MeetsIf (stepsOf book run) (x .0) (x .1)) (markBook (limited limit) book run b .steps)
+    go (Records n) e = run-meets (limited limit) book run n e
+    go (RefusedAt c i) e = end
 
 -- ---- demand 2
 

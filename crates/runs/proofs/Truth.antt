@@ -39,7 +39,7 @@ use Rattle.runs.proofs.RunTerms.{Ordered, one, StepOf, next, markBook, 
 use Rattle.runs.proofs.RunTerms.{run-of-book}
 use Rattle.runs.proofs.RunTerms.{run-ordered}
 use Rattle.runs.proofs.Everywhere.{every-append, every-at}
-use Rattle.runs.proofs.Meeting.{meets-alethe}
+use Rattle.runs.proofs.Meeting.{all-meet, meets-alethe}
 
 -- ---- one step
 
@@ -145,7 +145,7 @@ module _ (book run : Bytes) (limit : ℕ) (ρ : Assignment) where
       AllPremises (mark (limited limit) book run .steps) → AssumedTrue ρ (mark (limited limit) book run .steps) →
       AllTrue ρ (mark (limited limit) book run .steps)
   unfolding mark
-  accepted-true g = go (readBook book) refl (meets-alethe book run limit g)
+  accepted-true g = go (readBook book) refl (all-meet (stepsOf book run) _ (meets-alethe book run limit) g)
     where
       go :
           (b : BookRead) → readBook book ≡ b →
