@@ -34,7 +34,7 @@ use Rattle.rules.proofs.PolynomialsEqual.{poly-simp-same}
 use Rattle.rules.proofs.RelationRule.{poly-simp-rel-literals, poly-simp-rel-form}
 use Rattle.rules.proofs.GenericForm.{laGeneric-form, laGenericPartial-form}
 use Rattle.runs.specs.Run.{Step, readRun}
-use Rattle.runs.specs.Check.{Accepted, Marking, clausesOf, checkStep, checkSteps, markRun, mark}
+use Rattle.runs.specs.Check.{Accepted, clausesOf, checkStep, checkSteps, markRun, mark}
 use Rattle.runs.specs.Demands.{Every, end, also, Premises, NeededPremises, AllPremises, Meets, stepsOf}
 use Rattle.runs.specs.Demands.{MeetsAlethe}
 use Rattle.runs.specs.Demands.{Demand2}
