@@ -3,6 +3,8 @@ pub mod Limits
 pub mod IndexMap
 pub mod LinearComb
 pub mod LinearArithmetic
+pub mod WorkArea
+pub mod LinearNodes
 pub mod Polynomial
 pub mod Premises
 pub mod Alethe

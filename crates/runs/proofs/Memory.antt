@@ -13,7 +13,7 @@ use lib.ListN.{length, replicate, length-append, length-replicate}
 use borrow.Author.Tests.{leb-true, le-leb}
 use Rattle.terms.proofs.Truths.{both, never, T-true}
 use Rattle.terms.specs.Rational.{Rational}
-use Rattle.terms.specs.Bytes.{Bytes}
+use Rattle.terms.specs.Bytes.{Bytes, bytesOf}
 use Rattle.terms.specs.Book.{count, maxRecords, readBook}
 use Rattle.terms.specs.declared.book.BookRead.{BookRead}
 use Rattle.terms.specs.declared.book.BookRead.the-variants.{Records, RefusedAt}
@@ -28,7 +28,7 @@ use Rattle.rules.proofs.PolynomialRefusals.{polySimp-late, polySimpRel-late}
 use Rattle.runs.specs.Run.{Step, readRun}
 use Rattle.runs.specs.Check.{Accepted, Marking, checkStep, marking, before, checkSteps, nothingMarked}
 use Rattle.runs.specs.Check.{markRun, mark, lentOk, check}
-use Rattle.runs.specs.Elaborate.{Written, Answer, answer, bytesOf, realRecord, tailBytes, written}
+use Rattle.runs.specs.Elaborate.{Written, Answer, answer, realRecord, tailBytes, written}
 use Rattle.runs.specs.Elaborate.{addSteps, fits, elaborated, elaborateUnder, elaborate, area}
 use Rattle.runs.specs.Demands.{Memory, KnownState, Demand1, answerTo, memoryAfter, isRefusal1to8}
 

@@ -14,7 +14,7 @@ use lib.IntN.{ℤ, pos, negsuc, natAbs}
 use lib.ListN.{length, replicate}
 use lib.Signed.{mag, ltZ}
 use Rattle.terms.specs.Rational.{Rational, Lowest, Proper, gcd, limit}
-use Rattle.terms.specs.Bytes.{Bytes, le, digits, signed, complement}
+use Rattle.terms.specs.Bytes.{Bytes, le, digits, signed, complement, bytesOf}
 use Rattle.terms.specs.Term.{if_then_else_}
 use Rattle.terms.specs.Term.Term.{rational}
 use Rattle.terms.specs.Book.{recordOf, kind, field1, field2, realOf, isNumber, tree, allZero, unused}
@@ -27,7 +27,7 @@ use Rattle.terms.proofs.TwosComplement.{complement-below, signed-complement}
 use Rattle.terms.proofs.Trees.{tree-node}
 use Rattle.terms.proofs.Records.{sameBytes-false}
 use Rattle.terms.proofs.Nodes.{node-rational}
-use Rattle.runs.specs.Elaborate.{bytesOf, realRecord, isReal}
+use Rattle.runs.specs.Elaborate.{realRecord, isReal}
 
 -- ---- the bytes of a number
 

@@ -10,7 +10,7 @@ use native.Mathlib.Omega.{arith}
 use borrow.Author.Tests.{lt-ltb, le-leb, eq-eqb, eqb-true, ltb-true, leb-true}
 use lib.Dec.{eqb, leb, ltb}
 use lib.ListN.{length, length-append}
-use Rattle.terms.specs.Bytes.{Bytes}
+use Rattle.terms.specs.Bytes.{Bytes, bytesOf}
 use Rattle.terms.specs.Term.{Term, recordNumber}
 use Rattle.terms.specs.Book.{count}
 use Rattle.terms.proofs.Truths.{both, never}
@@ -20,7 +20,7 @@ use Rattle.rules.proofs.Yields.{Yields, and-then, guarded}
 use Rattle.rules.proofs.Yields.Yields.{gives, refuses}
 use Rattle.runs.specs.Run.{Step, Rec, S, P, C, A, rec, recs, allRight, isEmpty, shapeOk}
 use Rattle.runs.specs.Run.{numbersOf, termsOf, readStep, readSteps, readRun, maxRunRecords}
-use Rattle.runs.specs.Elaborate.{bytesOf, recordBytes, premiseBytes, termBytes}
+use Rattle.runs.specs.Elaborate.{recordBytes, premiseBytes, termBytes}
 use Rattle.runs.specs.Demands.{Every}
 use Rattle.runs.proofs.RunTerms.{right-numbers}
 use Rattle.runs.proofs.RowRecords.{numberBytes, marked, recordNumbers, premises-are-numbers}

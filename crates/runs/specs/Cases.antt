@@ -4,14 +4,14 @@ use mathlib.Core.Bool.{Bool, true, false, _&&_}
 use mathlib.Core.List.{List, [], _∷_, _++_}
 use Prim.Native.Nat.{ℕ, _/_, _%_}
 use lib.Dec.{eqb}
-use Rattle.terms.specs.Bytes.{Bytes}
+use Rattle.terms.specs.Bytes.{Bytes, bytesOf}
 use Rattle.terms.specs.Book.{sameBytes}
 use Rattle.terms.specs.BookExamples.{joined}
 use Rattle.rules.specs.Computes.{rules}
 use Rattle.runs.specs.Run.{S, P, C, A, recs, leading, after, allRight, numbersOf, termsOf, readStep, readSteps, readRun}
 use Rattle.runs.specs.Check.{clausesOf, checkStep, checkSteps, markRun, mark, check}
 use Rattle.runs.specs.Elaborate as Elaborate
-use Rattle.runs.specs.Elaborate.{Answer, answer, bytesOf, findReal, placeIn, addReal, addReals, premiseBytes, termBytes}
+use Rattle.runs.specs.Elaborate.{Answer, answer, findReal, placeIn, addReal, addReals, premiseBytes, termBytes}
 use Rattle.runs.specs.Elaborate.{stepBytes, addSteps, tailBytes, fits, elaborated, elaborateUnder, elaborate}
 
 -- ---- runs from their parts

@@ -8,7 +8,7 @@ use Prim.Native.Nat.{ℕ, zero, suc, _+_, _*_, _-_, _/_, _%_}
 use lib.Dec.{eqb, leb, ltb}
 use lib.ListN.{length, replicate, take}
 use Rattle.terms.specs.Rational.{Rational, eqQ}
-use Rattle.terms.specs.Bytes.{Bytes, complement}
+use Rattle.terms.specs.Bytes.{Bytes, bytesOf, complement}
 use Rattle.terms.specs.Term.{Term, recordNumber, if_then_else_}
 use Rattle.terms.specs.Term.Term.{integer, rational, bitvector, atom, op}
 use Rattle.terms.specs.Book.{count, tree, maxRecords}
@@ -19,11 +19,6 @@ use Rattle.runs.specs.Run.{Step, S, P, C, A, maxRunRecords}
 use Rattle.runs.specs.Check.{Marking, mark, lentOk}
 
 -- ---- constants
-
--- n bytes of a number, the lowest first
-unfoldable pub bytesOf : ℕ → ℕ → Bytes
-bytesOf zero v = []
-bytesOf (suc n) v = (v % 256) ∷ bytesOf n (v / 256)
 
 unfoldable pub realRecord : Rational → Bytes
 realRecord q =

@@ -239,6 +239,11 @@ pub le-of-eight :
     x + 4294967296 * y ≡ le 8 b i
 le-of-eight b i x y h low high = omega (arith, le-add 4 4 b i h)
 
+pub put-of-two :
+    (v : ℕ) (b : Bytes) (i : ℕ) → i + 2 ≤ length b → set (set b i (v % 256)) (i + 1) (v / 256 % 256) ≡ put 2 v b i
+unfolding putDigits
+put-of-two v b i h = rw (put-inside 2 v b i h)
+
 pub put-of-four :
     (v : ℕ) (b : Bytes) (i : ℕ) → i + 4 ≤ length b → v < 4294967296 →
     set (set (set (set b i (v % 256)) (i + 1) (v / 256 % 256)) (i + 2) (v / 65536 % 256)) (i + 3) (v / 16777216) ≡ put 4 v b i

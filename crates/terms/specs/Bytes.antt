@@ -33,6 +33,11 @@ putDigits (suc n) v b i = putDigits n (v / 256) (set b i (v % 256)) (i + 1)
 unfoldable pub put : ℕ → ℕ → Bytes → ℕ → Bytes
 put n v b i = cond (room n b i) (putDigits n v b i) b
 
+-- n bytes of a number, the lowest first
+unfoldable pub bytesOf : ℕ → ℕ → Bytes
+bytesOf zero v = []
+bytesOf (suc n) v = (v % 256) ∷ bytesOf n (v / 256)
+
 -- ---- signed numbers: two's complement in n bytes
 
 unfoldable pub signed : ℕ → ℕ → ℤ

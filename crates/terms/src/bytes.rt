@@ -57,6 +57,16 @@ pub fn read_u64(s: &[u8], at: usize) -> u64
     0
 }
 
+// Puts the two low bytes of v at `at`.
+pub fn write_u16(s: &mut [u8], at: usize, v: u32)
+    ensures { λ _. ⌜ now (s .exit) ≡ put 2 v (now (s .entry)) at ⌝ }
+{
+    if room(s, at, 2) {
+        s[at] = (v % 256) as u8;
+        s[at + 1] = (v / 256 % 256) as u8;
+    }
+}
+
 // Puts v into the four bytes at `at`.
 pub fn write_u32(s: &mut [u8], at: usize, v: u32)
     ensures { λ _. ⌜ now (s .exit) ≡ put 4 v (now (s .entry)) at ⌝ }

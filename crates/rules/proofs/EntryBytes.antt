@@ -1,0 +1,217 @@
+-- The ten bytes of an entry behind any front of bytes: a write puts them there and leaves the rest (`entry-at`), and a
+-- read finds them (`key-found`, `value-found`). Zeros for entries are written by the loop of `clear` (`Cleared`).
+use mathlib.Core.Path.{_≡_, refl, sym, ap, _∙_}
+use mathlib.Core.Bool.{Bool, true, false, cond}
+use mathlib.Core.List.{[], _∷_, _++_, append-assoc}
+use Prim.Native.Nat.{ℕ, zero, suc, _+_, _*_, _/_, _%_, _^_, _≤_, _<_}
+use native.Mathlib.Nat.{suc-add}
+use native.Mathlib.Numerals.{add-one}
+use native.Mathlib.Omega.{arith}
+use lib.Dec.{leb·suc-suc}
+use lib.ListN.{length, take, drop, set, replicate, length-append, length-take, length-drop, length-replicate}
+use lib.ListN.{take-append-drop, replicate-append-replicate}
+use Rattle.terms.specs.Rational.{Rational, Proper}
+use Rattle.terms.specs.Bytes.{Bytes, room, le, put, putDigits, bytesOf, complement, numberAt, putNumber}
+use Rattle.terms.proofs.LittleEndian.{put-inside, length-put, read-after-write-small}
+use Rattle.terms.proofs.StoredNumbers.{putNumber-inside, length-putNumber, number-after-write}
+use Rattle.rules.specs.WorkArea.{putEntry, blank, blanked}
+
+-- ---- n bytes
+
+pub length-bytesOf : (n v : ℕ) → length (bytesOf n v) ≡ n
+unfolding bytesOf
+length-bytesOf zero v = refl
+length-bytesOf (suc n) v = ap suc (length-bytesOf n (v / 256))
+
+-- a byte in front moves every place up by one
+putDigits-cons : (n v x : ℕ) (b : Bytes) (i : ℕ) → putDigits n v (x ∷ b) (suc i) ≡ x ∷ putDigits n v b i
+unfolding putDigits
+putDigits-cons zero v x b i = refl
+putDigits-cons (suc n) v x b i = rw suc-add (putDigits-cons n (v / 256) x (set b i (v % 256)) (i + 1))
+
+put-cons : (n v x : ℕ) (b : Bytes) (i : ℕ) → put n v (x ∷ b) (suc i) ≡ x ∷ put n v b i
+unfolding put
+put-cons n v x b i = rw (suc-add, leb·suc-suc, putDigits-cons n v x b i) (go (room n b i))
+  where
+    go : (t : Bool) → cond t (x ∷ putDigits n v b i) (x ∷ b) ≡ x ∷ cond t (putDigits n v b i) b
+    go true = refl
+    go false = refl
+
+putDigits-first :
+    (n v : ℕ) (x r : Bytes) → length x ≡ n → putDigits n v (x ++ r) 0 ≡ bytesOf n v ++ r
+unfolding putDigits bytesOf
+putDigits-first zero v [] r h = refl
+putDigits-first zero v (a ∷ x) r h = absurd (omega arith)
+putDigits-first (suc n) v [] r h = absurd (omega arith)
+putDigits-first (suc n) v (a ∷ x) r h =
+    putDigits-cons n (v / 256) (v % 256) (x ++ r) 0
+    ∙ ap (λ (l : Bytes). (v % 256) ∷ l) (putDigits-first n (v / 256) x r (omega arith))
+
+-- the n bytes x behind f become those of v
+put-at : (n v : ℕ) (f x r : Bytes) → length x ≡ n → put n v (f ++ (x ++ r)) (length f) ≡ f ++ (bytesOf n v ++ r)
+put-at n v [] x r h =
+    put-inside n v (x ++ r) 0 (omega (arith, length-append x r)) ∙ putDigits-first n v x r h
+put-at n v (a ∷ f) x r h =
+    put-cons n v a (f ++ (x ++ r)) (length f) ∙ ap (λ (l : Bytes). a ∷ l) (put-at n v f x r h)
+
+le-at :
+    (n v : ℕ) (f r : Bytes) → v < 256 ^ n → le n (f ++ (bytesOf n v ++ r)) (length f) ≡ v
+le-at n v f r small =
+    let w : Bytes = f ++ (bytesOf n v ++ r) in
+    let long : length f + n ≤ length w =
+    simp (length-append, length-bytesOf) (omega arith) in
+    ap (λ (l : Bytes). le n l (length f)) (sym (put-at n v f (bytesOf n v) r (length-bytesOf n v)))
+    ∙ read-after-write-small n v w (length f) long small
+
+-- ---- the eight bytes of a number
+
+abbrev parts : Rational → Bytes
+parts q = bytesOf 4 (complement 4 (q .num)) ++ bytesOf 4 (complement 4 (q .den))
+
+length-parts : (q : Rational) → length (parts q) ≡ 8
+length-parts q = simp (length-append, length-bytesOf)
+
+number-at :
+    (q : Rational) (f x r : Bytes) → length x ≡ 8 → putNumber q (f ++ (x ++ r)) (length f) ≡ f ++ (parts q ++ r)
+number-at q f x r h =
+    let n : Bytes = bytesOf 4 (complement 4 (q .num)) in
+    let d : Bytes = bytesOf 4 (complement 4 (q .den)) in
+    let low : length (take 4 x) ≡ 4 = rw (length-take, h) in
+    let high : length (drop 4 x) ≡ 4 = rw (length-drop, h) in
+    let halves : f ++ (x ++ r) ≡ f ++ (take 4 x ++ (drop 4 x ++ r)) =
+    ap (λ (l : Bytes). f ++ (l ++ r)) (sym (take-append-drop 4 x)) ∙ simp append-assoc in
+    let long : length f + 8 ≤ length (f ++ (x ++ r)) = simp (length-append, h) (omega arith) in
+    let next : length (f ++ n) ≡ length f + 4 = simp (length-append, length-bytesOf) in
+    let first : put 4 (complement 4 (q .num)) (f ++ (x ++ r)) (length f) ≡ (f ++ n) ++ (drop 4 x ++ r) =
+    ap (λ (l : Bytes). put 4 (complement 4 (q .num)) l (length f)) halves
+    ∙ put-at 4 (complement 4 (q .num)) f (take 4 x) (drop 4 x ++ r) low
+    ∙ simp append-assoc in
+    putNumber-inside q (f ++ (x ++ r)) (length f) long
+    ∙ ap (λ (l : Bytes). put 4 (complement 4 (q .den)) l (length f + 4)) first
+    ∙ ap (put 4 (complement 4 (q .den)) ((f ++ n) ++ (drop 4 x ++ r))) (sym next)
+    ∙ put-at 4 (complement 4 (q .den)) (f ++ n) (drop 4 x) r high
+    ∙ simp append-assoc
+
+-- ---- the ten bytes of an entry
+
+abbrev pub cell : ℕ → Rational → Bytes
+cell key q = bytesOf 2 key ++ parts q
+
+pub length-cell : (key : ℕ) (q : Rational) → length (cell key q) ≡ 10
+length-cell key q = simp (length-append, length-bytesOf)
+
+module _ (f : Bytes) (k : ℕ) (place : length f ≡ 10 * k) (key : ℕ) (q : Rational) (r : Bytes) where
+  value-place : length (f ++ bytesOf 2 key) ≡ 10 * k + 2
+  value-place = simp (length-append, length-bytesOf, place)
+
+  pub entry-at : (x : Bytes) → length x ≡ 10 → putEntry (f ++ (x ++ r)) k key q ≡ f ++ (cell key q ++ r)
+  unfolding putEntry
+  entry-at x h =
+      let low : length (take 2 x) ≡ 2 = rw (length-take, h) in
+      let high : length (drop 2 x) ≡ 8 = rw (length-drop, h) in
+      let both : f ++ (x ++ r) ≡ f ++ (take 2 x ++ (drop 2 x ++ r)) =
+      ap (λ (l : Bytes). f ++ (l ++ r)) (sym (take-append-drop 2 x)) ∙ simp append-assoc in
+      let first : put 2 key (f ++ (x ++ r)) (10 * k) ≡ (f ++ bytesOf 2 key) ++ (drop 2 x ++ r) =
+      ap (put 2 key (f ++ (x ++ r))) (sym place)
+      ∙ ap (λ (l : Bytes). put 2 key l (length f)) both
+      ∙ put-at 2 key f (take 2 x) (drop 2 x ++ r) low
+      ∙ simp append-assoc in
+      ap (λ (l : Bytes). putNumber q l (10 * k + 2)) first
+      ∙ ap (putNumber q ((f ++ bytesOf 2 key) ++ (drop 2 x ++ r))) (sym value-place)
+      ∙ number-at q (f ++ bytesOf 2 key) (drop 2 x) r high
+      ∙ simp append-assoc
+
+  pub key-found : key < 65536 → le 2 (f ++ (cell key q ++ r)) (10 * k) ≡ key
+  key-found small =
+      ap (le 2 (f ++ (cell key q ++ r))) (sym place)
+      ∙ ap (λ (l : Bytes). le 2 (f ++ l) (length f)) (append-assoc (bytesOf 2 key) (parts q) r)
+      ∙ le-at 2 key f (parts q ++ r) small
+
+  -- the bytes are those that a write of q leaves
+  pub value-found : Proper q → numberAt (f ++ (cell key q ++ r)) (10 * k + 2) ≡ q
+  value-found proper =
+      let g : Bytes = f ++ bytesOf 2 key in
+      let w : Bytes = g ++ (parts q ++ r) in
+      let long : 10 * k + 2 + 8 ≤ length w =
+      rw (length-append g (parts q ++ r), length-append (parts q) r, length-parts q, value-place) (omega arith) in
+      let same : f ++ (cell key q ++ r) ≡ w = simp append-assoc in
+      ap (λ (l : Bytes). numberAt l (10 * k + 2)) (same ∙ sym (number-at q g (parts q) r (length-parts q)))
+      ∙ ap (λ (i : ℕ). numberAt (putNumber q w i) (10 * k + 2)) value-place
+      ∙ number-after-write q w (10 * k + 2) long proper
+
+-- ---- zeros
+
+blank-cell : cell 0 blank ≡ replicate 10 0
+unfolding bytesOf complement
+blank-cell = refl
+
+-- the zeros of one place more
+pub one-more : (n : ℕ) → cell 0 blank ++ replicate (10 * n) 0 ≡ replicate (10 * suc n) 0
+one-more n =
+    let size : 10 + 10 * n ≡ 10 * suc n = omega arith in
+    ap (λ (l : Bytes). l ++ replicate (10 * n) 0) blank-cell
+    ∙ replicate-append-replicate 10 (10 * n) 0
+    ∙ ap (λ (k : ℕ). replicate k 0) size
+
+one-more-behind : (n : ℕ) (r : Bytes) → replicate (10 * n) 0 ++ (cell 0 blank ++ r) ≡ replicate (10 * suc n) 0 ++ r
+one-more-behind n r = go (cell 0 blank) 10 blank-cell (omega arith)
+  where
+    go :
+        (x : Bytes) (k : ℕ) → x ≡ replicate k 0 → 10 * n + k ≡ 10 * suc n →
+        replicate (10 * n) 0 ++ (x ++ r) ≡ replicate (10 * suc n) 0 ++ r
+    go x k zeros size =
+        sym (append-assoc (replicate (10 * n) 0) x r)
+        ∙ ap (λ (l : Bytes). (replicate (10 * n) 0 ++ l) ++ r) zeros
+        ∙ ap (λ (l : Bytes). l ++ r) (replicate-append-replicate (10 * n) k 0)
+        ∙ ap (λ (i : ℕ). replicate i 0 ++ r) size
+
+pub blanked-front : (k : ℕ) (x r : Bytes) → length x ≡ 10 * k → blanked k (x ++ r) ≡ replicate (10 * k) 0 ++ r
+unfolding blanked
+blanked-front zero [] r h = refl
+blanked-front zero (a ∷ x) r h = absurd (omega arith)
+blanked-front (suc k) x r h =
+    let front : length (take (10 * k) x) ≡ 10 * k = rw (length-take, h) (omega arith) in
+    let last : length (drop (10 * k) x) ≡ 10 = rw (length-drop, h) (omega arith) in
+    let split : x ++ r ≡ take (10 * k) x ++ (drop (10 * k) x ++ r) =
+    ap (λ (l : Bytes). l ++ r) (sym (take-append-drop (10 * k) x))
+    ∙ append-assoc (take (10 * k) x) (drop (10 * k) x) r in
+    ap (λ (l : Bytes). putEntry (blanked k l) k 0 blank) split
+    ∙ ap (λ (l : Bytes). putEntry l k 0 blank) (blanked-front k (take (10 * k) x) (drop (10 * k) x ++ r) front)
+    ∙ entry-at (replicate (10 * k) 0) k (length-replicate (10 * k) 0) 0 blank r (drop (10 * k) x) last
+    ∙ one-more-behind k r
+
+-- ---- the function `clear`
+
+length-putEntry : (w : Bytes) (k key : ℕ) (q : Rational) → length (putEntry w k key q) ≡ length w
+unfolding putEntry
+length-putEntry w k key q =
+    length-putNumber q (put 2 key w (10 * k)) (10 * k + 2) ∙ length-put 2 key w (10 * k)
+
+pub length-blanked : (k : ℕ) (w : Bytes) → length (blanked k w) ≡ length w
+unfolding blanked
+length-blanked zero w = refl
+length-blanked (suc k) w = length-putEntry (blanked k w) k 0 blank ∙ length-blanked k w
+
+pub record Cleared (w : Bytes) (n : ℕ) (w′ : Bytes) (k : ℕ) : Type 0 where
+  pub most : k ≤ n
+  pub is : w′ ≡ blanked k w
+
+module _ {w : Bytes} {n : ℕ} where
+  pub cleared-none : Cleared w n w 0
+  unfolding blanked
+  cleared-none = record { most = omega arith; is = refl }
+
+  pub cleared-more :
+      {w′ : Bytes} {k : ℕ} (v : Bytes) → Cleared w n w′ k → k < n → v ≡ putEntry w′ k 0 blank → Cleared w n v (k + 1)
+  unfolding blanked
+  cleared-more {w′} {k} v c h e =
+      record {
+        most = omega arith;
+        is = rw (add-one k) (e ∙ ap (λ (l : Bytes). putEntry l k 0 blank) (c .is));
+      }
+
+  pub cleared-length : {w′ : Bytes} {k : ℕ} → Cleared w n w′ k → length w′ ≡ length w
+  cleared-length {k} c = ap length (c .is) ∙ length-blanked k w
+
+  pub cleared-all : {w′ : Bytes} {k : ℕ} → Cleared w n w′ k → n ≤ k → w′ ≡ blanked n w
+  cleared-all {k} c h = let all : k ≡ n = omega (arith, c .most) in c .is ∙ ap (λ (i : ℕ). blanked i w) all

@@ -1,0 +1,137 @@
+// `IndexMap<Rc<Term>, Rational>`: entries in the order of insertion, in an area of the lent work area. An entry is a record
+// number in two bytes and a number in eight; after the entries come zeros. How many there are is carried by value.
+// A refusal leaves the area empty.
+ghost use mathlib.Core.Path.{_≡_};
+ghost use Prim.Native.Nat.{ℕ, _+_, _*_, _-_, _≤_, _<_};
+ghost use Rattle.terms.specs.Rational.{Makes, Proper};
+ghost use Rattle.terms.specs.Bytes.{Bytes, le, numberAt};
+ghost use Rattle.terms.specs.Book.{count, tree};
+ghost use Rattle.rules.specs.Limits.{limited};
+ghost use Rattle.rules.specs.IndexMap.{insert, get};
+ghost use Rattle.rules.specs.LinearComb.{terms};
+ghost use Rattle.rules.specs.WorkArea.{keysOf, entriesOf, place, putEntry, blank, blanked, swapped, Kept, Grown, Inserts, CoefficientIs};
+use terms::bytes::read_u16;
+use terms::bytes::write_u16;
+use terms::number::Checked;
+use terms::number::Number;
+
+// How many entries there are after an insertion.
+pub enum Inserted {
+    Length(usize),
+    // Refusal 11.
+    OutOfRange,
+}
+
+pub enum Coefficient {
+    Of(Number),
+    Missing,
+}
+
+// The record number of entry k.
+pub fn key_at(entries: &[u8], k: usize) -> usize
+    requires { ⌜ k ≤ 4096 ⌝ }
+    ensures { λ r. ⌜ (r ≡ le 2 (now (entries .entry)) (10 * k)) × (r < 65536) ⌝ }
+{
+    read_u16(entries, 10 * k) as usize
+}
+
+pub fn value_at(entries: &[u8], k: usize) -> Number
+    requires { ⌜ k ≤ 4096 ⌝ }
+    ensures { λ r. ⌜ Makes r (numberAt (now (entries .entry)) (10 * k + 2)) ⌝ }
+{
+    Number::read(entries, 10 * k + 2)
+}
+
+pub fn put_entry(entries: &mut [u8], k: usize, key: usize, value: Number)
+    requires { ⌜ (k ≤ 4096) × (key < 65536) ⌝ }
+    ensures { λ _. ⌜ now (entries .exit) ≡ putEntry (now (entries .entry)) k key value ⌝ }
+{
+    write_u16(entries, 10 * k, key as u32);
+    value.write(entries, 10 * k + 2);
+}
+
+fn blank_entry(entries: &mut [u8], k: usize)
+    requires { ⌜ k ≤ 4096 ⌝ }
+    ensures { λ _. ⌜ now (entries .exit) ≡ putEntry (now (entries .entry)) k 0 blank ⌝ }
+{
+    put_entry(entries, k, 0, Number { num: 0, den: 0 });
+}
+
+// The place of the entry with a key; n where none of the n entries has it.
+fn find(entries: &[u8], n: usize, key: usize) -> usize
+    requires { ⌜ n ≤ 4096 ⌝ }
+    ensures { λ r. ⌜ r ≡ place (keysOf (now (entries .entry)) n) key ⌝ }
+{
+    let mut k = 0;
+    while k < n {
+        if key_at(entries, k) == key {
+            return k;
+        }
+        k += 1;
+    }
+    n
+}
+
+// The coefficient of a key.
+pub fn get(entries: &[u8], n: usize, key: usize) -> Coefficient
+    requires { ⌜ n ≤ 4096 ⌝ }
+    ensures { λ r. ⌜ ((b : Bytes) → Kept b (now (entries .entry)) n →
+        CoefficientIs r (get terms (entriesOf b (now (entries .entry)) n) (tree b key))) ⌝ }
+{
+    let k = find(entries, n, key);
+    if k < n {
+        return Coefficient::Of(value_at(entries, k));
+    }
+    Coefficient::Missing
+}
+
+// Empties an area of n entries.
+pub fn clear(entries: &mut [u8], n: usize)
+    requires { ⌜ n ≤ 4096 ⌝ }
+    ensures { λ _. ⌜ now (entries .exit) ≡ blanked n (now (entries .entry)) ⌝ }
+{
+    let mut k = 0;
+    while k < n {
+        blank_entry(entries, k);
+        k += 1;
+    }
+}
+
+// The last of n entries takes the place of entry k.
+fn swap_remove(entries: &mut [u8], n: usize, k: usize)
+    requires { ⌜ (n ≤ 4096) × (k < n) ⌝ }
+    ensures { λ _. ⌜ now (entries .exit) ≡ swapped n k (now (entries .entry)) ⌝ }
+{
+    let last = n - 1;
+    let key = key_at(entries, last);
+    let value = value_at(entries, last);
+    put_entry(entries, k, key, value);
+    blank_entry(entries, last);
+}
+
+// Adds to the entry that has the key, or appends one; an entry that becomes 0 is removed.
+pub fn insert(entries: &mut [u8], n: usize, key: usize, value: Number) -> Inserted
+    requires { ⌜ (n ≤ 4096) × ((key < 65536) × Proper value) ⌝ }
+    ensures { λ r. ⌜ Grown n r ⌝ }
+    ensures { λ r. ⌜ ((b : Bytes) → Kept b (now (entries .entry)) n → key < count b → (l : ℕ) →
+        Inserts b (now (entries .exit)) r (insert terms (limited l) (entriesOf b (now (entries .entry)) n) (tree b key) value)) ⌝ }
+{
+    if value.is_zero() {
+        return Inserted::Length(n);
+    }
+    let k = find(entries, n, key);
+    if n <= k {
+        put_entry(entries, n, key, value);
+        return Inserted::Length(n + 1);
+    }
+    let Checked::Value(sum) = value_at(entries, k).add(value) else {
+        clear(entries, n);
+        return Inserted::OutOfRange;
+    };
+    if sum.is_zero() {
+        swap_remove(entries, n, k);
+        return Inserted::Length(n - 1);
+    }
+    put_entry(entries, k, key, sum);
+    Inserted::Length(n)
+}

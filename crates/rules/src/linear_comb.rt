@@ -1,0 +1,354 @@
+// `impl LinearComb` of src/checker/rules/linear_arithmetic.rs, on one combination: its entries lie in an area of the work area,
+// their number and the constant are carried by value. A refusal leaves the area empty.
+ghost use mathlib.Core.Path.{_≡_};
+ghost use Prim.Native.Nat.{ℕ, _≤_, _<_};
+ghost use lib.IntN.{natAbs};
+ghost use Rattle.terms.specs.Rational.{Proper, limit, whole};
+ghost use Rattle.terms.specs.Bytes.{Bytes};
+ghost use Rattle.terms.specs.Book.{count, tree, numbers, arguments, forest};
+ghost use Rattle.rules.specs.Limits.{limited};
+ghost use Rattle.rules.specs.IndexMap.{negAll, scaleAll, walked, addConstant, addEntry};
+ghost use Rattle.rules.specs.LinearComb.{terms, mul, gcdFrom, coefficientsGcd, addTerm};
+ghost use Rattle.rules.specs.WorkArea.{entriesOf, combOf, Held, Kept, KeptSum, negated, Inserts, Sums, Walks};
+ghost use Rattle.rules.specs.LinearNodes.{NodeIs, WalkPre, ArgsPre, addEach, nodeOf, leafNode, productNode, factorNode};
+use crate::index_map::Inserted;
+use crate::index_map::clear;
+use crate::index_map::insert;
+use crate::index_map::key_at;
+use crate::index_map::put_entry;
+use crate::index_map::value_at;
+use terms::book::argument;
+use terms::number::Checked;
+use terms::number::Number;
+use terms::number::gcd;
+use terms::number::magnitude;
+use terms::term::Reading;
+use terms::term::Two;
+use terms::term::args;
+use terms::term::as_fraction;
+use terms::term::binary;
+use terms::term::operator;
+
+pub struct LinearComb {
+    // The number of entries.
+    pub len: usize,
+    pub constant: Number,
+}
+
+// The answer of an operation that can leave the range of numbers.
+pub enum Summed {
+    Sum(LinearComb),
+    // Refusal 11.
+    OutOfRange,
+}
+
+// ---- neg, mul, coefficients_gcd
+
+pub fn neg(entries: &mut [u8], s: LinearComb) -> LinearComb
+    requires { ⌜ (s .len ≤ 4096) × Proper (s .constant) ⌝ }
+    ensures { λ r. ⌜ r ≡ negated s ⌝ }
+    ensures { λ r. ⌜ ((b : Bytes) → KeptSum b (now (entries .entry)) s →
+        Held b (now (entries .exit)) (negAll (entriesOf b (now (entries .entry)) (s .len)))) ⌝ }
+{
+    let n = s.len;
+    let c = s.constant;
+    let mut k = 0;
+    while k < n {
+        let key = key_at(entries, k);
+        let value = value_at(entries, k);
+        put_entry(entries, k, key, value.neg());
+        k += 1;
+    }
+    LinearComb {
+        len: n,
+        constant: c.neg(),
+    }
+}
+
+// Multiplies each of n entries.
+fn scale_all(entries: &mut [u8], n: usize, q: Number) -> Inserted
+    requires { ⌜ (n ≤ 4096) × Proper q ⌝ }
+    ensures { λ r. ⌜ ((b : Bytes) → Kept b (now (entries .entry)) n → (l : ℕ) →
+        Inserts b (now (entries .exit)) r (scaleAll (limited l) q (entriesOf b (now (entries .entry)) n))) ⌝ }
+{
+    let mut k = 0;
+    while k < n {
+        let key = key_at(entries, k);
+        let value = value_at(entries, k);
+        let Checked::Value(scaled) = value.mul(q) else {
+            clear(entries, n);
+            return Inserted::OutOfRange;
+        };
+        put_entry(entries, k, key, scaled);
+        k += 1;
+    }
+    Inserted::Length(n)
+}
+
+// Multiplies a combination, in its own place.
+pub fn mul(entries: &mut [u8], s: LinearComb, q: Number) -> Summed
+    requires { ⌜ (s .len ≤ 4096) × (Proper (s .constant) × Proper q) ⌝ }
+    ensures { λ r. ⌜ ((b : Bytes) → KeptSum b (now (entries .entry)) s → (l : ℕ) →
+        Sums b (now (entries .exit)) r (mul (limited l) (combOf b (now (entries .entry)) s) q)) ⌝ }
+{
+    let n = s.len;
+    let c = s.constant;
+    if q.is_zero() {
+        clear(entries, n);
+        return Summed::Sum(LinearComb {
+            len: 0,
+            constant: Number::whole(0),
+        });
+    }
+    if q.eq(Number::whole(1)) {
+        return Summed::Sum(s);
+    }
+    let Inserted::Length(_) = scale_all(entries, n, q) else {
+        return Summed::OutOfRange;
+    };
+    let Checked::Value(constant) = c.mul(q) else {
+        clear(entries, n);
+        return Summed::OutOfRange;
+    };
+    Summed::Sum(LinearComb { len: n, constant })
+}
+
+// The loop over the coefficients, with the result so far.
+fn gcd_from(entries: &[u8], n: usize, start: i64) -> i64
+    requires { ⌜ (n ≤ 4096) × (natAbs start ≤ limit) ⌝ }
+    ensures { λ r. ⌜ Proper (whole r) ⌝ }
+    ensures { λ r. ⌜ ((b : Bytes) → Kept b (now (entries .entry)) n → r ≡ gcdFrom start (entriesOf b (now (entries .entry)) n)) ⌝ }
+{
+    let mut result = start;
+    let mut k = 0;
+    while k < n {
+        if result == 1 {
+            return 1;
+        }
+        let value = value_at(entries, k);
+        if value.is_integer() {
+            let c = value.num;
+            result = gcd(magnitude(result), magnitude(c)) as i64;
+            k += 1;
+        } else {
+            return 1;
+        }
+    }
+    if result < 1 { 1 } else { result }
+}
+
+// The greatest common divisor of the coefficients and the constant; 1 where one of them is not whole, and where all are 0.
+pub fn coefficients_gcd(entries: &[u8], s: LinearComb) -> i64
+    requires { ⌜ (s .len ≤ 4096) × Proper (s .constant) ⌝ }
+    ensures { λ r. ⌜ Proper (whole r) ⌝ }
+    ensures { λ r. ⌜ ((b : Bytes) → Kept b (now (entries .entry)) (s .len) →
+        r ≡ coefficientsGcd (combOf b (now (entries .entry)) s)) ⌝ }
+{
+    let n = s.len;
+    let constant = s.constant;
+    if constant.is_integer() {
+        let c = constant.num;
+        return gcd_from(entries, n, c);
+    }
+    1
+}
+
+// ---- add_term
+
+// What a walk has filled and the visits made so far.
+pub enum Walk {
+    Done(LinearComb, u32),
+    // Document 01's number of the refusal.
+    Refused(u8),
+}
+
+// What a walk does at a term.
+pub enum Node {
+    // Walks the arguments, the first with the first coefficient and all others with the second.
+    Args(Number, Number),
+    // Walks one factor of a product in its place.
+    Factor(usize, Number),
+    // Adds to the constant.
+    Constant(Number),
+    // Adds the term itself as an atom.
+    Atom,
+    // Refusal 11.
+    OutOfRange,
+}
+
+// A product of a number and record x.
+fn factor(x: usize, q: Number, coeff: Number) -> Node
+    requires { ⌜ Proper q × Proper coeff ⌝ }
+    ensures { λ r. ⌜ NodeIs r (factorNode x q coeff) ⌝ }
+{
+    let Checked::Value(c) = q.mul(coeff) else {
+        return Node::OutOfRange;
+    };
+    Node::Factor(x, c)
+}
+
+// Both factors are read before either is looked at.
+fn product(book: &[u8], x: usize, y: usize, coeff: Number) -> Node
+    requires { ⌜ Proper coeff ⌝ }
+    ensures { λ r. ⌜ NodeIs r (productNode (tree (now (book .entry)) x) (tree (now (book .entry)) y) coeff) ⌝ }
+{
+    let first = as_fraction(book, x);
+    let second = as_fraction(book, y);
+    match first {
+        Reading::OutOfRange => Node::OutOfRange,
+        Reading::Value(q) => match second {
+            Reading::OutOfRange => Node::OutOfRange,
+            _ => factor(y, q, coeff),
+        },
+        Reading::NotNumber => match second {
+            Reading::OutOfRange => Node::OutOfRange,
+            Reading::Value(q) => factor(x, q, coeff),
+            Reading::NotNumber => Node::Atom,
+        },
+    }
+}
+
+// A number goes to the constant, anything else is an atom.
+fn leaf(book: &[u8], id: usize, coeff: Number) -> Node
+    requires { ⌜ Proper coeff ⌝ }
+    ensures { λ r. ⌜ NodeIs r (leafNode (tree (now (book .entry)) id) coeff) ⌝ }
+{
+    match as_fraction(book, id) {
+        Reading::Value(q) => match q.mul(coeff) {
+            Checked::Value(c) => Node::Constant(c),
+            Checked::OutOfRange => Node::OutOfRange,
+        },
+        Reading::NotNumber => Node::Atom,
+        Reading::OutOfRange => Node::OutOfRange,
+    }
+}
+
+fn look(book: &[u8], id: usize, coeff: Number) -> Node
+    requires { ⌜ Proper coeff ⌝ }
+    ensures { λ r. ⌜ NodeIs r (nodeOf (tree (now (book .entry)) id) coeff) ⌝ }
+{
+    match operator(book, id) {
+        9 => Node::Args(coeff, coeff),
+        10 => {
+            let minus = coeff.neg();
+            if args(book, id).len() / 2 == 1 {
+                Node::Args(minus, minus)
+            } else {
+                Node::Args(coeff, minus)
+            }
+        }
+        11 => match binary(book, id, 11) {
+            Two::Both(x, y) => product(book, x, y, coeff),
+            Two::NotTwo => leaf(book, id, coeff),
+        },
+        _ => leaf(book, id, coeff),
+    }
+}
+
+fn add_constant(entries: &mut [u8], s: LinearComb, visits: u32, q: Number) -> Walk
+    requires { ⌜ (s .len ≤ 4096) × (Proper (s .constant) × Proper q) ⌝ }
+    ensures { λ r. ⌜ ((b : Bytes) → KeptSum b (now (entries .entry)) s → (l : ℕ) →
+        Walks b (now (entries .exit)) r (addConstant (limited l) q (walked (combOf b (now (entries .entry)) s) visits))) ⌝ }
+{
+    let n = s.len;
+    let c = s.constant;
+    let Checked::Value(constant) = c.add(q) else {
+        clear(entries, n);
+        return Walk::Refused(11);
+    };
+    Walk::Done(LinearComb { len: n, constant }, visits)
+}
+
+fn add_entry(entries: &mut [u8], s: LinearComb, visits: u32, key: usize, value: Number) -> Walk
+    requires { ⌜ (s .len ≤ 4096) × (Proper (s .constant) × ((key < 65536) × Proper value)) ⌝ }
+    ensures { λ r. ⌜ ((b : Bytes) → KeptSum b (now (entries .entry)) s → key < count b → (l : ℕ) →
+        Walks b (now (entries .exit)) r (addEntry terms (limited l) (tree b key) value (walked (combOf b (now (entries .entry)) s) visits))) ⌝ }
+{
+    let n = s.len;
+    let constant = s.constant;
+    let Inserted::Length(len) = insert(entries, n, key, value) else {
+        return Walk::Refused(11);
+    };
+    Walk::Done(LinearComb { len, constant }, visits)
+}
+
+// Adds coeff times the term of record `id`. One call is one visit, counted before it is made.
+pub fn add_term(
+    book: &[u8],
+    entries: &mut [u8],
+    id: usize,
+    coeff: Number,
+    s: LinearComb,
+    visits: u32,
+    limit: u32,
+) -> Walk
+    requires { ⌜ WalkPre (now book) (now entries) id coeff s ⌝ }
+    ensures { λ r. ⌜ Walks (now (book .entry)) (now (entries .exit)) r
+        (addTerm (tree (now (book .entry)) id) (limited limit) coeff (walked (combOf (now (book .entry)) (now (entries .entry)) s) visits)) ⌝ }
+{
+    let n = s.len;
+    if limit <= visits {
+        clear(entries, n);
+        return Walk::Refused(10);
+    }
+    let seen = visits + 1;
+    match look(book, id, coeff) {
+        Node::Args(first, others) => add_args(
+            book,
+            entries,
+            args(book, id),
+            id,
+            first,
+            others,
+            s,
+            seen,
+            limit,
+        ),
+        Node::Factor(x, c) => add_term(book, entries, x, c, s, seen, limit),
+        Node::Constant(q) => add_constant(entries, s, seen, q),
+        Node::Atom => add_entry(entries, s, seen, id, coeff),
+        Node::OutOfRange => {
+            clear(entries, n);
+            Walk::Refused(11)
+        }
+    }
+}
+
+// The arguments of record `id`, from the part of the record that holds them.
+fn add_args(
+    book: &[u8],
+    entries: &mut [u8],
+    args: &[u8],
+    id: usize,
+    first: Number,
+    others: Number,
+    s: LinearComb,
+    visits: u32,
+    limit: u32,
+) -> Walk
+    requires { ⌜ ArgsPre (now book) (now entries) (now args) id first others s ⌝ }
+    ensures { λ r. ⌜ Walks (now (book .entry)) (now (entries .exit)) r
+        (addEach (forest (tree (now (book .entry))) (arguments id (numbers (now (args .entry))))) (limited limit) first others
+        (walked (combOf (now (book .entry)) (now (entries .entry)) s) visits)) ⌝ }
+{
+    let n = args.len() / 2;
+    let mut sum = s;
+    let mut seen = visits;
+    let mut coeff = first;
+    let mut k = 0;
+    while k < n {
+        let x = argument(args, k, id);
+        match add_term(book, entries, x, coeff, sum, seen, limit) {
+            Walk::Done(t, v) => {
+                sum = t;
+                seen = v;
+            }
+            Walk::Refused(c) => {
+                return Walk::Refused(c);
+            }
+        }
+        coeff = others;
+        k += 1;
+    }
+    Walk::Done(sum, seen)
+}
