@@ -5,6 +5,8 @@ pub mod LinearComb
 pub mod LinearArithmetic
 pub mod WorkArea
 pub mod LinearNodes
+pub mod LinearSteps
+pub mod LinearShapes
 pub mod Polynomial
 pub mod Premises
 pub mod Alethe

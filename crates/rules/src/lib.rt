@@ -1,3 +1,7 @@
 // Layer 2: the rules, on one step.
+pub mod disequality;
 pub mod index_map;
+pub mod linear_arithmetic;
 pub mod linear_comb;
+pub mod linear_shapes;
+pub mod work_area;

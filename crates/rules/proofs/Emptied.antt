@@ -1,0 +1,63 @@
+-- At the end of a rule the work area is what it was: the area that was used was empty (`Ready`), and is emptied.
+--     ready-between, ready-folding       what a rule finds
+--     emptied, cleared       what it leaves
+use mathlib.Core.Path.{_≡_, sym, ap, _∙_}
+use mathlib.Core.List.{[]}
+use Prim.Native.Nat.{ℕ, _<_}
+use native.Mathlib.Omega.{arith}
+use lib.ListN.{length}
+use Rattle.terms.specs.Rational.{Proper}
+use Rattle.terms.specs.Bytes.{Bytes}
+use Rattle.terms.specs.Term.{Term}
+use Rattle.rules.specs.IndexMap.{Map}
+use Rattle.rules.specs.WorkArea.{slots, stored, areaOf, withArea, OnlyArea, Area, Held, Ready, blanked}
+use Rattle.rules.specs.LinearSteps.{Between, Folding}
+use Rattle.rules.specs.declared.linear_arithmetic.Progress as by-value
+use Rattle.rules.proofs.StoredEntries.{clear-all}
+use Rattle.rules.proofs.Areas.{stored-length, with-same, with-with, empty-held, ready-area}
+
+module _ {b w₀ : Bytes} (ready : Ready b w₀) where
+  pub ready-between : Between b w₀
+  ready-between =
+      record {
+        laid = ready .sorts .laid;
+        sorts = ready .sorts;
+        size = ready .size;
+        left = ready-area ready 1 (omega arith);
+        right = ready-area ready 2 (omega arith);
+      }
+
+  -- with the empty sum
+  pub ready-folding : (p : by-value.Progress) → p .acc .len ≡ 0 → Proper (p .acc .constant) → Folding b w₀ p
+  ready-folding p none proper =
+      record {
+        between = ready-between;
+        acc =
+            record {
+              kept = record { map = []; held = empty-held (ready-area ready 0 (omega arith)); size = none };
+              proper = proper;
+            };
+      }
+
+  module _ {j : ℕ} (among : j < 3) where
+    area : Area j w₀
+    area = record { size = ready .size; among = among }
+
+    -- no byte outside the area has changed, and nothing is left in it
+    pub emptied : {w : Bytes} → OnlyArea j w₀ w → areaOf j w ≡ stored slots [] → w ≡ w₀
+    emptied {w} only empty =
+        only
+        ∙ ap (λ x. withArea j x w₀) (empty ∙ sym (ready-area ready j among))
+        ∙ with-same area
+
+    -- what is left in it is cleared
+    pub cleared :
+        {w w′ : Bytes} {m : Map Term} → OnlyArea j w₀ w → Held b (areaOf j w) m → (n : ℕ) → n ≡ length m →
+        w′ ≡ withArea j (blanked n (areaOf j w)) w → w′ ≡ w₀
+    cleared {w} {w′} {m} only held n size e =
+        e
+        ∙ ap (λ x. withArea j x w) (ap (λ z. blanked z (areaOf j w)) size ∙ clear-all m held .bytes)
+        ∙ ap (withArea j (stored slots [])) only
+        ∙ with-with area (areaOf j w) (ap length (held .bytes) ∙ stored-length m) (stored slots [])
+        ∙ ap (λ x. withArea j x w₀) (sym (ready-area ready j among))
+        ∙ with-same area

@@ -1,0 +1,226 @@
+-- The loop of `insert_all`: with the first k of m entries inserted, what is left to insert makes what inserting them
+-- all makes (`Inserting`). The bytes of the area that is read stay as they were, since the other area is apart from it.
+use mathlib.Core.Path.{_≡_, refl, sym, _∙_, ap}
+use mathlib.Core.Bool.{Bool, true, false}
+use mathlib.Core.Logic.{_≢_}
+use mathlib.Core.List.{[], _∷_}
+use Prim.Native.Nat.{ℕ, _+_, _*_, _-_, _≤_, _<_}
+use native.Mathlib.Omega.{arith}
+use lib.ListN.{length, drop}
+use Rattle.terms.specs.Rational.{Rational}
+use Rattle.terms.specs.Bytes.{Bytes, le, numberAt}
+use Rattle.terms.specs.Term.{Term, recordNumber}
+use Rattle.terms.specs.Book.{count, tree}
+use Rattle.rules.specs.Refusal.{Result, _>>=_}
+use Rattle.rules.specs.Refusal.Result.{ok}
+use Rattle.rules.specs.Limits.{limited}
+use Rattle.rules.specs.IndexMap.{Map, negAll, insert, insertAll}
+use Rattle.rules.specs.LinearComb.{terms}
+use Rattle.rules.specs.WorkArea.{entriesOf, areaOf, OnlyArea, Area, Apart, signedAll, signedQ}
+use Rattle.rules.specs.WorkArea.{Grown, Held, Kept, Inserts}
+use Rattle.rules.specs.declared.index_map.Inserted.{Inserted}
+use Rattle.rules.specs.declared.index_map.Inserted.the-variants.{Length, OutOfRange}
+use Rattle.rules.proofs.StoredEntries.{kept-entries, held-entries}
+use Rattle.rules.proofs.Areas.{area-length, area-other, only-then, only-none}
+use Rattle.rules.proofs.EntryPlaces.{kept-at, all-behind}
+
+-- ---- one entry, then the rest
+
+-- the area x has len entries, and inserting the rest into them makes d
+pub record Left (b x : Bytes) (len l : ℕ) (rest : Map Term) (d : Result (Map Term)) : Type 0 where
+  pub map : Map Term
+  pub held : Held b x map
+  pub size : len ≡ length map
+  pub is : insertAll terms (limited l) map rest ≡ d
+
+-- one insertion answers r, and inserting the rest into what it makes is d
+pub record Turn (b x : Bytes) (r : Inserted) (l : ℕ) (rest : Map Term) (d : Result (Map Term)) : Type 0 where
+  pub first : Result (Map Term)
+  pub made : Inserts b x r first
+  pub then : (first >>= λ m. insertAll terms (limited l) m rest) ≡ d
+
+turn-more :
+    {b x : Bytes} {n l : ℕ} {rest : Map Term} {d : Result (Map Term)} → Turn b x (Length n) l rest d →
+    Left b x n l rest d
+unfolding _>>=_
+turn-more t =
+    record {
+      map = t .made .map;
+      held = t .made .held;
+      size = t .made .is .1;
+      is = rw (t .made .is .0) at (t .then);
+    }
+
+turn-refused :
+    {b x : Bytes} {l : ℕ} {rest : Map Term} {d : Result (Map Term)} → Turn b x OutOfRange l rest d →
+    Inserts b x OutOfRange d
+unfolding _>>=_
+turn-refused t =
+    record {
+      map = t .made .map;
+      held = t .made .held;
+      is = (sym (t .then) ∙ rw (t .made .is .0), t .made .is .1);
+    }
+
+insert-first :
+    (t : Bool) (l : ℕ) (m : Map Term) (e : Term × Rational) (s : Map Term) →
+    (insert terms (limited l) m (e .0) (signedQ t (e .1)) >>= λ m′. insertAll terms (limited l) m′ (signedAll t s))
+    ≡ insertAll terms (limited l) m (signedAll t (e ∷ s))
+unfolding insertAll negAll
+insert-first true l m e s = refl
+insert-first false l m e s = refl
+
+insert-none : (t : Bool) (l : ℕ) (m : Map Term) → insertAll terms (limited l) m (signedAll t []) ≡ ok m
+unfolding insertAll negAll
+insert-none true l m = refl
+insert-none false l m = refl
+
+-- nothing is left
+all-left :
+    {b x : Bytes} {len l : ℕ} (turned : Bool) (rest : Map Term) {d : Result (Map Term)} →
+    Left b x len l (signedAll turned rest) d → rest ≡ [] → Inserts b x (Length len) d
+all-left {l = l} turned rest t none =
+    record {
+      map = t .map;
+      held = t .held;
+      is = (
+        sym (t .is) ∙ ap (λ z. insertAll terms (limited l) (t .map) (signedAll turned z)) none
+            ∙ insert-none turned l (t .map),
+        t .size,
+      );
+    }
+
+-- ---- the invariant
+
+-- of all m entries
+abbrev pub Whole : Bytes → ℕ → ℕ → ℕ → ℕ → Bool → Bytes → ℕ → Result (Map Term)
+Whole w₀ to n from m turned b l =
+    insertAll terms (limited l) (entriesOf b (areaOf to w₀) n) (signedAll turned (entriesOf b (areaOf from w₀) m))
+
+-- what the answer r says, with the bytes w that are left
+abbrev pub InsertedAll : Bytes → ℕ → ℕ → ℕ → ℕ → Bool → Bytes → Inserted → Type 0
+InsertedAll w₀ to n from m turned w r =
+    (Grown 4095 r × OnlyArea to w₀ w)
+    × ((b : Bytes) → Kept b (areaOf to w₀) n → Kept b (areaOf from w₀) m → (l : ℕ) →
+    Inserts b (areaOf to w) r (Whole w₀ to n from m turned b l))
+
+pub record Inserting (w₀ : Bytes) (to n from m : ℕ) (turned : Bool) (w : Bytes) (len k : ℕ) : Type 0 where
+  pub apart : Apart to from w₀
+  pub inside : k ≤ m
+  pub few : len + (m - k) ≤ 4096
+  pub size : length w ≡ length w₀
+  pub only : OnlyArea to w₀ w
+  pub left :
+      (b : Bytes) → Kept b (areaOf to w₀) n → Kept b (areaOf from w₀) m → (l : ℕ) →
+      Left b (areaOf to w) len l (signedAll turned (drop k (entriesOf b (areaOf from w₀) m)))
+      (Whole w₀ to n from m turned b l)
+
+pub inserting-none :
+    {w₀ : Bytes} {to n from m : ℕ} {turned : Bool} → Apart to from w₀ → n ≤ 2048 → m ≤ 2048 →
+    Inserting w₀ to n from m turned w₀ n 0
+inserting-none apart few few′ =
+    record {
+      apart = apart;
+      inside = omega arith;
+      few = omega arith;
+      size = refl;
+      only = only-none (apart .first);
+      left =
+          λ b kept kept′ l.
+          record {
+            map = kept .map;
+            held = kept .held;
+            size = kept .size;
+            is = rw (kept-entries kept);
+          };
+    }
+
+module _
+    {w₀ : Bytes}
+    {to n from m : ℕ}
+    {turned : Bool}
+    {w : Bytes}
+    {len k : ℕ}
+    (i : Inserting w₀ to n from m turned w len k) where
+  right-size : length w ≡ 65536
+  right-size = i .size ∙ i .apart .first .size
+
+  pub area-to : Area to w
+  area-to = record { size = right-size; among = i .apart .first .among }
+
+  pub area-from : Area from w
+  area-from = record { size = right-size; among = i .apart .second .among }
+
+  from-same : areaOf from w ≡ areaOf from w₀
+  from-same =
+      let other : from ≢ to = λ e. i .apart .apart (sym e) in
+      ap (areaOf from) (i .only)
+      ∙ area-other (i .apart .first) (areaOf to w) (area-length area-to) (i .apart .second .among) other
+
+  -- the key of entry k is read from x and its value from y; inserting them answers r and leaves the bytes w′
+  module _
+      (h : k < m)
+      (x : Bytes)
+      (is-x : x ≡ areaOf from w)
+      (key : ℕ)
+      (is-key : key ≡ le 2 x (10 * k))
+      (y : Bytes)
+      (is-y : y ≡ areaOf from w)
+      (v₀ : Rational)
+      (is-v₀ : v₀ ≡ numberAt y (10 * k + 2))
+      (v : Rational)
+      (is-v : v ≡ signedQ turned v₀)
+      (w′ : Bytes)
+      (size : length w′ ≡ length w)
+      (r : Inserted)
+      (grown : Grown len r × OnlyArea to w w′)
+      (made :
+      (b : Bytes) → Kept b (areaOf to w) len → key < count b → (l : ℕ) →
+      Inserts b (areaOf to w′) r (insert terms (limited l) (entriesOf b (areaOf to w) len) (tree b key) v)) where
+    turn :
+        (b : Bytes) → Kept b (areaOf to w₀) n → Kept b (areaOf from w₀) m → (l : ℕ) →
+        Turn b (areaOf to w′) r l (signedAll turned (drop (k + 1) (entriesOf b (areaOf from w₀) m)))
+        (Whole w₀ to n from m turned b l)
+    turn b kept kept′ l =
+        let left = i .left b kept kept′ l in
+        let at = kept-at kept′ k h in
+        let key-is : key ≡ recordNumber (at .entry .0) =
+        is-key ∙ ap (λ z. le 2 z (10 * k)) (is-x ∙ from-same) ∙ at .key in
+        let term : tree b key ≡ at .entry .0 = ap (tree b) key-is ∙ sym (at .term) in
+        let value : v₀ ≡ at .entry .1 = is-v₀ ∙ ap (λ z. numberAt z (10 * k + 2)) (is-y ∙ from-same) ∙ at .value in
+        let value-is : v ≡ signedQ turned (at .entry .1) = is-v ∙ ap (signedQ turned) value in
+        let entries : entriesOf b (areaOf to w) len ≡ left .map =
+        ap (entriesOf b (areaOf to w)) (left .size) ∙ held-entries (left .held) in
+        let now-kept : Kept b (areaOf to w) len = record { map = left .map; held = left .held; size = left .size } in
+        record {
+          first = _;
+          made = rw (entries, term, value-is) at (made b now-kept (rw key-is (at .inside)) l);
+          then =
+              insert-first turned l (left .map) (at .entry) _
+              ∙ ap (λ z. insertAll terms (limited l) (left .map) (signedAll turned z)) (sym (at .here))
+              ∙ left .is;
+        }
+
+    only-all : OnlyArea to w₀ w′
+    only-all = only-then (i .apart .first) right-size (i .only) (grown .1)
+
+    pub inserting-refused : r ≡ OutOfRange → InsertedAll w₀ to n from m turned w′ OutOfRange
+    inserting-refused e = ((tt, only-all), λ b kept kept′ l. turn-refused (rw e at (turn b kept kept′ l)))
+
+    pub inserting-more : (longer : ℕ) → r ≡ Length longer → Inserting w₀ to n from m turned w′ longer (k + 1)
+    inserting-more longer e =
+        let one : longer ≤ len + 1 = rw e at (grown .0) in
+        let few = i .few in
+        record {
+          apart = i .apart;
+          inside = omega arith;
+          few = omega arith;
+          size = size ∙ i .size;
+          only = only-all;
+          left = λ b kept kept′ l. turn-more (rw e at (turn b kept kept′ l));
+        }
+
+  pub inserting-done : m ≤ k → InsertedAll w₀ to n from m turned w (Length len)
+  inserting-done h =
+      let few = i .few in
+      ((omega arith, i .only), λ b kept kept′ l. all-left turned _ (i .left b kept kept′ l) (all-behind kept′ h))

@@ -1,0 +1,33 @@
+-- By the definition's two tests.
+use borrow.Author.Needs.{needs}
+use Rattle.rules.proofs.StrengthenAnswers.{times-zero, times-one, times-other}
+use Rattle.rules.proofs.disequality.is_integer_times.Statement.{statement}
+use Rattle.rules.proofs.disequality.is_integer_times.Tie as tie
+
+returns : tie.Need-returns
+returns c = times-zero _ _ (c .before .is-zero .ensures) (search needs)
+
+returns-2 : tie.Need-returns-2
+returns-2 c =
+    let test = c .before .before in
+    times-one _ _ (test .before .before .before .is-zero .ensures) (search needs) (test .before .whole .ensures)
+    (test .eq .ensures) (search needs) (c .is-integer .ensures)
+
+returns-3 : tie.Need-returns-3
+returns-3 c =
+    let test = c .before .before in
+    times-other _ _ (test .before .before .before .is-zero .ensures) (search needs) (test .before .whole .ensures)
+    (test .eq .ensures) (search needs) (c .is-integer-product .ensures)
+
+pub is-integer-times-spec : {M : Type 1} → statement M
+is-integer-times-spec =
+    tie.close
+    (tie.spec
+    (λ c κs. search needs)
+    returns
+    (λ c κs. search needs)
+    (λ c κs. search needs)
+    (λ c κs. search needs)
+    returns-2
+    (λ c κs. search needs)
+    returns-3)

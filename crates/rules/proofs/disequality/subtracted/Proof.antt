@@ -1,0 +1,83 @@
+-- `subtracted` leaves the difference of areas 1 and 2 in area 1, empties area 2 and turns the operator.
+use mathlib.Core.Path.{_∙_}
+use native.Mathlib.Omega.{arith}
+use borrow.Author.Needs.{needs}
+use Rattle.rules.proofs.disequality.subtracted.Statement.{statement}
+use Rattle.rules.proofs.disequality.subtracted.Tie as tie
+use Rattle.rules.proofs.StoredEntries.{kept-small}
+use Rattle.rules.proofs.SidesAreas.{in-left, in-right, answer-kept, out-of-range, subtracted-left}
+
+sub-requires : tie.Need-sub-requires
+sub-requires c κs =
+    let z = c .before .before in
+    let kept = z .pre .1 .1 in
+    (z .pre .0, ((kept-small (kept .0 .kept), kept-small (kept .1 .kept)), (kept .0 .proper, kept .1 .proper)))
+
+clear-in-requires : tie.Need-clear-in-requires
+clear-in-requires c κs =
+    let z = c .before .before .before .before .before .before in
+    let few = kept-small (z .pre .1 .1 .1 .kept) in
+    (in-right (in-left _ (c .before .before .before .sub .kept .0 ∙ z .pre .0 .first .size)), omega arith)
+
+returns : tie.Need-returns
+returns c b left right l =
+    let cleared = c .before .before .before .before in
+    let taken = cleared .before .before .before .before in
+    let a = taken .before .before .before .pre .0 .first in
+    let m = taken .sub in
+    let a₁ = in-left (m .last .0) (m .kept .0 ∙ a .size) in
+    let k = cleared .clear-in in
+    out-of-range a left right a₁ (m .ensures .0) (in-left (k .last .0) (k .kept .0 ∙ a₁ .size)) (k .ensures) _ _ _
+    (rw (c .enum-told .given .1) at (m .ensures .1 b left right l))
+
+neg-requires : tie.Need-neg-requires
+neg-requires c κs =
+    let taken = c .before .before .before .before .before .before .before .before .before .before in
+    let kept = taken .before .before .before .pre .1 in
+    let sum = taken .sub .ensures .1 (kept .0) (kept .1 .0) (kept .1 .1) 0 in
+    (rw (c .before .before .answer .given .1) at sum) .is .1 .1
+
+turned-requires : tie.Need-turned-requires
+turned-requires c κs =
+    let cleared = c .before .before .before .before .before .before .before .before in
+    let taken = cleared .before .before .before .before in
+    let z = taken .before .before .before in
+    let kept = z .pre .1 in
+    let m = taken .sub in
+    let known = c .before .before .before .before .answer .given .1 in
+    let sum = rw known at (m .ensures .1 (kept .0) (kept .1 .0) (kept .1 .1) 0) in
+    let few = kept-small (answer-kept (sum .held) (sum .is .1) .kept) in (
+      in-left _ (cleared .clear-in .kept .0 ∙ m .kept .0 ∙ z .pre .0 .first .size),
+      (omega arith, c .before .neg .ensures .proper),
+    )
+
+returns-2 : tie.Need-returns-2
+returns-2 c b left right l =
+    let negated = c .before .before .before .before in
+    let known = negated .before .before .before in
+    let cleared = known .before .before .before .before in
+    let taken = cleared .before .before .before .before in
+    let a = taken .before .before .before .pre .0 .first in
+    let m = taken .sub in
+    let a₁ = in-left (m .last .0) (m .kept .0 ∙ a .size) in
+    let k = cleared .clear-in in
+    let a₂ = in-left (k .last .0) (k .kept .0 ∙ a₁ .size) in
+    let n = c .before .before .turned in
+    subtracted-left a left right a₁ (m .ensures .0) a₂ (k .ensures) _ _ _
+    (rw (known .answer .given .1) at (m .ensures .1 b left right l)) (negated .neg .ensures)
+    (in-left (n .last .0) (n .kept .0 ∙ a₂ .size)) (n .ensures b)
+
+pub subtracted-spec : {M : Type 1} → statement M
+subtracted-spec =
+    tie.close
+    (tie.spec
+    sub-requires
+    clear-in-requires
+    (λ c. search needs)
+    (λ c. search needs)
+    (λ c. search needs)
+    returns
+    neg-requires
+    turned-requires
+    (λ c. search needs)
+    returns-2)

@@ -1,0 +1,74 @@
+-- The loop's invariant is `Inserting` of InsertLoops: what is left to insert makes the whole. The measure is how many
+-- entries are left.
+use mathlib.Core.Path.{_∙_}
+use Prim.Native.Nat.{_-_}
+use native.Mathlib.Omega.{arith}
+use borrow.Author.Needs.{needs}
+use Rattle.rules.proofs.InsertLoops.{Inserting, area-to, area-from}
+use Rattle.rules.proofs.InsertLoops.{inserting-none, inserting-refused, inserting-more, inserting-done}
+use Rattle.rules.proofs.work_area.insert_all.Statement.{statement}
+use Rattle.rules.proofs.work_area.insert_all.Tie as tie
+
+abbrev Inv-loop : tie.InvT-loop
+Inv-loop work₀ to n from m turned len₀ k₀ work len k = Inserting work₀ to n from m turned work len k
+
+abbrev μ-loop : tie.MeasureT-loop
+μ-loop work₀ to n from m turned len₀ k₀ work len k = m - k
+
+insert-in-requires : tie.Need-insert-in-requires Inv-loop μ-loop
+insert-in-requires c κs =
+    let read = c .before .before .before .before .before in
+    let inv = read .before .before .before .before .loop .inv in
+    let few = inv .few in
+    (area-to inv, (omega arith, (read .key-at .ensures .1, c .before .signed .ensures .proper)))
+
+same-length : tie.Need-same-length Inv-loop μ-loop
+same-length c =
+    let put = c .before .before .before .before in
+    let read = put .before .before .before .before .before .before in
+    put .insert-in .kept .0 ∙ read .before .before .before .before .loop .inv .size
+
+returns : tie.Need-returns Inv-loop μ-loop
+returns c =
+    let put = c .before .before .before .before in
+    let read = put .before .before .before .before .before .before in
+    let inside = read .before .before .before in
+    inserting-refused (inside .before .loop .inv) (inside .loop-test .taken)
+    _ (read .before .area .ensures) _ (read .key-at .ensures .0)
+    _ (put .before .before .before .before .area2 .ensures) _ (put .before .before .before .value-at .ensures .is)
+    _ (put .before .before .signed .ensures .is) _ (put .insert-in .kept .0) _ (put .insert-in .ensures .0)
+    (put .insert-in .ensures .1) (c .enum-told .given .1)
+
+loop-again : tie.Need-loop-again Inv-loop μ-loop
+loop-again c =
+    let put = c .before .before .before .before .before in
+    let read = put .before .before .before .before .before .before in
+    let inside = read .before .before .before in
+    inserting-more (inside .before .loop .inv) (inside .loop-test .taken)
+    _ (read .before .area .ensures) _ (read .key-at .ensures .0)
+    _ (put .before .before .before .before .area2 .ensures) _ (put .before .before .before .value-at .ensures .is)
+    _ (put .before .before .signed .ensures .is) _ (put .insert-in .kept .0) _ (put .insert-in .ensures .0)
+    (put .insert-in .ensures .1) _ (c .before .longer .given .1)
+
+pub insert-all-spec : {M : Type 1} → statement M
+insert-all-spec =
+    tie.close
+    (tie.spec
+    Inv-loop
+    μ-loop
+    (λ c. inserting-none (c .before .pre .0) (c .before .pre .1 .0) (c .before .pre .1 .1))
+    (λ c κs. area-from (c .before .before .loop .inv))
+    (λ c κs. search needs)
+    (λ c κs. area-from (c .before .before .before .before .before .loop .inv))
+    (λ c κs. search needs)
+    (λ c κs. c .value-at .ensures .proper)
+    insert-in-requires
+    (λ c. search needs)
+    (λ c. search needs)
+    same-length
+    returns
+    (λ c. search needs)
+    (λ c. search needs)
+    loop-again
+    (λ c. c .before .loop .inv .size)
+    (λ c. inserting-done (c .before .loop .inv) (c .loop-test .left)))

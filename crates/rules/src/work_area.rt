@@ -1,0 +1,237 @@
+// Combinations in the three areas of the work area: 0 the accumulated one, 1 and 2 a literal's two sides. The areas lie apart,
+// and each function changes the bytes of one area alone. A refusal leaves that area empty.
+ghost use mathlib.Core.Path.{_≡_};
+ghost use mathlib.Core.List.{[]};
+ghost use Prim.Native.Nat.{ℕ, _≤_, _<_};
+ghost use lib.ListN.{length, replicate};
+ghost use Rattle.terms.specs.Rational.{Makes, Proper};
+ghost use Rattle.terms.specs.Bytes.{Bytes};
+ghost use Rattle.terms.specs.Book.{count, tree, SortsBelow, BookDone};
+ghost use Rattle.rules.specs.Limits.{limited};
+ghost use Rattle.rules.specs.IndexMap.{insert, insertAll, add, sub, negAll};
+ghost use Rattle.rules.specs.LinearComb.{terms, mul, fromTerm};
+ghost use Rattle.rules.specs.LinearArithmetic.{allInt};
+ghost use Rattle.rules.specs.WorkArea.{Area, Apart, areaOf, withArea, OnlyArea, entriesOf, combOf, blanked, Kept, KeptSum};
+ghost use Rattle.rules.specs.WorkArea.{signedAll, signedQ, signedComb, negated, Grown, Held, Inserts, Sums, Walks, Laid};
+use crate::index_map::Inserted;
+use crate::index_map::clear;
+use crate::index_map::insert;
+use crate::index_map::key_at;
+use crate::index_map::value_at;
+use crate::linear_comb::LinearComb;
+use crate::linear_comb::Summed;
+use crate::linear_comb::Walk;
+use crate::linear_comb::add_term;
+use crate::linear_comb::mul;
+use crate::linear_comb::neg;
+use terms::book::BookRead;
+use terms::book::byte;
+use terms::book::read_book;
+use terms::number::Checked;
+use terms::number::Number;
+
+// ---- before the first step
+
+// Fills the work area with zeros.
+fn clear_all(work: &mut [u8])
+    ensures { λ _. ⌜ now (work .exit) ≡ replicate (length (now (work .entry))) 0 ⌝ }
+{
+    let mut k = 0;
+    while k < work.len() {
+        work[k] = 0;
+        k += 1;
+    }
+}
+
+// Reads a book: the work area then holds the sorts of its records, and is 0 elsewhere.
+pub fn prepare(book: &[u8], work: &mut [u8]) -> BookRead
+    requires { ⌜ 2048 ≤ length (now work) ⌝ }
+    ensures { λ r. ⌜ BookDone (now (book .entry)) (replicate (length (now (work .entry))) 0) (now (work .exit)) r ⌝ }
+{
+    clear_all(work);
+    read_book(book, work)
+}
+
+// ---- the parts of the work area
+
+// Area j.
+pub fn area(work: &[u8], j: usize) -> &[u8]
+    requires { ⌜ Area j (now work) ⌝ }
+    ensures { λ r. ⌜ now r ≡ areaOf j (now (work .entry)) ⌝ }
+{
+    let start = 2048 + 20480 * j;
+    let end = start + 20480;
+    &work[start..end]
+}
+
+// Empties area j of n entries.
+pub fn clear_in(work: &mut [u8], j: usize, n: usize)
+    requires { ⌜ Area j (now work) × (n ≤ 4096) ⌝ }
+    ensures { λ _. ⌜ now (work .exit) ≡ withArea j (blanked n (areaOf j (now (work .entry)))) (now (work .entry)) ⌝ }
+{
+    let start = 2048 + 20480 * j;
+    let end = start + 20480;
+    clear(&mut work[start..end], n);
+}
+
+fn insert_in(work: &mut [u8], j: usize, n: usize, key: usize, value: Number) -> Inserted
+    requires { ⌜ Area j (now work) × ((n ≤ 4096) × ((key < 65536) × Proper value)) ⌝ }
+    ensures { λ r. ⌜ Grown n r × OnlyArea j (now (work .entry)) (now (work .exit)) ⌝ }
+    ensures { λ r. ⌜ ((b : Bytes) → Kept b (areaOf j (now (work .entry))) n → key < count b → (l : ℕ) →
+        Inserts b (areaOf j (now (work .exit))) r
+        (insert terms (limited l) (entriesOf b (areaOf j (now (work .entry))) n) (tree b key) value)) ⌝ }
+{
+    let start = 2048 + 20480 * j;
+    let end = start + 20480;
+    insert(&mut work[start..end], n, key, value)
+}
+
+pub fn neg_in(work: &mut [u8], j: usize, s: LinearComb) -> LinearComb
+    requires { ⌜ Area j (now work) × ((s .len ≤ 4096) × Proper (s .constant)) ⌝ }
+    ensures { λ r. ⌜ (r ≡ negated s) × OnlyArea j (now (work .entry)) (now (work .exit)) ⌝ }
+    ensures { λ r. ⌜ ((b : Bytes) → KeptSum b (areaOf j (now (work .entry))) s →
+        Held b (areaOf j (now (work .exit))) (negAll (entriesOf b (areaOf j (now (work .entry))) (s .len)))) ⌝ }
+{
+    let start = 2048 + 20480 * j;
+    let end = start + 20480;
+    neg(&mut work[start..end], s)
+}
+
+pub fn mul_in(work: &mut [u8], j: usize, s: LinearComb, q: Number) -> Summed
+    requires { ⌜ Area j (now work) × ((s .len ≤ 4096) × (Proper (s .constant) × Proper q)) ⌝ }
+    ensures { λ r. ⌜ OnlyArea j (now (work .entry)) (now (work .exit)) ⌝ }
+    ensures { λ r. ⌜ ((b : Bytes) → KeptSum b (areaOf j (now (work .entry))) s → (l : ℕ) →
+        Sums b (areaOf j (now (work .exit))) r (mul (limited l) (combOf b (areaOf j (now (work .entry))) s) q)) ⌝ }
+{
+    let start = 2048 + 20480 * j;
+    let end = start + 20480;
+    mul(&mut work[start..end], s, q)
+}
+
+// The combination that a term is, in area j, which is empty before; `visits` were made before.
+pub fn from_term(book: &[u8], work: &mut [u8], j: usize, id: usize, visits: u32, limit: u32) -> Walk
+    requires { ⌜ Area j (now work) × (Laid (now book) × ((id < count (now book)) × Held (now book) (areaOf j (now work)) [])) ⌝ }
+    ensures { λ r. ⌜ OnlyArea j (now (work .entry)) (now (work .exit)) ⌝ }
+    ensures { λ r. ⌜ Walks (now (book .entry)) (areaOf j (now (work .exit))) r
+        (fromTerm (limited limit) (tree (now (book .entry)) id) visits) ⌝ }
+{
+    let start = 2048 + 20480 * j;
+    let end = start + 20480;
+    let none = LinearComb {
+        len: 0,
+        constant: Number::whole(0),
+    };
+    add_term(
+        book,
+        &mut work[start..end],
+        id,
+        Number::whole(1),
+        none,
+        visits,
+        limit,
+    )
+}
+
+// ---- two areas
+
+// A number with the sign turned, or as it is.
+fn signed(turned: bool, q: Number) -> Number
+    requires { ⌜ Proper q ⌝ }
+    ensures { λ r. ⌜ Makes r (signedQ turned q) ⌝ }
+{
+    if turned { q.neg() } else { q }
+}
+
+// Inserts the m entries of area `from` into the n of area `to`, one by one, with the sign turned or as they are. There are 4096 at
+// most in the end.
+fn insert_all(work: &mut [u8], to: usize, n: usize, from: usize, m: usize, turned: bool) -> Inserted
+    requires { ⌜ Apart to from (now work) × ((n ≤ 2048) × (m ≤ 2048)) ⌝ }
+    ensures { λ r. ⌜ Grown 4095 r × OnlyArea to (now (work .entry)) (now (work .exit)) ⌝ }
+    ensures { λ r. ⌜ ((b : Bytes) → Kept b (areaOf to (now (work .entry))) n → Kept b (areaOf from (now (work .entry))) m → (l : ℕ) →
+        Inserts b (areaOf to (now (work .exit))) r
+        (insertAll terms (limited l) (entriesOf b (areaOf to (now (work .entry))) n)
+        (signedAll turned (entriesOf b (areaOf from (now (work .entry))) m)))) ⌝ }
+{
+    let mut len = n;
+    let mut k = 0;
+    while k < m {
+        let key = key_at(area(work, from), k);
+        let value = signed(turned, value_at(area(work, from), k));
+        let Inserted::Length(longer) = insert_in(work, to, len, key, value) else {
+            return Inserted::OutOfRange;
+        };
+        len = longer;
+        k += 1;
+    }
+    Inserted::Length(len)
+}
+
+// Adds combination b of area `from`, with the sign turned or as it is, to a of area `to`.
+fn add_signed(
+    work: &mut [u8],
+    to: usize,
+    a: LinearComb,
+    from: usize,
+    b: LinearComb,
+    turned: bool,
+) -> Summed
+    requires { ⌜ Apart to from (now work) × (((a .len ≤ 2048) × (b .len ≤ 2048)) × (Proper (a .constant) × Proper (b .constant))) ⌝ }
+    ensures { λ r. ⌜ OnlyArea to (now (work .entry)) (now (work .exit)) ⌝ }
+    ensures { λ r. ⌜ ((bk : Bytes) → KeptSum bk (areaOf to (now (work .entry))) a → KeptSum bk (areaOf from (now (work .entry))) b → (l : ℕ) →
+        Sums bk (areaOf to (now (work .exit))) r
+        (add terms (limited l) (combOf bk (areaOf to (now (work .entry))) a)
+        (signedComb turned (combOf bk (areaOf from (now (work .entry))) b)))) ⌝ }
+{
+    let n = a.len;
+    let m = b.len;
+    let c = a.constant;
+    let d = b.constant;
+    let Inserted::Length(len) = insert_all(work, to, n, from, m, turned) else {
+        return Summed::OutOfRange;
+    };
+    let Checked::Value(constant) = c.add(signed(turned, d)) else {
+        clear_in(work, to, len);
+        return Summed::OutOfRange;
+    };
+    Summed::Sum(LinearComb { len, constant })
+}
+
+pub fn add(work: &mut [u8], to: usize, a: LinearComb, from: usize, b: LinearComb) -> Summed
+    requires { ⌜ Apart to from (now work) × (((a .len ≤ 2048) × (b .len ≤ 2048)) × (Proper (a .constant) × Proper (b .constant))) ⌝ }
+    ensures { λ r. ⌜ OnlyArea to (now (work .entry)) (now (work .exit)) ⌝ }
+    ensures { λ r. ⌜ ((bk : Bytes) → KeptSum bk (areaOf to (now (work .entry))) a → KeptSum bk (areaOf from (now (work .entry))) b → (l : ℕ) →
+        Sums bk (areaOf to (now (work .exit))) r
+        (add terms (limited l) (combOf bk (areaOf to (now (work .entry))) a) (combOf bk (areaOf from (now (work .entry))) b))) ⌝ }
+{
+    add_signed(work, to, a, from, b, false)
+}
+
+pub fn sub(work: &mut [u8], to: usize, a: LinearComb, from: usize, b: LinearComb) -> Summed
+    requires { ⌜ Apart to from (now work) × (((a .len ≤ 2048) × (b .len ≤ 2048)) × (Proper (a .constant) × Proper (b .constant))) ⌝ }
+    ensures { λ r. ⌜ OnlyArea to (now (work .entry)) (now (work .exit)) ⌝ }
+    ensures { λ r. ⌜ ((bk : Bytes) → KeptSum bk (areaOf to (now (work .entry))) a → KeptSum bk (areaOf from (now (work .entry))) b → (l : ℕ) →
+        Sums bk (areaOf to (now (work .exit))) r
+        (sub terms (limited l) (combOf bk (areaOf to (now (work .entry))) a) (combOf bk (areaOf from (now (work .entry))) b))) ⌝ }
+{
+    add_signed(work, to, a, from, b, true)
+}
+
+// ---- reading
+
+// Whether all atoms of the n entries of area j are Int.
+pub fn all_int(work: &[u8], j: usize, n: usize) -> bool
+    requires { ⌜ Area j (now work) × (n ≤ 4096) ⌝ }
+    ensures { λ r. ⌜ ((b : Bytes) → SortsBelow (count b) b (now (work .entry)) → Kept b (areaOf j (now (work .entry))) n →
+        r ≡ allInt (entriesOf b (areaOf j (now (work .entry))) n)) ⌝ }
+{
+    let entries = area(work, j);
+    let mut k = 0;
+    while k < n {
+        let key = key_at(entries, k);
+        if byte(work, key) != 2 {
+            return false;
+        }
+        k += 1;
+    }
+    true
+}
