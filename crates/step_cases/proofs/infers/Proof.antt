@@ -1,0 +1,109 @@
+-- The invariant is `InferredSoFar` of Inferring. The measure is how many literals are left; it falls, since a fold that
+-- infers a number has done at least one.
+use mathlib.Core.Path.{_∙_}
+use Prim.Native.Nat.{_-_, _/_}
+use borrow.Author.Needs.{needs}
+use lib.ListN.{length}
+use Rattle.step_cases.proofs.Inferring.{InferredSoFar, inferred-begin, rest-inside, inferred-length}
+use Rattle.step_cases.proofs.Inferring.{inferred-few, inferred-place, inferred-count}
+use Rattle.step_cases.proofs.Inferring.{inferred-fits, inferred-less, inferred-again}
+use Rattle.step_cases.proofs.infers.Statement.{statement}
+use Rattle.step_cases.proofs.infers.Tie as tie
+
+abbrev Inv-loop : tie.InvT-loop
+Inv-loop book work₀ literals args numbers p₀ done₀ k₀ work p done k =
+    InferredSoFar book literals work₀ work p done k
+
+abbrev μ-loop : tie.MeasureT-loop
+μ-loop book work₀ literals args numbers p₀ done₀ k₀ work p done k = length literals / 4 - done
+
+loop-holds : tie.Need-loop-holds Inv-loop μ-loop
+loop-holds c =
+    let start = c .before .before .before .before .before .before in
+    inferred-begin (start .pre .0) (start .pre .1 .0) (start .pre .1 .1) _ (c .whole .ensures)
+
+rest-requires : tie.Need-rest-requires Inv-loop μ-loop
+rest-requires c κs = inferred-few (c .before .loop .inv)
+
+rest-requires-2 : tie.Need-rest-requires-2 Inv-loop μ-loop
+rest-requires-2 c κs = inferred-few (c .before .before .loop .inv)
+
+fold-literals-requires : tie.Need-fold-literals-requires Inv-loop μ-loop
+fold-literals-requires c κs =
+    let far = c .before .before .before .loop .inv in
+    (far .folding, rest-inside far _ (c .before .rest .ensures))
+
+-- one turn
+abbrev turn : tie.After-fold-literals Inv-loop μ-loop → tie.At-loop Inv-loop μ-loop
+turn c = c .before .before .before .before
+
+same-length : tie.Need-same-length Inv-loop μ-loop
+same-length c =
+    let folded = c .before .before .before .before in
+    folded .fold-literals .kept .1 .0 ∙ inferred-length (turn folded .loop .inv)
+
+mul-read : tie.Need-mul-read Inv-loop μ-loop
+mul-read c = inferred-place (turn (c .before .before .before .before .before) .loop .inv)
+
+-- a number was inferred, and it is that of the file
+abbrev folded : tie.Then1 Inv-loop μ-loop → tie.After-fold-literals Inv-loop μ-loop
+folded c = c .before .before .before .before .before .before .before .before
+
+add-done : tie.Need-add-done Inv-loop μ-loop
+add-done c =
+    let f = folded c in
+    inferred-fits (turn f .loop .inv) (f .before .before .rest .ensures) _ _ (f .fold-literals .ensures .1) _ _ _
+    (c .before .before .before .before .q .given .1)
+
+loop-less : tie.Need-loop-less Inv-loop μ-loop
+loop-less c =
+    let f = folded c in
+    inferred-less (turn f .loop .inv) (f .before .before .rest .ensures) _ _ (f .fold-literals .ensures .1) _ _ _
+    (c .before .before .before .before .q .given .1)
+
+loop-again : tie.Need-loop-again Inv-loop μ-loop
+loop-again c =
+    let f = folded c in
+    inferred-again (turn f .loop .inv) (f .before .before .rest .ensures) _ _ (f .fold-literals .ensures .1) _ _ _
+    (c .before .before .before .before .q .given .1)
+
+add-k : tie.Need-add-k Inv-loop μ-loop
+add-k c = inferred-count (turn (folded c) .loop .inv)
+
+same-length-2 : tie.Need-same-length-2 Inv-loop μ-loop
+same-length-2 c =
+    let f = c .before .before .before .before .before .before .before .before in
+    f .fold-literals .kept .1 .0 ∙ inferred-length (turn f .loop .inv)
+
+same-length-3 : tie.Need-same-length-3 Inv-loop μ-loop
+same-length-3 c =
+    let f = c .before .before .before .before in
+    f .fold-literals .kept .1 .0 ∙ inferred-length (turn f .loop .inv)
+
+pub infers-spec : {M : Type 1} → statement M
+infers-spec =
+    tie.close
+    (tie.spec
+    Inv-loop
+    μ-loop
+    (λ c κs. search needs)
+    loop-holds
+    rest-requires
+    rest-requires-2
+    fold-literals-requires
+    (λ c. search needs)
+    same-length
+    (λ c. search needs)
+    (λ c. search needs)
+    mul-read
+    (λ c κs. search needs)
+    (λ c κs. search needs)
+    add-done
+    add-k
+    loop-less
+    loop-again
+    same-length-2
+    (λ c. search needs)
+    (λ c. search needs)
+    same-length-3
+    (λ c. search needs))
