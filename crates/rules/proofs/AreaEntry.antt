@@ -25,7 +25,7 @@ use Rattle.rules.specs.declared.index_map.Inserted.the-variants.{Length,
 use Rattle.rules.specs.declared.index_map.Coefficient.the-variants.{Of, Missing}
 use Rattle.rules.proofs.CheckedNumbers.{plus-value, plus-out}
 use Rattle.rules.proofs.MapKeys.{keyOf, Lacks, lacks-absent, Look, found, missing, look, length-middle}
-use Rattle.rules.proofs.SwapRemove.{length-swapRemove}
+use Rattle.rules.proofs.MapEnds.{length-swapRemove}
 use Rattle.rules.proofs.StoredEntries.{held-keys, kept-entries, keyNumbers, read-value, write-value, write-new}
 use Rattle.rules.proofs.StoredEntries.{remove-entry, clear-all}
 use Rattle.rules.proofs.MapEntry.{place-missing, place-found, get-missing, get-found, entered}

@@ -3,22 +3,15 @@
 --     walking-none, walking-more, walking-refused, walking-done       along the loop
 --     argument-below, argument-pre       what the walk of argument k asks
 use mathlib.Core.Path.{_≡_, refl, _∙_}
-use mathlib.Core.Bool.{true}
-use mathlib.Core.List.{List, [], _∷_}
-use Prim.Native.Nat.{ℕ, zero, suc, _+_, _/_, _≤_, _<_}
-use native.Mathlib.Numerals.{add-one}
+use mathlib.Core.List.{List}
+use Prim.Native.Nat.{ℕ, _+_, _/_, _≤_, _<_}
 use native.Mathlib.Omega.{arith}
-use borrow.Author.Tests.{ltb-true, lt-ltb}
-use lib.Dec.{ltb}
-use lib.ListN.{length, getD, drop, drop-of-length-le}
-use lib.Seq.{drop-cons}
+use lib.ListN.{length, drop}
 use Rattle.terms.specs.Rational.{Rational, Proper}
 use Rattle.terms.specs.Bytes.{Bytes}
 use Rattle.terms.specs.Term.{Term, Terms}
 use Rattle.terms.specs.Term.Terms.{nil, _▹_}
-use Rattle.terms.specs.Book.{tree, forest, numbers, arguments, argumentAt, nothing, allBelow}
-use Rattle.terms.proofs.Records.{length-numbers}
-use Rattle.terms.proofs.Truths.{both}
+use Rattle.terms.specs.Book.{tree, forest, numbers, arguments, argumentAt}
 use Rattle.rules.specs.Refusal.{Refusal, Result, _>>=_}
 use Rattle.rules.specs.Refusal.Result.{ok, refused}
 use Rattle.rules.specs.Limits.{Limits, limited}
@@ -28,6 +21,7 @@ use Rattle.rules.specs.WorkArea.{Sum, combOf, KeptSum, Walks}
 use Rattle.rules.specs.LinearNodes.{WalkPre, ArgsPre, addEach}
 use Rattle.rules.specs.declared.linear_comb.Walk.{Walk}
 use Rattle.rules.specs.declared.linear_comb.Walk.the-variants.{Done, Refused}
+use Rattle.rules.proofs.ArgumentsLeft.{left-none, left-next, next-below}
 use Rattle.rules.proofs.WalkSteps.{done, done-kept, done-is}
 
 -- ---- one argument and the others
@@ -46,12 +40,6 @@ module _ (t : Term) (ts : Terms) (l : Limits) (p q : Rational) (w : Walked Term)
   each-refused : {r : Refusal} → addTerm t l p w ≡ refused r → addEach (t ▹ ts) l p q w ≡ refused r
   unfolding addEach _>>=_
   each-refused e = rw e
-
-below-at : (i : ℕ) (l : List ℕ) (k d : ℕ) → k < length l → allBelow i l ≡ true → getD l k d < i
-unfolding allBelow
-below-at i [] k d h e = absurd (omega arith)
-below-at i (a ∷ l) zero d h e = ltb-true a i (both (ltb a i) (allBelow i l) e .0)
-below-at i (a ∷ l) (suc k) d h e = below-at i l k d (omega arith) (both (ltb a i) (allBelow i l) e .1)
 
 -- ---- the loop
 
@@ -84,29 +72,13 @@ module _
       (walking : Walking b w₀ args id limit first others s v₀ w t v coeff k) where
     pub walking-done :
         length args / 2 ≤ k → Walks b w (Done t v) (eachFrom b id (numbers args) limit first others w₀ s v₀)
-    unfolding addEach forest arguments
-    walking-done h =
-        let past : length (numbers args) ≤ k = omega (arith, length-numbers args) in
-        done (walking .kept) _ (walking .left ∙ rw (drop-of-length-le (numbers args) past))
+    unfolding addEach
+    walking-done h = done (walking .kept) _ (walking .left ∙ rw (left-none b id args k h))
 
     -- x is argument k
     module _ (h : k < length args / 2) {x : ℕ} (is : x ≡ argumentAt args k id) where
-      short : k < length (numbers args)
-      short = omega (arith, length-numbers args)
-
-      here :
-          forest (tree b) (arguments id (drop k (numbers args)))
-          ≡ (tree b x ▹ forest (tree b) (arguments id (drop (k + 1) (numbers args))))
-      unfolding forest arguments argumentAt
-      here = rw (drop-cons (numbers args) k nothing short, add-one, is)
-
       pub argument-below : x < id
-      unfolding argumentAt
-      argument-below =
-          let a = getD (numbers args) k nothing in
-          let low : a < id = below-at id (numbers args) k nothing short (pre .below) in
-          let same : x ≡ a = rw (lt-ltb a id low) at is in
-          omega arith
+      argument-below = next-below args id h is (pre .below)
 
       pub argument-pre : WalkPre b w x coeff t
       argument-pre =
@@ -126,7 +98,7 @@ module _
         walking-refused e =
             let was = rw e at (walks .is) in
             let r = was .0 in
-            let left = rw here at (walking .left) in
+            let left = rw (left-next args id h is b) at (walking .left) in
             let same = left ∙ each-refused _ _ _ _ _ _ (r .is) in
             record {
               map = walks .map;
@@ -144,5 +116,5 @@ module _
               long = long ∙ walking .long;
               kept = done-kept was;
               proper = pre .proper .1;
-              left = walking .left ∙ rw here (each-after _ _ _ _ _ _ (done-is was));
+              left = walking .left ∙ rw (left-next args id h is b) (each-after _ _ _ _ _ _ (done-is was));
             }

@@ -1,96 +1,18 @@
 -- The ten bytes of an entry behind any front of bytes: a write puts them there and leaves the rest (`entry-at`), and a
 -- read finds them (`key-found`, `value-found`). Zeros for entries are written by the loop of `clear` (`Cleared`).
 use mathlib.Core.Path.{_≡_, refl, sym, ap, _∙_}
-use mathlib.Core.Bool.{Bool, true, false, cond}
 use mathlib.Core.List.{[], _∷_, _++_, append-assoc}
-use Prim.Native.Nat.{ℕ, zero, suc, _+_, _*_, _/_, _%_, _^_, _≤_, _<_}
-use native.Mathlib.Nat.{suc-add}
+use Prim.Native.Nat.{ℕ, zero, suc, _+_, _*_, _≤_, _<_}
 use native.Mathlib.Numerals.{add-one}
 use native.Mathlib.Omega.{arith}
-use lib.Dec.{leb·suc-suc}
-use lib.ListN.{length, take, drop, set, replicate, length-append, length-take, length-drop, length-replicate}
+use lib.ListN.{length, take, drop, replicate, length-append, length-take, length-drop, length-replicate}
 use lib.ListN.{take-append-drop, replicate-append-replicate}
 use Rattle.terms.specs.Rational.{Rational, Proper}
-use Rattle.terms.specs.Bytes.{Bytes, room, le, put, putDigits, bytesOf, complement, numberAt, putNumber}
-use Rattle.terms.proofs.LittleEndian.{put-inside, length-put, read-after-write-small}
-use Rattle.terms.proofs.StoredNumbers.{putNumber-inside, length-putNumber, number-after-write}
+use Rattle.terms.specs.Bytes.{Bytes, le, put, bytesOf, complement, numberAt, putNumber}
+use Rattle.terms.proofs.LittleEndian.{length-put}
+use Rattle.terms.proofs.StoredNumbers.{length-putNumber}
 use Rattle.rules.specs.WorkArea.{putEntry, blank, blanked}
-
--- ---- n bytes
-
-pub length-bytesOf : (n v : ℕ) → length (bytesOf n v) ≡ n
-unfolding bytesOf
-length-bytesOf zero v = refl
-length-bytesOf (suc n) v = ap suc (length-bytesOf n (v / 256))
-
--- a byte in front moves every place up by one
-putDigits-cons : (n v x : ℕ) (b : Bytes) (i : ℕ) → putDigits n v (x ∷ b) (suc i) ≡ x ∷ putDigits n v b i
-unfolding putDigits
-putDigits-cons zero v x b i = refl
-putDigits-cons (suc n) v x b i = rw suc-add (putDigits-cons n (v / 256) x (set b i (v % 256)) (i + 1))
-
-put-cons : (n v x : ℕ) (b : Bytes) (i : ℕ) → put n v (x ∷ b) (suc i) ≡ x ∷ put n v b i
-unfolding put
-put-cons n v x b i = rw (suc-add, leb·suc-suc, putDigits-cons n v x b i) (go (room n b i))
-  where
-    go : (t : Bool) → cond t (x ∷ putDigits n v b i) (x ∷ b) ≡ x ∷ cond t (putDigits n v b i) b
-    go true = refl
-    go false = refl
-
-putDigits-first :
-    (n v : ℕ) (x r : Bytes) → length x ≡ n → putDigits n v (x ++ r) 0 ≡ bytesOf n v ++ r
-unfolding putDigits bytesOf
-putDigits-first zero v [] r h = refl
-putDigits-first zero v (a ∷ x) r h = absurd (omega arith)
-putDigits-first (suc n) v [] r h = absurd (omega arith)
-putDigits-first (suc n) v (a ∷ x) r h =
-    putDigits-cons n (v / 256) (v % 256) (x ++ r) 0
-    ∙ ap (λ (l : Bytes). (v % 256) ∷ l) (putDigits-first n (v / 256) x r (omega arith))
-
--- the n bytes x behind f become those of v
-put-at : (n v : ℕ) (f x r : Bytes) → length x ≡ n → put n v (f ++ (x ++ r)) (length f) ≡ f ++ (bytesOf n v ++ r)
-put-at n v [] x r h =
-    put-inside n v (x ++ r) 0 (omega (arith, length-append x r)) ∙ putDigits-first n v x r h
-put-at n v (a ∷ f) x r h =
-    put-cons n v a (f ++ (x ++ r)) (length f) ∙ ap (λ (l : Bytes). a ∷ l) (put-at n v f x r h)
-
-le-at :
-    (n v : ℕ) (f r : Bytes) → v < 256 ^ n → le n (f ++ (bytesOf n v ++ r)) (length f) ≡ v
-le-at n v f r small =
-    let w : Bytes = f ++ (bytesOf n v ++ r) in
-    let long : length f + n ≤ length w =
-    simp (length-append, length-bytesOf) (omega arith) in
-    ap (λ (l : Bytes). le n l (length f)) (sym (put-at n v f (bytesOf n v) r (length-bytesOf n v)))
-    ∙ read-after-write-small n v w (length f) long small
-
--- ---- the eight bytes of a number
-
-abbrev parts : Rational → Bytes
-parts q = bytesOf 4 (complement 4 (q .num)) ++ bytesOf 4 (complement 4 (q .den))
-
-length-parts : (q : Rational) → length (parts q) ≡ 8
-length-parts q = simp (length-append, length-bytesOf)
-
-number-at :
-    (q : Rational) (f x r : Bytes) → length x ≡ 8 → putNumber q (f ++ (x ++ r)) (length f) ≡ f ++ (parts q ++ r)
-number-at q f x r h =
-    let n : Bytes = bytesOf 4 (complement 4 (q .num)) in
-    let d : Bytes = bytesOf 4 (complement 4 (q .den)) in
-    let low : length (take 4 x) ≡ 4 = rw (length-take, h) in
-    let high : length (drop 4 x) ≡ 4 = rw (length-drop, h) in
-    let halves : f ++ (x ++ r) ≡ f ++ (take 4 x ++ (drop 4 x ++ r)) =
-    ap (λ (l : Bytes). f ++ (l ++ r)) (sym (take-append-drop 4 x)) ∙ simp append-assoc in
-    let long : length f + 8 ≤ length (f ++ (x ++ r)) = simp (length-append, h) (omega arith) in
-    let next : length (f ++ n) ≡ length f + 4 = simp (length-append, length-bytesOf) in
-    let first : put 4 (complement 4 (q .num)) (f ++ (x ++ r)) (length f) ≡ (f ++ n) ++ (drop 4 x ++ r) =
-    ap (λ (l : Bytes). put 4 (complement 4 (q .num)) l (length f)) halves
-    ∙ put-at 4 (complement 4 (q .num)) f (take 4 x) (drop 4 x ++ r) low
-    ∙ simp append-assoc in
-    putNumber-inside q (f ++ (x ++ r)) (length f) long
-    ∙ ap (λ (l : Bytes). put 4 (complement 4 (q .den)) l (length f + 4)) first
-    ∙ ap (put 4 (complement 4 (q .den)) ((f ++ n) ++ (drop 4 x ++ r))) (sym next)
-    ∙ put-at 4 (complement 4 (q .den)) (f ++ n) (drop 4 x) r high
-    ∙ simp append-assoc
+use Rattle.rules.proofs.NumberBytes.{length-bytesOf, put-at, le-at, parts, length-parts, number-at, number-back}
 
 -- ---- the ten bytes of an entry
 
@@ -127,17 +49,13 @@ module _ (f : Bytes) (k : ℕ) (place : length f ≡ 10 * k) (key : ℕ) (q : Ra
       ∙ ap (λ (l : Bytes). le 2 (f ++ l) (length f)) (append-assoc (bytesOf 2 key) (parts q) r)
       ∙ le-at 2 key f (parts q ++ r) small
 
-  -- the bytes are those that a write of q leaves
   pub value-found : Proper q → numberAt (f ++ (cell key q ++ r)) (10 * k + 2) ≡ q
   value-found proper =
       let g : Bytes = f ++ bytesOf 2 key in
-      let w : Bytes = g ++ (parts q ++ r) in
-      let long : 10 * k + 2 + 8 ≤ length w =
-      rw (length-append g (parts q ++ r), length-append (parts q) r, length-parts q, value-place) (omega arith) in
-      let same : f ++ (cell key q ++ r) ≡ w = simp append-assoc in
-      ap (λ (l : Bytes). numberAt l (10 * k + 2)) (same ∙ sym (number-at q g (parts q) r (length-parts q)))
-      ∙ ap (λ (i : ℕ). numberAt (putNumber q w i) (10 * k + 2)) value-place
-      ∙ number-after-write q w (10 * k + 2) long proper
+      let same : f ++ (cell key q ++ r) ≡ g ++ (parts q ++ r) = simp append-assoc in
+      ap (λ (l : Bytes). numberAt l (10 * k + 2)) same
+      ∙ ap (numberAt (g ++ (parts q ++ r))) (sym value-place)
+      ∙ number-back q g r proper
 
 -- ---- zeros
 

@@ -76,27 +76,35 @@ armNode t ts coeff m = elim m [
 
 -- ---- steps
 
-after : {A B : Type 0} (m : Result A) (f g : A → Result B) → ((a : A) → f a ≡ g a) → (m >>= f) ≡ (m >>= g)
+pub after : {A B : Type 0} (m : Result A) (f g : A → Result B) → ((a : A) → f a ≡ g a) → (m >>= f) ≡ (m >>= g)
 unfolding _>>=_
 after (ok a) f g h = h a
 after (refused r) f g h = refl
 
--- what follows on a product, by whether it is in range
-on-product :
+-- what follows on a number m that is in range or not, by the code's answer c for it
+pub on-answer :
+    {A : Type 0} (m : Result Rational) (c : Checked) → ((q : Rational) → c ≡ checked.Value q → m ≡ ok q) →
+    (c ≡ checked.OutOfRange → m ≡ refused numberRange) → (f : Rational → Result A) (g : Checked → Result A) →
+    ((q : Rational) → f q ≡ g (checked.Value q)) → refused numberRange ≡ g checked.OutOfRange → (m >>= f) ≡ g c
+unfolding _>>=_
+on-answer {A} m c value out f g h k = go c refl
+  where
+    go : (r : Checked) → c ≡ r → (m >>= f) ≡ g r
+    go (checked.Value q) e = ap (λ (m : Result Rational). m >>= f) (value q e) ∙ h q
+    go checked.OutOfRange e = ap (λ (m : Result Rational). m >>= f) (out e) ∙ k
+
+-- what follows on a product
+pub on-product :
     {A : Type 0} (n : ℕ) (a c : Rational) (f : Rational → Result A) (g : Checked → Result A) →
     ((q : Rational) → f q ≡ g (checked.Value q)) → refused numberRange ≡ g checked.OutOfRange →
     (times (limited n) a c >>= f) ≡ g (checked (mulQ a c))
-unfolding _>>=_
-on-product {A} n a c f g h k = go (checked (mulQ a c)) refl
-  where
-    go : (r : Checked) → checked (mulQ a c) ≡ r → (times (limited n) a c >>= f) ≡ g r
-    go (checked.Value q) e = ap (λ (m : Result Rational). m >>= f) (times-value n a c q e) ∙ h q
-    go checked.OutOfRange e = ap (λ (m : Result Rational). m >>= f) (times-out n a c e) ∙ k
+on-product n a c f g h k =
+    on-answer (times (limited n) a c) (checked (mulQ a c)) (times-value n a c) (times-out n a c) f g h k
 
 -- ---- the arms
 
 -- t is the term of its own number
-abbrev Own : Bytes → Term → Type 0
+abbrev pub Own : Bytes → Term → Type 0
 Own b t = tree b (recordNumber t) ≡ t
 
 args-each :
@@ -222,7 +230,7 @@ module _ (b : Bytes) (n : ℕ) (coeff : Rational) (w : Walked Term) where
       go w leaf e = leaf-walk b n (op i o ts) coeff w
 
 -- the terms of a book are those of their own numbers
-forest-own : (b : Bytes) (l : List ℕ) → Each (Own b) (forest (tree b) l)
+pub forest-own : (b : Bytes) (l : List ℕ) → Each (Own b) (forest (tree b) l)
 unfolding forest
 forest-own b [] = tt
 forest-own b (a ∷ l) = (ap (tree b) (recordNumber-tree b a), forest-own b l)
@@ -237,7 +245,7 @@ walk-node b id n coeff w =
 
 -- ---- what the walk goes on to lies below
 
-abbrev Below : ℕ → Terms → Type 0
+abbrev pub Below : ℕ → Terms → Type 0
 Below i = Each (λ t. recordNumber t < i)
 
 -- a term's factor is one of its arguments
@@ -335,7 +343,7 @@ module _ (b : Bytes) (i : ℕ) where
       first false e h = absurd (omega arith)
 
   module _ (layout : layoutOk i (recordOf b i) ≡ true) where
-    arguments-below : Below i (argumentsOf (tree b i))
+    pub arguments-below : Below i (argumentsOf (tree b i))
     arguments-below =
         subst (Below i) (sym (argumentsOf-record b i refl))
         (below-of (numbers (argBytes (recordOf b i))) (layout-below i (recordOf b i) (laid i (recordOf b i) layout)))

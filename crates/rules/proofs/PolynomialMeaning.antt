@@ -28,7 +28,7 @@ use Rattle.rules.proofs.Yields.{at-ok}
 use Rattle.rules.proofs.Valuations.{rationals}
 use Rattle.rules.proofs.WholeNumbers.{IsWhole, wholes}
 use Rattle.rules.proofs.IndexMaps.{Values, CombinationOf, Amounts, worth}
-use Rattle.rules.proofs.Monomials.{AllKnown}
+use Rattle.rules.proofs.MonomialLaws.{AllKnown}
 use Rattle.rules.proofs.PolynomialValues.{polynomialIn, pairsAt, integersAt, Image, polynomial-image}
 use Rattle.rules.proofs.PolynomialWalk.{termValues, fromTerm-amounts}
 use Rattle.rules.proofs.NumberReadings.{NumberOf, meantBy, numberReading}

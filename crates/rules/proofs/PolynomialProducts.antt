@@ -14,8 +14,8 @@ use Rattle.rules.proofs.Yields.{Yields, gives, and-then, weaker, guarde
 use Rattle.rules.proofs.Valuations.{Valuation, times-stands}
 use Rattle.rules.proofs.IndexMaps.{Values, total, worth, entry, GoodEntry, AllGood, Totals}
 use Rattle.rules.proofs.IndexMaps.{GoodCombination, Amounts, insert-totals}
-use Rattle.rules.proofs.Monomials.{Respects, AllKnown, joined-known, monomial, joined-value}
-use Rattle.rules.proofs.Monomials.{sameMonomial-value}
+use Rattle.rules.proofs.MonomialLaws.{Respects, AllKnown, joined-known, monomial, joined-value}
+use Rattle.rules.proofs.MonomialLaws.{sameMonomial-value}
 
 -- monomials stand for the products of their atoms' values
 module _ {R : Ring} (N : Valuation R) (v : Term → R .carrier)

@@ -15,7 +15,7 @@ use Rattle.rules.specs.IndexMap.{Map}
 use Rattle.rules.specs.Polynomial.{Monomial, Polynomial}
 use Rattle.rules.proofs.Valuations.{Valuation}
 use Rattle.rules.proofs.IndexMaps.{total, worth}
-use Rattle.rules.proofs.Monomials.{Respects, monomial}
+use Rattle.rules.proofs.MonomialLaws.{Respects, monomial}
 use Rattle.rules.proofs.PolynomialProducts.{monomialValues}
 
 pub record Arithmetic (A : Type 0) : Type 0 where

@@ -31,7 +31,7 @@ use Rattle.rules.proofs.IndexMaps.{Values, worth, total, Amounts, new-a
 use Rattle.rules.proofs.Walks.{Kept, Adds, adds-none, adds-as, in-turn, visited, addEntry-adds}
 use Rattle.rules.proofs.Walks.{addConstant-adds}
 use Rattle.rules.proofs.PolynomialCases.{by-vector, by-arm}
-use Rattle.rules.proofs.Monomials.{monomial, atom-value}
+use Rattle.rules.proofs.MonomialLaws.{monomial, atom-value}
 use Rattle.rules.proofs.PolynomialProducts.{monomialValues, insertScaled-totals, mul-amounts}
 use Rattle.rules.proofs.TermReadings.{TermReading, First, DividedBy, sumOf, differenceOf, factorsOf}
 use Rattle.rules.proofs.TermReadings.{productOf, firstOf, Quotient, Taken}

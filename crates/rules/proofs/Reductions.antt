@@ -13,7 +13,7 @@ use Rattle.rules.specs.IndexMap.{Map}
 use Rattle.rules.specs.Polynomial.{Monomial, Polynomial, monomials, moduloAll, reduced}
 use Rattle.rules.proofs.WholeNumbers.{wholes}
 use Rattle.rules.proofs.IndexMaps.{Values, total, worth, AllGood, Totals, GoodCombination, Amounts}
-use Rattle.rules.proofs.Monomials.{monomial}
+use Rattle.rules.proofs.MonomialLaws.{monomial}
 use Rattle.rules.proofs.TermReadings.{TermReading}
 use Rattle.rules.proofs.PolynomialWalk.{termValues}
 use Rattle.rules.proofs.VectorReadings.{vectorReading}

@@ -18,7 +18,7 @@ use Rattle.terms.proofs.BookTerms.{Each}
 use Rattle.rules.specs.Polynomial.{Arm, armOf}
 use Rattle.rules.specs.Polynomial.Arm.{sum, negation, difference, product, quotient, leaf}
 use Rattle.rules.proofs.Valuations.{Valuation}
-use Rattle.rules.proofs.Monomials.{Respects}
+use Rattle.rules.proofs.MonomialLaws.{Respects}
 
 -- ---- the value of a list of arguments
 

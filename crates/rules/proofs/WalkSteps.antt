@@ -38,7 +38,7 @@ use Rattle.rules.proofs.NodeWalks.{act, walk-node, factor-below, args-b
 -- ---- the answers
 
 -- the definition refuses with document 01's number
-refuses : {A : Type 0} (r : Refusal) (d : Result A) → d ≡ refused r → Refuses (number r) d
+pub refuses : {A : Type 0} (r : Refusal) (d : Result A) → d ≡ refused r → Refuses (number r) d
 refuses r d e = record { reason = r; is = e; code = refl }
 
 module _ {b w : Bytes} {s : Sum} (kept : KeptSum b w s) where

@@ -7,6 +7,10 @@ pub mod WorkArea
 pub mod LinearNodes
 pub mod LinearSteps
 pub mod LinearShapes
+pub mod PolynomialArea
+pub mod PolynomialNodes
+pub mod PolynomialSteps
+pub mod PolynomialRel
 pub mod Polynomial
 pub mod Premises
 pub mod Alethe

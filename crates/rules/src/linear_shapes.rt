@@ -45,7 +45,7 @@ pub enum Bounds {
 // ---- shapes
 
 // The record of the only literal, if there is just one: `assert_clause_len(conclusion, 1)`, and `conclusion[0]`.
-fn only_literal(literals: &[u8]) -> Only
+pub fn only_literal(literals: &[u8]) -> Only
     ensures { λ r. ⌜ ((b : Bytes) →
         orElse (found b r) wrongLengthOfClause ≡ onlyLiteral (termsIn b (now (literals .entry)))) ⌝ }
 {
@@ -203,7 +203,7 @@ fn assert_less_eq(book: &[u8], a: usize, b: usize) -> u8
 }
 
 // s1 and s2 are one term, and so are d1 and d2.
-fn bounds_eq(s1: usize, d1: usize, s2: usize, d2: usize) -> u8
+pub fn bounds_eq(s1: usize, d1: usize, s2: usize, d2: usize) -> u8
     ensures { λ r. ⌜ ((b : Bytes) → r ≡ codeOf (boundsCase assertEq (pairOf b s1 d1, pairOf b s2 d2))) ⌝ }
 {
     let code = assert_eq(s1, s2);
@@ -238,7 +238,7 @@ fn bounds_less_eq(book: &[u8], s1: usize, d1: usize, s2: usize, d2: usize) -> u8
 }
 
 // Both parts, if each was found.
-fn both(p: Two, q: Two) -> Bounds
+pub fn both(p: Two, q: Two) -> Bounds
     ensures { λ r. ⌜ ((b : Bytes) → foundBounds b r ≡ both (foundTwo b p) (foundTwo b q)) ⌝ }
 {
     let Two::Both(s1, d1) = p else {
