@@ -3,9 +3,10 @@
 use mathlib.Core.Path.{_≡_, refl, sym, ap, ap₂, _∙_, subst}
 use mathlib.Core.Bool.{true, false}
 use mathlib.Core.List.{List, [], _∷_, _++_}
-use mathlib.Core.Option.{some, none}
+use mathlib.Core.Option.{some}
 use Prim.Native.Nat.{ℕ, suc, _+_, _*_, _-_, _≤_, _<_}
 use native.Mathlib.Omega.{arith}
+use borrow.Author.Tests.{eqb-true}
 use lib.ListN.{length, length-append}
 use Rattle.terms.specs.Rational.{Rational, Proper, Makes, Gives, addQ, isZero, checked}
 use Rattle.terms.specs.Bytes.{Bytes, numberAt}
@@ -14,7 +15,7 @@ use Rattle.terms.specs.Book.{count, tree}
 use Rattle.terms.specs.declared.number.Checked.{Checked}
 use Rattle.terms.specs.declared.number.Checked.the-variants as answer
 use Rattle.terms.proofs.BookTerms.{recordNumber-tree}
-use Rattle.rules.specs.Refusal.{_>>=_}
+use Rattle.rules.specs.Refusal.{_>>=_, assert}
 use Rattle.rules.specs.Limits.{Limits, limited, plus}
 use Rattle.rules.specs.IndexMap.{Map, get, insert, swapRemove}
 use Rattle.rules.specs.LinearComb.{terms}
@@ -24,14 +25,30 @@ use Rattle.rules.specs.declared.index_map.Inserted.{Inserted}
 use Rattle.rules.specs.declared.index_map.Inserted.the-variants.{Length, OutOfRange}
 use Rattle.rules.specs.declared.index_map.Coefficient.the-variants.{Of, Missing}
 use Rattle.rules.proofs.CheckedNumbers.{plus-value, plus-out}
-use Rattle.rules.proofs.MapKeys.{keyOf, Lacks, lacks-absent, Look, found, missing, look, length-middle}
-use Rattle.rules.proofs.MapEnds.{length-swapRemove}
+use Rattle.rules.proofs.MapKeys.{keyOf, numbered, lacks-absent}
+use Rattle.rules.proofs.MapEnds.{length-middle, length-swapRemove}
 use Rattle.rules.proofs.StoredEntries.{held-keys, kept-entries, keyNumbers, read-value, write-value, write-new}
 use Rattle.rules.proofs.StoredEntries.{remove-entry, clear-all}
-use Rattle.rules.proofs.MapEntry.{place-missing, place-found, get-missing, get-found, entered}
-use Rattle.rules.proofs.MapEntry.{insert-zero, insert-missing, insert-found}
+use Rattle.rules.proofs.KeyedMaps.{Lacks, nothing, another, Look, found, missing, look, get-missing, get-found}
+use Rattle.rules.proofs.KeyedMaps.{entered, insert-zero, insert-missing, insert-found}
+use Rattle.rules.proofs.KeySearch.{place-here, place-past}
 
 -- ---- where the key stands
+
+module _ (i : ℕ) where
+  place-missing : {m : Map Term} → Lacks (numbered i) m → place (keyNumbers m) i ≡ length m
+  unfolding place keyNumbers
+  place-missing nothing = refl
+  place-missing (another {e} {m} other rest) =
+      place-past (keyOf e) i (keyNumbers m) other ∙ ap suc (place-missing rest)
+
+  place-found :
+      {p : Map Term} → Lacks (numbered i) p → (e : Term × Rational) (s : Map Term) → numbered i (e .0) ≡ true →
+      place (keyNumbers (p ++ e ∷ s)) i ≡ length p
+  unfolding keyNumbers
+  place-found nothing e s is = place-here (keyOf e) i (keyNumbers s) is
+  place-found (another {e = f} {m = p} other rest) e s is =
+      place-past (keyOf f) i (keyNumbers (p ++ e ∷ s)) other ∙ ap suc (place-found rest e s is)
 
 -- entry k of the n entries m has the key, and the entries before it have not
 pub record There (b w : Bytes) (key n k : ℕ) (m : Map Term) : Type 0 where
@@ -42,20 +59,20 @@ pub record There (b w : Bytes) (key n k : ℕ) (m : Map Term) : Type 0 where
   pub held : Held b w (front ++ entry ∷ rest)
   pub size : n ≡ length (front ++ entry ∷ rest)
   pub spot : k ≡ length front
-  pub key-is : keyOf entry ≡ key
-  pub first : Lacks key front
+  pub same : numbered key (entry .0) ≡ true
+  pub first : Lacks (numbered key) front
 
 -- none of them has it
 pub record Nowhere (b w : Bytes) (key n : ℕ) (m : Map Term) : Type 0 where
   pub held : Held b w m
   pub size : n ≡ length m
-  pub lacks : Lacks key m
+  pub lacks : Lacks (numbered key) m
 
 module _ {b : Bytes} (w : Bytes) (n key k : ℕ) (at : k ≡ place (keysOf w n) key) where
   place-keys : {m : Map Term} → Held b w m → n ≡ length m → k ≡ place (keyNumbers m) key
   place-keys h size = at ∙ ap (λ (l : List ℕ). place l key) (ap (keysOf w) size ∙ held-keys h)
 
-  looked-there : k < n → {m : Map Term} → Look key m → Held b w m → n ≡ length m → There b w key n k m
+  looked-there : k < n → {m : Map Term} → Look (numbered key) m → Held b w m → n ≡ length m → There b w key n k m
   looked-there below (found p e s is lacks) h size =
       record {
         front = p;
@@ -64,34 +81,31 @@ module _ {b : Bytes} (w : Bytes) (n key k : ℕ) (at : k ≡ place (keysOf w n) 
         is = refl;
         held = h;
         size = size;
-        spot = place-keys h size ∙ place-found lacks e s is;
-        key-is = is;
+        spot = place-keys h size ∙ place-found key lacks e s is;
+        same = is;
         first = lacks;
       }
-  looked-there below (missing lacks) h size = absurd (omega (arith, place-keys h size, place-missing lacks))
+  looked-there below (missing lacks) h size = absurd (omega (arith, place-keys h size, place-missing key lacks))
 
-  looked-nowhere : n ≤ k → {m : Map Term} → Look key m → Held b w m → n ≡ length m → Nowhere b w key n m
+  looked-nowhere : n ≤ k → {m : Map Term} → Look (numbered key) m → Held b w m → n ≡ length m → Nowhere b w key n m
   looked-nowhere past (found p e s is lacks) h size =
-      absurd (omega (arith, place-keys h size, place-found lacks e s is, length-append p (e ∷ s)))
+      absurd (omega (arith, place-keys h size, place-found key lacks e s is, length-append p (e ∷ s)))
   looked-nowhere past (missing lacks) h size = record { held = h; size = size; lacks = lacks }
 
   there : k < n → Kept b w n → There b w key n k (entriesOf b w n)
   there below kept =
       subst (There b w key n k) (sym (kept-entries kept))
-      (looked-there below (look key (kept .map)) (kept .held) (kept .size))
+      (looked-there below (look (numbered key) (kept .map)) (kept .held) (kept .size))
 
   nowhere : n ≤ k → Kept b w n → Nowhere b w key n (entriesOf b w n)
   nowhere past kept =
       subst (Nowhere b w key n) (sym (kept-entries kept))
-      (looked-nowhere past (look key (kept .map)) (kept .held) (kept .size))
+      (looked-nowhere past (look (numbered key) (kept .map)) (kept .held) (kept .size))
 
 -- in terms of the key's tree
-module _ (b : Bytes) {key : ℕ} where
-  tree-lacks : {m : Map Term} → Lacks key m → Lacks (recordNumber (tree b key)) m
-  tree-lacks {m} h = subst (λ (i : ℕ). Lacks i m) (sym (recordNumber-tree b key)) h
-
-  tree-key : {i : ℕ} → i ≡ key → i ≡ recordNumber (tree b key)
-  tree-key e = e ∙ sym (recordNumber-tree b key)
+module _ (b : Bytes) (key : ℕ) where
+  tree-lacks : {m : Map Term} → Lacks (numbered key) m → Lacks (numbered (recordNumber (tree b key))) m
+  tree-lacks {m} h = subst (λ (i : ℕ). Lacks (numbered i) m) (sym (recordNumber-tree b key)) h
 
 module _ {b w : Bytes} {key n k : ℕ} {m : Map Term} (t : There b w key n k m) where
   -- what is read at k
@@ -99,18 +113,22 @@ module _ {b w : Bytes} {key n k : ℕ} {m : Map Term} (t : There b w key n k m) 
   value-there q e =
       e ∙ ap (λ (i : ℕ). numberAt w (10 * i + 2)) (t .spot) ∙ read-value (t .front) (t .entry) (t .rest) (t .held)
 
+  same-tree : numbered (recordNumber (tree b key)) (t .entry .0) ≡ true
+  same-tree = rw (recordNumber-tree b key) (t .same)
+
   get-there : get terms m (tree b key) ≡ some (t .entry .1)
   get-there =
       ap (λ (x : Map Term). get terms x (tree b key)) (t .is)
-      ∙ get-found (tree b key) (tree-lacks b (t .first)) (t .entry) (t .rest) (tree-key b (t .key-is))
+      ∙ get-found terms (tree b key) (tree-lacks b key (t .first)) (t .entry) (t .rest) same-tree
 
   insert-there :
       (l : Limits) (value : Rational) → isZero value ≡ false →
-      insert terms l m (tree b key) value ≡ entered (t .front) (t .entry) (t .rest) (plus l (t .entry .1) value)
+      insert terms l m (tree b key) value
+      ≡ entered terms (tree b key) (t .front) (t .entry) (t .rest) (plus l (t .entry .1) value)
   insert-there l value some-value =
       ap (λ (x : Map Term). insert terms l x (tree b key) value) (t .is)
-      ∙ insert-found (tree b key) l value some-value (tree-lacks b (t .first)) (t .entry) (t .rest)
-      (tree-key b (t .key-is))
+      ∙ insert-found terms (tree b key) l value some-value (tree-lacks b key (t .first)) (t .entry) (t .rest)
+      same-tree
 
 -- ---- get
 
@@ -124,7 +142,7 @@ module _ (w : Bytes) (n key k : ℕ) (at : k ≡ place (keysOf w n) key) where
 
   pub no-coefficient :
       n ≤ k → (b : Bytes) → Kept b w n → CoefficientIs Missing (get terms (entriesOf b w n) (tree b key))
-  no-coefficient past b kept = get-missing (tree b key) (tree-lacks b (nowhere w n key k at past kept .lacks))
+  no-coefficient past b kept = get-missing terms (tree b key) (tree-lacks b key (nowhere w n key k at past kept .lacks))
 
 -- ---- insert
 
@@ -142,7 +160,7 @@ module _ (w : Bytes) (n key : ℕ) (value : Rational) where
         held = kept .held;
         is = (
           ap (λ (m : Map Term). insert terms (limited l) m (tree b key) value) (kept-entries kept)
-              ∙ insert-zero (tree b key) (limited l) value (kept .map) z,
+              ∙ insert-zero terms (tree b key) (limited l) value (kept .map) z,
           kept .size,
         );
       }
@@ -150,15 +168,16 @@ module _ (w : Bytes) (n key : ℕ) (value : Rational) where
   module _ (some-value : isZero value ≡ false) (k : ℕ) (at : k ≡ place (keysOf w n) key) where
     pub new-inserted :
         Proper value → n ≤ k → (v : Bytes) → v ≡ putEntry w n key value → Insertion w n key value v (Length (n + 1))
+    unfolding _>>=_ assert
     new-inserted proper past v left b kept inside l =
         let m = entriesOf b w n in
         let h = nowhere w n key k at past kept in
         let bytes : v ≡ putEntry w (length m) key value = left ∙ ap (λ (i : ℕ). putEntry w i key value) (h .size) in
         record {
           map = m ++ (tree b key, value) ∷ [];
-          held = rw bytes (write-new m (h .held) key inside (lacks-absent (h .lacks)) value proper);
+          held = rw bytes (write-new m (h .held) key inside (lacks-absent key (h .lacks)) value proper);
           is = (
-            insert-missing (tree b key) (limited l) value some-value (tree-lacks b (h .lacks)),
+            insert-missing terms (tree b key) (limited l) value some-value (tree-lacks b key (h .lacks)),
             omega (arith, h .size, length-append m ((tree b key, value) ∷ [])),
           );
         }
@@ -217,7 +236,7 @@ module _ (w : Bytes) (n key : ℕ) (value : Rational) where
             let s = t .rest in
             let new : Term × Rational = (t .entry .0, sum) in
             let bytes : v ≡ putEntry w (length p) (keyOf (t .entry)) sum =
-            left ∙ ap₂ (λ (i j : ℕ). putEntry w i j sum) (t .spot) (sym (t .key-is)) in
+            left ∙ ap₂ (λ (i j : ℕ). putEntry w i j sum) (t .spot) (sym (eqb-true _ key (t .same))) in
             record {
               map = p ++ new ∷ s;
               held = rw bytes (write-value p (t .entry) s (t .held) sum (gives .proper sum is-sum));

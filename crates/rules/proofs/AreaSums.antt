@@ -1,6 +1,6 @@
 -- What `add_signed` makes of its calls: the entries are inserted into area `to`, then the constants are added; where
 -- their sum leaves the range, the area is emptied.
-use mathlib.Core.Path.{_≡_, refl, sym, _∙_, ap}
+use mathlib.Core.Path.{_≡_, refl, sym, _∙_}
 use mathlib.Core.Bool.{Bool, true, false}
 use mathlib.Core.List.{[]}
 use Prim.Native.Nat.{ℕ}
@@ -24,7 +24,8 @@ use Rattle.rules.specs.declared.linear_comb.Summed.the-variants as summe
 use Rattle.rules.proofs.CheckedNumbers.{plus-value, plus-out}
 use Rattle.rules.proofs.EntryBytes.{length-blanked}
 use Rattle.rules.proofs.StoredEntries.{clear-all}
-use Rattle.rules.proofs.Areas.{area-length, area-with, only-then}
+use Rattle.rules.proofs.Areas.{area-length, only-then}
+use Rattle.rules.proofs.AreaSteps.{given-area, given-only}
 use Rattle.rules.proofs.InsertLoops.{InsertedAll}
 
 -- ---- the definition: the entries, then the constant
@@ -120,9 +121,8 @@ module _
         let size-w : length w ≡ 65536 = size ∙ area .size in
         let area-w : Area to w = record { size = size-w; among = area .among } in
         let long : length (blanked len (areaOf to w)) ≡ 20480 = length-blanked len (areaOf to w) ∙ area-length area-w in
-        let empty : areaOf to w′ ≡ blanked len (areaOf to w) = ap (areaOf to) is ∙ area-with area-w _ long in
-        let only : OnlyArea to w w′ = is ∙ ap (λ z. withArea to z w) (sym empty) in (
-          only-then area size-w (all .0 .1) only,
+        let empty : areaOf to w′ ≡ blanked len (areaOf to w) = given-area area-w _ long is in (
+          only-then area size-w (all .0 .1) (given-only area-w _ long is),
           λ bk kept kept′ l.
               rw (empty, add-parts turned l)
               (sums-out l _ _ (rw e at (all .1 bk (kept .kept) (kept′ .kept) l)) s (rw is-v at made) out),

@@ -5,8 +5,8 @@ use mathlib.Core.Logic.{_≢_, _⊎_, ⊎-elim, inl, inr}
 use mathlib.Core.List.{[], _∷_, _++_, append-assoc}
 use Prim.Native.Nat.{ℕ, zero, suc, _+_, _*_, _-_, _≤_, _<_}
 use native.Mathlib.Omega.{arith}
-use lib.ListN.{length, getD, take, drop, replicate, length-append, length-drop, length-replicate, take-append-drop}
-use lib.ListN.{replicate-append-replicate, List·getD-append}
+use lib.ListN.{length, getD, take, drop, length-append, length-drop, length-replicate, take-append-drop}
+use lib.ListN.{List·getD-append}
 use lib.Seq.{take-at, drop-at, length-take-le, getD-take, drop-drop}
 use Rattle.terms.specs.Bytes.{Bytes, bytesOf}
 use Rattle.terms.specs.Term.{Term}
@@ -14,6 +14,7 @@ use Rattle.terms.specs.Book.{count, SortsBelow}
 use Rattle.rules.specs.IndexMap.{Map}
 use Rattle.rules.specs.WorkArea.{slots, entryBytes, stored, Good, Held, Ready}
 use Rattle.rules.specs.WorkArea.{Area, areaStart, areaOf, withArea, OnlyArea}
+use Rattle.rules.proofs.Zeros.{zeros, zeros-join}
 
 -- ---- a part of k bytes at a
 
@@ -73,9 +74,6 @@ module _ (a k : ℕ) (w : Bytes) (room : a + k ≤ length w) where
         List·getD-append (take a w) (x ++ drop k (drop a w)) 0 i (omega (arith, front-length))
         ∙ getD-take a w i 0 before
 
-abbrev zeros : ℕ → Bytes
-zeros n = replicate n 0
-
 -- zeros from s on: a part there is of zeros
 part-zeros : (s a k n : ℕ) (w : Bytes) → drop s w ≡ zeros n → a + k ≤ n → part (s + a) k w ≡ zeros k
 part-zeros s a k n w are room =
@@ -85,14 +83,8 @@ part-zeros s a k n w are room =
     rest : ℕ
     rest = n - (a + k)
 
-    sizes : a + (k + rest) ≡ n
-    sizes = omega arith
-
     split : zeros a ++ (zeros k ++ zeros rest) ≡ zeros n
-    split =
-        ap (λ z. zeros a ++ z) (replicate-append-replicate k rest 0)
-        ∙ replicate-append-replicate a (k + rest) 0
-        ∙ ap zeros sizes
+    split = ap (λ z. zeros a ++ z) (zeros-join k rest (k + rest) refl) ∙ zeros-join a (k + rest) n (omega arith)
 
 -- two parts that lie apart
 module _ (a k b : ℕ) (w : Bytes) (room : b + k ≤ length w) (apart : a + k ≤ b) where

@@ -10,32 +10,28 @@ use lib.ListN.{length, drop}
 use Rattle.terms.specs.Rational.{Rational, Proper}
 use Rattle.terms.specs.Bytes.{Bytes}
 use Rattle.terms.specs.Term.{Term, Terms}
-use Rattle.terms.specs.Term.Terms.{nil, _▹_}
+use Rattle.terms.specs.Term.Terms.{_▹_}
 use Rattle.terms.specs.Book.{tree, forest, numbers, arguments, argumentAt}
 use Rattle.rules.specs.Refusal.{Refusal, Result, _>>=_}
 use Rattle.rules.specs.Refusal.Result.{ok, refused}
 use Rattle.rules.specs.Limits.{Limits, limited}
 use Rattle.rules.specs.IndexMap.{Walked, walked}
-use Rattle.rules.specs.LinearComb.{addTerm, addArgs}
+use Rattle.rules.specs.LinearComb.{addTerm}
 use Rattle.rules.specs.WorkArea.{Sum, combOf, KeptSum, Walks}
 use Rattle.rules.specs.LinearNodes.{WalkPre, ArgsPre, addEach}
 use Rattle.rules.specs.declared.linear_comb.Walk.{Walk}
 use Rattle.rules.specs.declared.linear_comb.Walk.the-variants.{Done, Refused}
 use Rattle.rules.proofs.ArgumentsLeft.{left-none, left-next, next-below}
+use Rattle.rules.proofs.Results.{refuses-as}
+use Rattle.rules.proofs.NodeWalks.{args-each}
 use Rattle.rules.proofs.WalkSteps.{done, done-kept, done-is}
 
 -- ---- one argument and the others
 
--- after the first argument all are walked with one coefficient
-each-same : (ts : Terms) (l : Limits) (q : Rational) (w : Walked Term) → addArgs ts l q w ≡ addEach ts l q q w
-unfolding addEach addTerm _>>=_
-each-same nil l q w = refl
-each-same (t ▹ ts) l q w = refl
-
 module _ (t : Term) (ts : Terms) (l : Limits) (p q : Rational) (w : Walked Term) where
   each-after : {w′ : Walked Term} → addTerm t l p w ≡ ok w′ → addEach (t ▹ ts) l p q w ≡ addEach ts l q q w′
   unfolding addEach _>>=_
-  each-after e = rw e (each-same ts l q _)
+  each-after e = rw e (args-each ts l q _)
 
   each-refused : {r : Refusal} → addTerm t l p w ≡ refused r → addEach (t ▹ ts) l p q w ≡ refused r
   unfolding addEach _>>=_
@@ -97,13 +93,11 @@ module _
             Walks b w′ (Refused c) (eachFrom b id (numbers args) limit first others w₀ s v₀)
         walking-refused e =
             let was = rw e at (walks .is) in
-            let r = was .0 in
             let left = rw (left-next args id h is b) at (walking .left) in
-            let same = left ∙ each-refused _ _ _ _ _ _ (r .is) in
             record {
               map = walks .map;
               held = walks .held;
-              is = (record { reason = r .reason; is = same; code = r .code }, was .1);
+              is = (refuses-as (was .0) (λ r f. left ∙ each-refused _ _ _ _ _ _ f), was .1);
             }
 
         pub walking-more :

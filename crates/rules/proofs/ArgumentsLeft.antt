@@ -1,30 +1,26 @@
--- The arguments of a record that are left, from the k-th on: the next one with those behind it, or none.
-use mathlib.Core.Path.{_≡_}
+-- The arguments of a record: how many, and those that are left from the k-th on, the next one with those behind it, or
+-- none.
+use mathlib.Core.Path.{_≡_, _∙_}
 use mathlib.Core.Bool.{true}
-use mathlib.Core.List.{List, [], _∷_}
-use Prim.Native.Nat.{ℕ, zero, suc, _+_, _/_, _≤_, _<_}
+use Prim.Native.Nat.{ℕ, _+_, _/_, _≤_, _<_}
 use native.Mathlib.Numerals.{add-one}
 use native.Mathlib.Omega.{arith}
-use borrow.Author.Tests.{ltb-true, lt-ltb}
-use lib.Dec.{ltb}
+use borrow.Author.Tests.{lt-ltb}
 use lib.ListN.{length, getD, drop, drop-of-length-le}
 use lib.Seq.{drop-cons}
 use Rattle.terms.specs.Bytes.{Bytes}
 use Rattle.terms.specs.Term.{Terms}
 use Rattle.terms.specs.Term.Terms.{nil, _▹_}
 use Rattle.terms.specs.Book.{tree, forest, numbers, arguments, argumentAt, nothing, allBelow}
-use Rattle.terms.proofs.Records.{length-numbers}
-use Rattle.terms.proofs.Truths.{both}
+use Rattle.terms.proofs.Records.{length-numbers, length-arguments}
+use Rattle.rules.proofs.RunParts.{below-at}
+
+pub arguments-count : (i : ℕ) (args : Bytes) → length (arguments i (numbers args)) ≡ length args / 2
+arguments-count i args = length-arguments i (numbers args) ∙ length-numbers args
 
 -- the terms of the arguments from the k-th on
 abbrev pub argsFrom : Bytes → ℕ → Bytes → ℕ → Terms
 argsFrom b id args k = forest (tree b) (arguments id (drop k (numbers args)))
-
-below-at : (i : ℕ) (l : List ℕ) (k d : ℕ) → k < length l → allBelow i l ≡ true → getD l k d < i
-unfolding allBelow
-below-at i [] k d h e = absurd (omega arith)
-below-at i (a ∷ l) zero d h e = ltb-true a i (both (ltb a i) (allBelow i l) e .0)
-below-at i (a ∷ l) (suc k) d h e = below-at i l k d (omega arith) (both (ltb a i) (allBelow i l) e .1)
 
 pub left-none : (b : Bytes) (id : ℕ) (args : Bytes) (k : ℕ) → length args / 2 ≤ k → argsFrom b id args k ≡ nil
 unfolding forest arguments
@@ -45,6 +41,6 @@ module _ (args : Bytes) (id : ℕ) {k x : ℕ} (h : k < length args / 2) (is : x
   unfolding argumentAt
   next-below below =
       let a = getD (numbers args) k nothing in
-      let low : a < id = below-at id (numbers args) k nothing short below in
+      let low : a < id = below-at id (numbers args) k nothing below short in
       let same : x ≡ a = rw (lt-ltb a id low) at is in
       omega arith

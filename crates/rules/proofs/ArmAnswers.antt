@@ -4,7 +4,6 @@ use mathlib.Core.Path.{_≡_, refl, sym, _∙_, ap}
 use mathlib.Core.Bool.{Bool, true, false, _&&_, cond}
 use mathlib.Core.Logic.{_⊎_, inl, inr, ⊎-elim}
 use mathlib.Core.List.{List, [], _∷_}
-use mathlib.Core.Option.{Option, some, none}
 use Prim.Native.Nat.{ℕ, suc, _/_, _^_, _≤_, _<_}
 use native.Mathlib.Nat.{eq-or-lt-of-le}
 use native.Mathlib.Omega.{arith}
@@ -21,7 +20,6 @@ use Rattle.terms.specs.Bytes.{Bytes}
 use Rattle.terms.specs.Operator.{Add, Sub, Mult, RealDiv, ToReal, BvAdd, BvSub, BvNeg, BvMul}
 use Rattle.terms.specs.Term.{Term, Terms, if_then_else_}
 use Rattle.terms.specs.Term.Term.{integer, rational, bitvector, atom, op}
-use Rattle.terms.specs.Term.Terms.{nil}
 use Rattle.terms.specs.Book.{recordOf, kind, field1, field2, isWidth, isVector, numbers, nothing, arguments}
 use Rattle.terms.specs.Book.{argumentAt, forest, tree}
 use Rattle.terms.specs.Readers.{Finds, ranged, asFraction, asBitvector, asOp, operatorOf, argumentsOf}
@@ -35,7 +33,7 @@ use Rattle.terms.proofs.Truths.{both}
 use Rattle.terms.proofs.BookTerms.{recordNumber-tree}
 use Rattle.terms.proofs.Layouts.{width-bounded}
 use Rattle.terms.proofs.Machine.{R}
-use Rattle.terms.proofs.Records.{length-numbers, length-arguments, argument-of-arguments}
+use Rattle.terms.proofs.Records.{argument-of-arguments}
 use Rattle.terms.proofs.RecordReadings.{asBitvector-of, record-node}
 use Rattle.rules.specs.LinearComb.{size}
 use Rattle.rules.specs.Polynomial.{armOf}
@@ -44,6 +42,8 @@ use Rattle.rules.specs.PolynomialNodes.{ArmIs, ArmProper, constantNode, 
 use Rattle.rules.specs.PolynomialNodes.{divisorNode, quotientNode, quotientOf, operationNode, nodeOf}
 use Rattle.rules.specs.declared.polynomial_walk.Arm.{Arm}
 use Rattle.rules.specs.declared.polynomial_walk.Arm.the-variants as arm
+use Rattle.rules.proofs.ArgumentsLeft.{arguments-count}
+use Rattle.rules.proofs.NodeAnswers.{by-operator}
 use Rattle.rules.proofs.CheckedNumbers.{whole-proper}
 use Rattle.rules.proofs.CoefficientDivisors.{small-fits, small-back}
 
@@ -143,16 +143,13 @@ module _ (t : Term) (coeff : Rational) (f : ℕ → Term) where
 module _
     (b : Bytes) (i : ℕ) (coeff : Rational) (args : Bytes)
     (args-are : forest (tree b) (arguments i (numbers args)) ≡ argumentsOf (tree b i)) where
-  sides : length (arguments i (numbers args)) ≡ length args / 2
-  sides = length-arguments i (numbers args) ∙ length-numbers args
-
   of-sides : quotientNode (tree b i) (forest (tree b) (arguments i (numbers args))) coeff ≡ quotientOf (tree b i) coeff
   unfolding quotientOf
   of-sides = rw args-are
 
   pub few-sides :
       {n : Arm} → length args / 2 < 2 → ArmIs n (leafNode (tree b i) coeff) → ArmIs n (quotientOf (tree b i) coeff)
-  few-sides h n = arm-of n (sym (few (tree b i) coeff (tree b) _ (omega (arith, sides))) ∙ of-sides)
+  few-sides h n = arm-of n (sym (few (tree b i) coeff (tree b) _ (omega (arith, arguments-count i args))) ∙ of-sides)
 
   -- y is the divisor, read as r
   module _ (h : 2 ≤ length args / 2) {y : ℕ} (y-is : y ≡ argumentAt args 1 i) {r : Reading}
@@ -160,7 +157,7 @@ module _
     read-node : divisorNode (tree b i) (tree b (argumentAt args 0 i)) r coeff ≡ quotientOf (tree b i) coeff
     read-node =
         rw (f .is, y-is, ← argument-of-arguments i args 0, ← argument-of-arguments i args 1)
-        (sym (many (tree b i) coeff (tree b) _ (omega (arith, sides))) ∙ of-sides)
+        (sym (many (tree b i) coeff (tree b) _ (omega (arith, arguments-count i args))) ∙ of-sides)
 
     at :
         {s : Reading} → r ≡ s →
@@ -208,14 +205,7 @@ OutOfSums o = (o < ToReal) ⊎ (suc BvAdd ≤ o)
 module _ (t : Term) (coeff : Rational) where
   at-operator : (o : ℕ) → operatorOf t ≡ suc o → nodeOf t coeff ≡ operationNode t (suc o) (argumentsOf t) coeff
   unfolding nodeOf
-  at-operator o = go (asOp t)
-    where
-      go :
-          (m : Option (ℕ × Terms)) → elim m [ some p ↦ p .0 | none ↦ 0 ] ≡ suc o →
-          elim m [ some p ↦ operationNode t (p .0) (p .1) coeff | none ↦ leafNode t coeff ]
-          ≡ operationNode t (suc o) (elim m [ some p ↦ p .1 | none ↦ nil ]) coeff
-      go (some p) e = ap (λ (k : ℕ). operationNode t k (p .1) coeff) e
-      go none e = absurd (omega arith)
+  at-operator o = by-operator (λ k ts. operationNode t k ts coeff) (leafNode t coeff) o (asOp t)
 
   pub sum-node : operatorOf t ≡ Add → Proper coeff → ArmIs (arm.Args coeff coeff) (nodeOf t coeff)
   unfolding operationNode armOf if_then_else_

@@ -11,26 +11,21 @@ use native.Mathlib.Omega.{arith}
 use borrow.Author.Tests.{lt-ltb, le-ltb, ltb-true, ltb-false}
 use lib.Dec.{ltb}
 use lib.ListN.{length, getD, set, take, drop, replicate}
-use lib.ListN.{length-append, take-append-drop, replicate-append-replicate}
+use lib.ListN.{length-append, take-append-drop}
 use lib.Seq.{append-snoc, length-take-le}
 use Rattle.terms.specs.Bytes.{Bytes, le, put, bytesOf}
 use Rattle.terms.specs.Term.{Term, recordNumber}
 use Rattle.terms.proofs.LittleEndian.{length-put}
 use Rattle.rules.specs.Polynomial.{Monomial, place, joined}
 use Rattle.rules.specs.PolynomialArea.{atomBytes, monomialBytes, firstAbove, Atom, Atoms, Key}
+use Rattle.rules.proofs.Zeros.{zeros-join}
+use Rattle.rules.proofs.MonomialBytes.{length-atoms}
 use Rattle.rules.proofs.NumberBytes.{length-bytesOf, put-at, le-at}
 
 -- ---- atoms in bytes
 
 small : {b : Bytes} {t : Term} → Atom b t → recordNumber t < 65536
 small a = omega (arith, a .inside)
-
-length-atoms : (m : Monomial) → length (atomBytes m) ≡ 2 * length m
-unfolding atomBytes
-length-atoms [] = refl
-length-atoms (t ∷ m) =
-    let long = length-append (bytesOf 2 (recordNumber t)) (atomBytes m) in
-    omega (arith, long, length-bytesOf 2 (recordNumber t), length-atoms m)
 
 atoms-append : (m n : Monomial) → atomBytes (m ++ n) ≡ atomBytes m ++ atomBytes n
 unfolding atomBytes
@@ -253,16 +248,12 @@ pub record Shifted (w₀ : Bytes) (at : ℕ) (w : Bytes) (k : ℕ) : Type 0 wher
       (b : Bytes) (m : Monomial) → Key b w₀ m → length m < 8 → (f s : Monomial) → m ≡ f ++ s → length f ≡ k →
       Gap w (length m) f s
 
-more-zeros : (n : ℕ) → _≡_ {A = Bytes} (replicate (2 + n) 0) (replicate 2 0 ++ replicate n 0)
-more-zeros n = sym (replicate-append-replicate 2 n 0)
-
 -- a gap behind all atoms
 gap-end : {b w : Bytes} {m : Monomial} → Key b w m → length m < 8 → Gap w (length m) m []
 unfolding monomialBytes atomBytes
 gap-end {m} h room =
-    let more : 2 * (8 - length m) ≡ 2 + 2 * (7 - length m) = omega arith in
     let cut : replicate (2 * (8 - length m)) 0 ≡ replicate 2 0 ++ zeros (length m) =
-    rw more (more-zeros (2 * (7 - length m))) in
+    sym (zeros-join 2 (2 * (7 - length m)) (2 * (8 - length m)) (omega arith)) in
     record { gap = replicate 2 0; two = refl; bytes = h .bytes ∙ ap (λ (l : Bytes). front (length m) m ++ l) cut }
 
 -- an atom goes up, and the gap down

@@ -8,6 +8,7 @@ use native.Mathlib.Nat.{le-of-dvd, le-trans, zero-lt-suc}
 use native.Mathlib.Omega.{arith}
 use borrow.Author.Tests.{eq-eqb, ne-eqb, ltb-true, ltb-false, le-leb, lt-leb}
 use lib.Dec.{eqb}
+use lib.ListN.{drop}
 use lib.IntN.{ℤ, pos, negsuc, natAbs}
 use lib.Signed.{ltZ}
 use mir.Syntax.{w64}
@@ -22,7 +23,7 @@ use Rattle.terms.proofs.Machine.{R, arg, exact-fits, eqb-ofZ}
 use Rattle.rules.specs.IndexMap.{Map}
 use Rattle.rules.specs.LinearComb.{gcdFrom, coefficientsGcd}
 use Rattle.rules.specs.WorkArea.{Sum, entriesOf, combOf, Kept}
-use Rattle.rules.proofs.EntryLoops.{Loop, begin, at, pass, over}
+use Rattle.rules.proofs.EntryPlaces.{kept-at, all-behind}
 use Rattle.rules.proofs.CheckedNumbers.{whole-proper}
 
 -- ---- the definition
@@ -68,12 +69,19 @@ pub record Dividing (w : Bytes) (n : ℕ) (s : ℤ) (bits k : ℕ) : Type 0 wher
   pub divisor : ℤ
   pub same : bits ≡ ofZ w64 divisor
   pub range : natAbs divisor ≤ limit
-  pub loop : Loop (λ b d r. gcdFrom s (entriesOf b w n) ≡ gcdFrom divisor r) w n w k
+  pub inside : k ≤ n
+  pub left : (b : Bytes) → Kept b w n → gcdFrom s (entriesOf b w n) ≡ gcdFrom divisor (drop k (entriesOf b w n))
 
 pub dividing-none : (w : Bytes) (n : ℕ) (s : ℤ) → natAbs s ≤ limit → Dividing w n (R s) (ofZ w64 s) 0
 dividing-none w n s h =
     let e : R s ≡ s = small-back s h in
-    record { divisor = R s; same = ap (ofZ w64) (sym e); range = rw e h; loop = begin (λ b. refl) }
+    record {
+      divisor = R s;
+      same = ap (ofZ w64) (sym e);
+      range = rw e h;
+      inside = omega arith;
+      left = λ b kept. refl;
+    }
 
 -- the machine's start is s
 pub from-start :
@@ -99,12 +107,23 @@ module _ {w : Bytes} {n : ℕ} {s : ℤ} {bits k : ℕ} (dividing : Dividing w n
       let e = is ∙ ap₂ gcd l r in
       (e, rw e (gcd-le _ _ limit (dividing .range) (proper .numerator)))
 
+  -- v is the value of entry k
+  left-at :
+      (below : k < n) {v : Rational} → v ≡ numberAt w (10 * k + 2) → (b : Bytes) (kept : Kept b w n) →
+      gcdFrom s (entriesOf b w n)
+      ≡ gcdFrom (dividing .divisor) ((kept-at kept k below .entry .0, v) ∷ drop (k + 1) (entriesOf b w n))
+  left-at below {v} is b kept =
+      let at = kept-at kept k below in
+      let value : at .entry .1 ≡ v = sym (is ∙ at .value) in
+      dividing .left b kept
+      ∙ ap (gcdFrom (dividing .divisor))
+      (at .here ∙ ap (λ q. (at .entry .0, q) ∷ drop (k + 1) (entriesOf b w n)) value)
+
   pub divided-one : k < n → bits ≡ 1 → DivisorFrom w n s (pos 1)
   divided-one below one = (
     whole-proper (pos 1) (omega arith),
     λ b kept.
-        let x = at (dividing .loop) below refl b kept in
-        sym (x .stands ∙ stops-at-one _ _ _ (sym tested ∙ eq-eqb bits 1 one)),
+        sym (left-at below refl b kept ∙ stops-at-one _ _ _ (sym tested ∙ eq-eqb bits 1 one)),
   )
 
   module _ (below : k < n) {v : Rational} (is : v ≡ numberAt w (10 * k + 2)) (other : bits ≡ 1 → ⊥) where
@@ -116,19 +135,18 @@ module _ {w : Bytes} {n : ℕ} {s : ℤ} {bits k : ℕ} (dividing : Dividing w n
           divisor = pos d;
           same = refl;
           range = next .1;
-          loop =
-              pass (dividing .loop) below is
-              (λ b done t r h.
-              h ∙ goes-on _ (t, v) r (sym tested ∙ ne-eqb bits 1 other) integer
-              ∙ ap (λ z. gcdFrom (pos z) r) (sym (next .0)));
+          inside = omega arith;
+          left = λ b kept.
+              left-at below is b kept
+              ∙ goes-on _ _ _ (sym tested ∙ ne-eqb bits 1 other) integer
+              ∙ ap (λ z. gcdFrom (pos z) (drop (k + 1) (entriesOf b w n))) (sym (next .0));
         }
 
     pub divided-fraction : isInteger v ≡ false → DivisorFrom w n s (pos 1)
     divided-fraction fraction = (
       whole-proper (pos 1) (omega arith),
       λ b kept.
-          let x = at (dividing .loop) below is b kept in
-          sym (x .stands ∙ stops-at-fraction _ _ _ (sym tested ∙ ne-eqb bits 1 other) fraction),
+          sym (left-at below is b kept ∙ stops-at-fraction _ _ _ (sym tested ∙ ne-eqb bits 1 other) fraction),
     )
 
   module _ (above : n ≤ k) where
@@ -136,7 +154,9 @@ module _ {w : Bytes} {n : ℕ} {s : ℤ} {bits k : ℕ} (dividing : Dividing w n
         (t : Bool) → ltZ (toZ w64 bits) (pos 1) ≡ t → (b : Bytes) → Kept b w n →
         gcdFrom s (entriesOf b w n) ≡ elim t as (λ x. ℤ) [ true ↦ pos 1 | false ↦ dividing .divisor ]
     at-end t e b kept =
-        over (dividing .loop) above b kept .stands ∙ at-the-end (dividing .divisor) t (rw back at e)
+        dividing .left b kept
+        ∙ ap (gcdFrom (dividing .divisor)) (all-behind {k = k} kept above)
+        ∙ at-the-end (dividing .divisor) t (rw back at e)
 
     pub divided-low : ltZ (toZ w64 bits) (pos 1) ≡ true → DivisorFrom w n s (pos 1)
     divided-low e = (whole-proper (pos 1) (omega arith), λ b kept. sym (at-end true e b kept))

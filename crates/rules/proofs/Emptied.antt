@@ -10,11 +10,11 @@ use Rattle.terms.specs.Rational.{Proper}
 use Rattle.terms.specs.Bytes.{Bytes}
 use Rattle.terms.specs.Term.{Term}
 use Rattle.rules.specs.IndexMap.{Map}
-use Rattle.rules.specs.WorkArea.{slots, stored, areaOf, withArea, OnlyArea, Area, Held, Ready, blanked}
+use Rattle.rules.specs.WorkArea.{slots, stored, areaOf, withArea, OnlyArea, Area, Held, Kept, Ready, blanked}
 use Rattle.rules.specs.LinearSteps.{Between, Folding}
 use Rattle.rules.specs.declared.linear_arithmetic.Progress as by-value
-use Rattle.rules.proofs.StoredEntries.{clear-all}
-use Rattle.rules.proofs.Areas.{stored-length, with-same, with-with, empty-held, ready-area}
+use Rattle.rules.proofs.Areas.{with-same, only-then, empty-held, ready-area}
+use Rattle.rules.proofs.AreaSteps.{held-length, only-area, emptied-held, emptied-only}
 
 module _ {b w₀ : Bytes} (ready : Ready b w₀) where
   pub ready-between : Between b w₀
@@ -54,10 +54,7 @@ module _ {b w₀ : Bytes} (ready : Ready b w₀) where
     pub cleared :
         {w w′ : Bytes} {m : Map Term} → OnlyArea j w₀ w → Held b (areaOf j w) m → (n : ℕ) → n ≡ length m →
         w′ ≡ withArea j (blanked n (areaOf j w)) w → w′ ≡ w₀
-    cleared {w} {w′} {m} only held n size e =
-        e
-        ∙ ap (λ x. withArea j x w) (ap (λ z. blanked z (areaOf j w)) size ∙ clear-all m held .bytes)
-        ∙ ap (withArea j (stored slots [])) only
-        ∙ with-with area (areaOf j w) (ap length (held .bytes) ∙ stored-length m) (stored slots [])
-        ∙ ap (λ x. withArea j x w₀) (sym (ready-area ready j among))
-        ∙ with-same area
+    cleared {w} {m = m} only held n size e =
+        let now = only-area area (held-length held) only in
+        let kept : Kept b (areaOf j w) n = record { map = m; held = held; size = size } in
+        emptied (only-then area (now .size) only (emptied-only now kept e)) (emptied-held now kept e .bytes)

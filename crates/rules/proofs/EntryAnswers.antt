@@ -17,7 +17,7 @@ use Rattle.rules.specs.PolynomialArea.{keyAt, Key, partAt, Towers, Enter
 use Rattle.rules.specs.declared.monomials.Entered.{Entered}
 use Rattle.rules.specs.declared.monomials.Entered.the-variants.{Length, Refused}
 use Rattle.rules.proofs.TowerAreas.{tower-part}
-use Rattle.rules.proofs.EntryTurns.{refused-then}
+use Rattle.rules.proofs.Refusals.{refuses, refuses-then}
 use Rattle.rules.proofs.ProductEntries.{ClearSays, InsertSays, ProductSays, EachSays, EntrySays, ScaledSays}
 use Rattle.rules.proofs.ProductEntries.{key-there, value-there}
 use Rattle.rules.proofs.ProductEntries.{scaled-out, scaled-value, product-long, product-out, product-value}
@@ -32,8 +32,7 @@ entered-as {b} {w} {ms} {j} {r} e made = subst (EntersAt b w ms j r) (sym e) mad
 entered-none :
     {b w : Bytes} {ms : List (Map Monomial)} {j : ℕ} (reason : Refusal) {d : Result (Map Monomial)} →
     d ≡ refused reason → Towers b w (set ms j []) → EntersAt b w ms j (Refused (number reason)) d
-entered-none reason e tower =
-    record { map = []; held = tower; is = (record { reason = reason; is = e; code = refl }, refl) }
+entered-none reason e tower = record { map = []; held = tower; is = (refuses reason e, refl) }
 
 -- ---- what is read of entry k of area j: its monomial's bytes x and its coefficient c
 
@@ -48,16 +47,8 @@ read-at w j k is key is′ value =
     record { key = key ∙ ap (λ z. keyAt z k) is; value = value .is ∙ ap (λ z. numberAt z (25 * k + 17)) is′ }
 
 module _
-    {w : Bytes}
-    {j k : ℕ}
-    {x : Bytes}
-    {c : Rational}
-    (read : ReadAt w j k x c)
-    {b : Bytes}
-    {ms : List (Map Monomial)}
-    (tower : Towers b w ms)
-    (inside : j < length ms)
-    (h : k < length (getD ms j [])) where
+    {w : Bytes} {j k : ℕ} {x : Bytes} {c : Rational} (read : ReadAt w j k x c) {b : Bytes} {ms : List (Map Monomial)}
+    (tower : Towers b w ms) (inside : j < length ms) (h : k < length (getD ms j [])) where
   key-read : Key b x (getD (getD ms j []) k noEntry .0)
   key-read = rw (read .key) (key-there (getD ms j []) (tower-part tower j inside) k h)
 
@@ -67,13 +58,7 @@ module _
 -- ---- enter_scaled
 
 module _
-    {w : Bytes}
-    {j k : ℕ}
-    {x : Bytes}
-    {c : Rational}
-    (read : ReadAt w j k x c)
-    (q : Rational)
-    {t m : ℕ}
+    {w : Bytes} {j k : ℕ} {x : Bytes} {c : Rational} (read : ReadAt w j k x c) (q : Rational) {t m : ℕ}
     {w′ : Bytes} where
   pub enter-scaled-out :
       checked (mulQ c q) ≡ answer.OutOfRange → ClearSays w t m w′ → ScaledSays w j k q t m w′ (Refused 11)
@@ -90,14 +75,7 @@ module _
 -- ---- enter_product: a monomial x of the left and its coefficient c
 
 module _
-    {w : Bytes}
-    {k : ℕ}
-    {other : Bytes}
-    {d : Rational}
-    (read : ReadAt w 1 k other d)
-    (x : Bytes)
-    (c : Rational)
-    {m : ℕ}
+    {w : Bytes} {k : ℕ} {other : Bytes} {d : Rational} (read : ReadAt w 1 k other d) (x : Bytes) (c : Rational) {m : ℕ}
     {w′ : Bytes} where
   pub product-too-long :
       8 < getD x 0 0 + getD other 0 0 → ClearSays w 2 m w′ → ProductSays w x c k m w′ (Refused 12)
@@ -127,16 +105,8 @@ module _
 -- ---- mul_entry: entry k of the left against each of the right, which leaves the bytes w1, then against the constant
 
 module _
-    {w : Bytes}
-    {k : ℕ}
-    {x : Bytes}
-    {c : Rational}
-    (read : ReadAt w 0 k x c)
-    {n m : ℕ}
-    (constant : Rational)
-    {w1 : Bytes}
-    {r : Entered}
-    (each : EachSays w x c n m w1 r) where
+    {w : Bytes} {k : ℕ} {x : Bytes} {c : Rational} (read : ReadAt w 0 k x c) {n m : ℕ} (constant : Rational)
+    {w1 : Bytes} {r : Entered} (each : EachSays w x c n m w1 r) where
   pub entry-refused : {code : ℕ} → r ≡ Refused code → EntrySays w k n constant m w1 (Refused code)
   unfolding mulEntry
   entry-refused e b p q s tower h right size l =
@@ -144,7 +114,7 @@ module _
       record {
         map = made .map;
         held = made .held;
-        is = (refused-then _ (rw (value-read read tower (omega arith) h) at (made .is .0)), made .is .1);
+        is = (refuses-then _ (rw (value-read read tower (omega arith) h) at (made .is .0)), made .is .1);
       }
 
   module _ {len : ℕ} (e : r ≡ Length len) {w2 : Bytes} where

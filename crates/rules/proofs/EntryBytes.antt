@@ -6,13 +6,14 @@ use Prim.Native.Nat.{ℕ, zero, suc, _+_, _*_, _≤_, _<_}
 use native.Mathlib.Numerals.{add-one}
 use native.Mathlib.Omega.{arith}
 use lib.ListN.{length, take, drop, replicate, length-append, length-take, length-drop, length-replicate}
-use lib.ListN.{take-append-drop, replicate-append-replicate}
+use lib.ListN.{take-append-drop}
 use Rattle.terms.specs.Rational.{Rational, Proper}
 use Rattle.terms.specs.Bytes.{Bytes, le, put, bytesOf, complement, numberAt, putNumber}
 use Rattle.terms.proofs.LittleEndian.{length-put}
 use Rattle.terms.proofs.StoredNumbers.{length-putNumber}
 use Rattle.rules.specs.WorkArea.{putEntry, blank, blanked}
-use Rattle.rules.proofs.NumberBytes.{length-bytesOf, put-at, le-at, parts, length-parts, number-at, number-back}
+use Rattle.rules.proofs.Zeros.{zeros-join, zeros-behind}
+use Rattle.rules.proofs.NumberBytes.{length-bytesOf, put-at, le-at, parts, number-at, number-back}
 
 -- ---- the ten bytes of an entry
 
@@ -66,22 +67,7 @@ blank-cell = refl
 -- the zeros of one place more
 pub one-more : (n : ℕ) → cell 0 blank ++ replicate (10 * n) 0 ≡ replicate (10 * suc n) 0
 one-more n =
-    let size : 10 + 10 * n ≡ 10 * suc n = omega arith in
-    ap (λ (l : Bytes). l ++ replicate (10 * n) 0) blank-cell
-    ∙ replicate-append-replicate 10 (10 * n) 0
-    ∙ ap (λ (k : ℕ). replicate k 0) size
-
-one-more-behind : (n : ℕ) (r : Bytes) → replicate (10 * n) 0 ++ (cell 0 blank ++ r) ≡ replicate (10 * suc n) 0 ++ r
-one-more-behind n r = go (cell 0 blank) 10 blank-cell (omega arith)
-  where
-    go :
-        (x : Bytes) (k : ℕ) → x ≡ replicate k 0 → 10 * n + k ≡ 10 * suc n →
-        replicate (10 * n) 0 ++ (x ++ r) ≡ replicate (10 * suc n) 0 ++ r
-    go x k zeros size =
-        sym (append-assoc (replicate (10 * n) 0) x r)
-        ∙ ap (λ (l : Bytes). (replicate (10 * n) 0 ++ l) ++ r) zeros
-        ∙ ap (λ (l : Bytes). l ++ r) (replicate-append-replicate (10 * n) k 0)
-        ∙ ap (λ (i : ℕ). replicate i 0 ++ r) size
+    ap (λ (l : Bytes). l ++ replicate (10 * n) 0) blank-cell ∙ zeros-join 10 (10 * n) (10 * suc n) (omega arith)
 
 pub blanked-front : (k : ℕ) (x r : Bytes) → length x ≡ 10 * k → blanked k (x ++ r) ≡ replicate (10 * k) 0 ++ r
 unfolding blanked
@@ -96,7 +82,7 @@ blanked-front (suc k) x r h =
     ap (λ (l : Bytes). putEntry (blanked k l) k 0 blank) split
     ∙ ap (λ (l : Bytes). putEntry l k 0 blank) (blanked-front k (take (10 * k) x) (drop (10 * k) x ++ r) front)
     ∙ entry-at (replicate (10 * k) 0) k (length-replicate (10 * k) 0) 0 blank r (drop (10 * k) x) last
-    ∙ one-more-behind k r
+    ∙ zeros-behind (10 * k) 10 (10 * suc k) (omega arith) (cell 0 blank) r blank-cell
 
 -- ---- the function `clear`
 

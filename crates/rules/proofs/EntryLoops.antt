@@ -1,9 +1,9 @@
--- Loops over the n entries of an area, for every book of which the bytes hold a map at the start. Before entry k the
--- map is in two parts, the entries that are passed and those that are left, and P says what they have to do with the
--- definition's result.
+-- Loops that write the n entries of an area, for every book of which the bytes hold a map at the start. (A loop that
+-- only reads them goes by EntryPlaces.) Before entry k the map is in two parts, the entries that are passed and those
+-- that are left, and P says what they have to do with the definition's result.
 --     Turn, Next, Over       before entry k, with the entry that is next, and at the end
 --     Loop       the invariant, for every book
---     begin, at, pass, put       at the start, at an entry, past it as it is, past it written
+--     begin, at, put       at the start, at an entry, past it written
 --     over, cleared       at the end, after all is blanked
 use mathlib.Core.Path.{_≡_, refl, sym, _∙_, ap}
 use mathlib.Core.List.{[], _∷_, _++_, append-nil}
@@ -93,8 +93,8 @@ module _ {P : Map Term → Map Term → Type 0} {b w : Bytes} {n k : ℕ} where
   module _ {v : Rational} (x : Next P b w n k v) where
     -- the entry is passed, and has the value q
     after :
-        {Q : Map Term → Map Term → Type 0} {w′ : Bytes} (q : Rational) → Held b w′ (x .done ++ (x .term, q) ∷ x .rest) →
-        Q (x .done ++ (x .term, q) ∷ []) (x .rest) → Turn Q b w′ n (k + 1)
+        {w′ : Bytes} (q : Rational) → Held b w′ (x .done ++ (x .term, q) ∷ x .rest) →
+        P (x .done ++ (x .term, q) ∷ []) (x .rest) → Turn P b w′ n (k + 1)
     after q held stands =
         let e : x .done ++ ((x .term, q) ∷ []) ++ x .rest ≡ x .done ++ (x .term, q) ∷ x .rest =
         append-snoc (x .done) (x .term, q) (x .rest) in
@@ -141,19 +141,6 @@ module _ {P : Progress} {w₀ : Bytes} {n : ℕ} {w : Bytes} {k : ℕ} (loop : L
   module _ (below : k < n) {v : Rational} (is : v ≡ numberAt w (10 * k + 2)) where
     pub at : (b : Bytes) → Kept b w₀ n → Next (P b) b w n k v
     at b kept = next (loop .turn b kept) below v is
-
-    pub pass :
-        {Q : Progress} →
-        ((b : Bytes) (d : Map Term) (t : Term) (r : Map Term) → P b d ((t, v) ∷ r) → Q b (d ++ (t, v) ∷ []) r) →
-        Loop Q w₀ n w (k + 1)
-    pass step =
-        record {
-          inside = omega arith;
-          size = loop .size;
-          turn = λ b kept.
-              let x = at b kept in
-              after x v (x .held) (step b (x .done) (x .term) (x .rest) (x .stands));
-        }
 
     pub put :
         {key : ℕ} {q : Rational} {w′ : Bytes} → key ≡ le 2 w (10 * k) → Proper q → w′ ≡ putEntry w k key q →

@@ -12,7 +12,8 @@ use Rattle.terms.specs.Bytes.{Bytes, le, numberAt}
 use Rattle.terms.specs.Term.{Term, recordNumber}
 use Rattle.terms.specs.Book.{count, tree}
 use Rattle.rules.specs.IndexMap.{Map}
-use Rattle.rules.specs.WorkArea.{blank, entriesOf, Entry, Good, Held, Kept}
+use Rattle.rules.specs.WorkArea.{blank, entriesOf, Entry, Held, Kept}
+use Rattle.rules.proofs.MapKeys.{taken-out}
 use Rattle.rules.proofs.StoredEntries.{kept-entries, read-key, read-value}
 
 pub record EntryAt (b x : Bytes) (m : Map Term) (k : ℕ) : Type 0 where
@@ -23,11 +24,6 @@ pub record EntryAt (b x : Bytes) (m : Map Term) (k : ℕ) : Type 0 where
   pub inside : recordNumber (entry .0) < count b
   pub term : entry .0 ≡ tree b (recordNumber (entry .0))
 
-good-behind : {b : Bytes} (p : Map Term) (e : Term × Rational) (s : Map Term) → Good b (p ++ e ∷ s) → Entry b e s
-unfolding Good
-good-behind [] e s g = g .0
-good-behind (f ∷ p) e s g = good-behind p e s (g .1)
-
 held-at : {b x : Bytes} (m : Map Term) → Held b x m → (k : ℕ) → k < length m → EntryAt b x m k
 held-at {b} {x} m held k h =
     let none : Term × Rational = (tree b 0, blank) in
@@ -36,7 +32,7 @@ held-at {b} {x} m held k h =
     let s : Map Term = drop (suc k) m in
     let split : Held b x (p ++ e ∷ s) = subst (λ z. Held b x z) (split-at m k none h) held in
     let size : length p ≡ k = length-take-le k m (omega arith) in
-    let known : Entry b e s = good-behind p e s (split .good) in
+    let known : Entry b e (p ++ s) = taken-out e s p (split .good) .0 in
     record {
       entry = e;
       here = rw add-one (drop-cons m k none h);

@@ -11,13 +11,14 @@ use lib.Seq.{drop-cons, set-set}
 use Rattle.terms.specs.Rational.{Rational}
 use Rattle.terms.specs.Bytes.{Bytes}
 use Rattle.rules.specs.Refusal.{Result, _>>=_}
-use Rattle.rules.specs.Refusal.Result.{ok, refused}
+use Rattle.rules.specs.Refusal.Result.{ok}
 use Rattle.rules.specs.IndexMap.{Map}
 use Rattle.rules.specs.Polynomial.{Monomial}
 use Rattle.rules.specs.PolynomialArea.{places, Towers, EntersAt, Few, noEntry}
 use Rattle.rules.specs.WorkArea.{Refuses}
 use Rattle.rules.specs.declared.monomials.Entered.{Entered}
 use Rattle.rules.specs.declared.monomials.Entered.the-variants.{Length, Refused}
+use Rattle.rules.proofs.Refusals.{refuses-then}
 
 abbrev pub Turn : Type 0
 Turn = Monomial × Rational → Map Monomial → Result (Map Monomial)
@@ -26,24 +27,6 @@ Turn = Monomial × Rational → Map Monomial → Result (Map Monomial)
 unfoldable pub turns : Turn → Map Monomial → Map Monomial → Result (Map Monomial)
 turns f [] m = ok m
 turns f (e ∷ r) m = f e m >>= turns f r
-
-pub refused-then :
-    {A B : Type 0} {c : ℕ} {d : Result A} (f : A → Result B) → Refuses c d → Refuses c (d >>= f)
-unfolding _>>=_
-refused-then f r = record { reason = r .reason; is = rw (r .is); code = r .code }
-
-pub bind-assoc :
-    {A B C : Type 0} (d : Result A) (f : A → Result B) (g : B → Result C) →
-    ((d >>= f) >>= g) ≡ (d >>= λ a. f a >>= g)
-unfolding _>>=_
-bind-assoc (ok a) f g = refl
-bind-assoc (refused r) f g = refl
-
-pub bind-same :
-    {A B : Type 0} (d : Result A) {f g : A → Result B} → ((a : A) → f a ≡ g a) → (d >>= f) ≡ (d >>= g)
-unfolding _>>=_
-bind-same (ok a) h = h a
-bind-same (refused r) h = refl
 
 -- all entries are to be worked into an area of a tower
 pub record Task : Type 0 where
@@ -103,7 +86,7 @@ module _ {t : Task} {w : Bytes} {len k : ℕ} (left : Left t w len k) where
       record {
         map = made .map;
         held = at-once (made .map) (made .held);
-        is = (subst (Refuses c) (next h) (refused-then _ (made .is .0)), made .is .1);
+        is = (subst (Refuses c) (next h) (refuses-then _ (made .is .0)), made .is .1);
       }
 
   left-none : length (t .all) ≤ k → Does t w (Length len)

@@ -1,6 +1,6 @@
 -- The fold over the literals in the work area. The sum so far is in area 0, and the areas of a literal's two sides are
 -- empty between the literals (`Between`); that only area 0 changes keeps them so.
---     kept-sum, sum-entries, progress-left, between-only       what a function leaves in area 0
+--     progress-left, between-only       what a function leaves in area 0
 --     Given, FoldedSoFar, so-far-begin, so-far-length, so-far-end       the loop of `fold_literals`
 --     Taken, phi-below, step-refused, step-inferred, step-again       one turn of it
 use mathlib.Core.Path.{_≡_, refl, sym, ap, subst, _∙_}
@@ -18,7 +18,7 @@ use Rattle.rules.specs.Refusal.Result.{ok}
 use Rattle.rules.specs.Limits.{Limits, limited}
 use Rattle.rules.specs.IndexMap.{Map}
 use Rattle.rules.specs.LinearArithmetic.{Clause, Progress, processDisequality, readArgs}
-use Rattle.rules.specs.WorkArea.{Sum, entriesOf, areaOf, withArea, OnlyArea, Area, Held, KeptSum, CoefficientIs}
+use Rattle.rules.specs.WorkArea.{areaOf, OnlyArea, Area, Held, CoefficientIs}
 use Rattle.rules.specs.LinearSteps.{numbersIn, termsIn, Inside, SumHas, givenOf, progressOf, progressWith, at}
 use Rattle.rules.specs.LinearSteps.{ProcessedIs, ProcessedLeft, foldSome, FoldedLeft, FoldedKeeps}
 use Rattle.rules.specs.LinearSteps.{Between, Folding}
@@ -29,19 +29,13 @@ use Rattle.rules.specs.declared.linear_arithmetic.Processed.the-variants
 use Rattle.rules.specs.declared.linear_arithmetic.Folded.{Folded}
 use Rattle.rules.specs.declared.linear_arithmetic.Folded.the-variants as folded
 use Rattle.rules.specs.declared.linear_arithmetic.Progress as by-value
-use Rattle.rules.proofs.StoredEntries.{kept-entries}
-use Rattle.rules.proofs.Areas.{stored-length, with-length, area-other, sorts-with, only-then, only-none}
+use Rattle.rules.proofs.Areas.{only-then, only-none}
+use Rattle.rules.proofs.AreaSteps.{held-length, kept-sum, sum-entries, only-area, only-sorts, only-other}
+use Rattle.rules.proofs.Results.{refuses-as}
 use Rattle.rules.proofs.RunParts.{length-numbersIn, named-cons, named-past, below-at}
 use Rattle.rules.proofs.FoldedSteps.{some-refused, some-inferred, some-again}
 
 -- ---- what a function leaves in area 0
-
-pub kept-sum : {b w : Bytes} {m : Map Term} {s : Sum} → Held b w m → SumHas s m → KeptSum b w s
-kept-sum {m} h has = record { kept = record { map = m; held = h; size = has .size }; proper = has .proper }
-
-pub sum-entries : {b w : Bytes} {m : Map Term} {s : Sum} → Held b w m → SumHas s m → entriesOf b w (s .len) ≡ m
-unfolding kept-sum
-sum-entries h has = kept-entries (kept-sum h has .kept)
 
 -- the progress by value, with the bytes that are left, is the progress with the entries
 pub progress-left :
@@ -49,21 +43,18 @@ pub progress-left :
     progressWith p m [] ≡ progressOf b w p
 progress-left w p h has = ap (λ z. progressWith p z []) (sym (sum-entries h has))
 
-between-with : {b w : Bytes} → Between b w → (x : Bytes) → length x ≡ 20480 → Between b (withArea 0 x w)
-between-with {b} {w} between x long =
-    let area : Area 0 w = record { size = between .size; among = omega arith } in
-    record {
-      laid = between .laid;
-      sorts = sorts-with area x long (between .sorts);
-      size = with-length area x long;
-      left = area-other area x long {i = 1} (omega arith) (λ e. omega arith) ∙ between .left;
-      right = area-other area x long {i = 2} (omega arith) (λ e. omega arith) ∙ between .right;
-    }
-
 pub between-only :
     {b w w′ : Bytes} {m : Map Term} → Between b w → Held b (areaOf 0 w′) m → OnlyArea 0 w w′ → Between b w′
-between-only {b} {w} {w′} {m} between held only =
-    subst (Between b) (sym only) (between-with between (areaOf 0 w′) (ap length (held .bytes) ∙ stored-length m))
+between-only {w = w} between held only =
+    let area : Area 0 w = record { size = between .size; among = omega arith } in
+    let long = held-length held in
+    record {
+      laid = between .laid;
+      sorts = only-sorts area long only (between .sorts);
+      size = only-area area long only .size;
+      left = only-other area long only {i = 1} (omega arith) (λ e. omega arith) ∙ between .left;
+      right = only-other area long only {i = 2} (omega arith) (λ e. omega arith) ∙ between .right;
+    }
 
 -- ---- the loop of `fold_literals`
 
@@ -170,7 +161,7 @@ module _ {g : Given} {p : by-value.Progress} {w : Bytes} {q : by-value.Progress}
       FoldedSoFar g p w q k → k < length (g .literals) / 4 → {phi : ℕ} → phi ≡ getD (numbersIn (g .literals)) k 0 →
       phi < count (g .book)
   phi-below far h phi-is =
-      rw phi-is (below-at _ (numbersIn (g .literals)) k (far .named) (rw (length-numbersIn (g .literals)) h))
+      rw phi-is (below-at _ (numbersIn (g .literals)) k 0 (far .named) (rw (length-numbersIn (g .literals)) h))
 
   module _ (far : FoldedSoFar g p w q k) {w′ : Bytes} {r : Processed} (taken : Taken g w q k w′ r) where
     reached :
@@ -200,13 +191,10 @@ module _ {g : Given} {p : by-value.Progress} {w : Bytes} {q : by-value.Progress}
                 held = taken .left .held;
                 only = now-only;
                 is = (
-                  record {
-                    reason = is .0 .reason;
-                    is =
-                        reached qs all
-                        ∙ some-refused (limitsOf g) _ refl _ _ qs k (taken .arg) (taken .arg-is _ qs all) _ (is .0 .is);
-                    code = is .0 .code;
-                  },
+                  refuses-as (is .0)
+                      (λ d f.
+                      reached qs all
+                      ∙ some-refused (limitsOf g) _ refl _ _ qs k (taken .arg) (taken .arg-is _ qs all) d f),
                   is .1,
                 );
               },

@@ -24,6 +24,7 @@ use Rattle.rules.specs.WorkArea.{CoefficientIs}
 use Rattle.rules.specs.LinearSteps.{foldSome, at, givenOf}
 use Rattle.rules.specs.declared.index_map.Coefficient.{Coefficient}
 use Rattle.rules.specs.declared.index_map.Coefficient.the-variants.{Of, Missing}
+use Rattle.rules.proofs.Results.{next, ends, bind-same, bind-assoc}
 use Rattle.rules.proofs.Yields.{Yields, gives, at-ok, and-then, past, through}
 
 -- ---- along `>>=`
@@ -32,35 +33,20 @@ use Rattle.rules.proofs.Yields.{Yields, gives, at-ok, and-then, past, t
 bind-apart :
     {A B C : Type 0} (x : Result A) (f : A → Result C) (g : A → Result B) (h : B → Result C) →
     ((a : A) → f a ≡ (g a >>= h)) → (x >>= f) ≡ ((x >>= g) >>= h)
-unfolding _>>=_
-bind-apart (ok a) f g h e = e a
-bind-apart (refused r) f g h e = refl
+bind-apart x f g h e = bind-same x e ∙ sym (bind-assoc x g h)
 
 bind-changed :
     {A B C : Type 0} {y : Result A} (x : Result A) (k : A → A) → y ≡ (x >>= λ a. ok (k a)) →
     (f : A → Result C) (g : A → Result B) (h : B → Result C) → ((a : A) → f (k a) ≡ (g a >>= h)) →
     (y >>= f) ≡ ((x >>= g) >>= h)
 unfolding _>>=_
-bind-changed (ok a) k y-is f g h e = ap (λ z. z >>= f) y-is ∙ e a
-bind-changed (refused r) k y-is f g h e = ap (λ z. z >>= f) y-is
-
--- a first step that is known
-pub next : {A B : Type 0} {x : Result A} {a : A} (f : A → Result B) → x ≡ ok a → (x >>= f) ≡ f a
-unfolding _>>=_
-next f h = ap (λ z. z >>= f) h
-
-pub ends : {A B : Type 0} {x : Result A} {c : Refusal} (f : A → Result B) → x ≡ refused c → (x >>= f) ≡ refused c
-unfolding _>>=_
-ends f h = ap (λ z. z >>= f) h
+bind-changed x k y-is f g h e =
+    ap (λ z. z >>= f) y-is ∙ bind-assoc x (λ a. ok (k a)) f ∙ bind-apart x (λ a. f (k a)) g h e
 
 pair-ok : {A B : Type 0} {a c : A} {b d : B} → _≡_ {A = Result (A × B)} (ok (a, b)) (ok (c, d)) → (a ≡ c) × (b ≡ d)
 pair-ok {A} {B} {a} {c} {b} {d} h =
     let e : _≡_ {A = A × B} (a, b) (c, d) = cc in
     (ap (λ x. x .0) e, ap (λ x. x .1) e)
-
-bind-ok : {A B : Type 0} (a : A) (f : A → Result B) → f a ≡ (ok a >>= f)
-unfolding _>>=_
-bind-ok a f = refl
 
 -- ---- one literal
 
@@ -95,7 +81,7 @@ module _ (l : Limits) (t : List Rational) (p : Progress) where
       bind-changed (argumentOf l p (d .sum) arg) behind (argument-later (d .sum) arg) _ _ _ λ x.
       bind-apart (strengthened l (d .operator) (d .sum) (x .0)) _ _ _ λ y.
       bind-apart (mul l (y .1) (scalar (y .0) (x .0))) _ _ _ λ z.
-      bind-apart (add terms l (p .acc) z) _ _ _ λ acc. bind-ok _ _
+      bind-apart (add terms l (p .acc) z) _ _ _ λ acc. sym (next _ refl)
 
   pub process-ok :
       (phi : Term) (arg : Option Rational) (q : Progress) → processDisequality l p phi arg ≡ ok q →

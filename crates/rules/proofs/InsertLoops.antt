@@ -2,7 +2,6 @@
 -- all makes (`Inserting`). The bytes of the area that is read stay as they were, since the other area is apart from it.
 use mathlib.Core.Path.{_≡_, refl, sym, _∙_, ap}
 use mathlib.Core.Bool.{Bool, true, false}
-use mathlib.Core.Logic.{_≢_}
 use mathlib.Core.List.{[], _∷_}
 use Prim.Native.Nat.{ℕ, _+_, _*_, _-_, _≤_, _<_}
 use native.Mathlib.Omega.{arith}
@@ -21,7 +20,8 @@ use Rattle.rules.specs.WorkArea.{Grown, Held, Kept, Inserts}
 use Rattle.rules.specs.declared.index_map.Inserted.{Inserted}
 use Rattle.rules.specs.declared.index_map.Inserted.the-variants.{Length, OutOfRange}
 use Rattle.rules.proofs.StoredEntries.{kept-entries, held-entries}
-use Rattle.rules.proofs.Areas.{area-length, area-other, only-then, only-none}
+use Rattle.rules.proofs.Areas.{area-length, only-then, only-none}
+use Rattle.rules.proofs.AreaSteps.{only-other}
 use Rattle.rules.proofs.EntryPlaces.{kept-at, all-behind}
 
 -- ---- one entry, then the rest
@@ -153,9 +153,8 @@ module _
 
   from-same : areaOf from w ≡ areaOf from w₀
   from-same =
-      let other : from ≢ to = λ e. i .apart .apart (sym e) in
-      ap (areaOf from) (i .only)
-      ∙ area-other (i .apart .first) (areaOf to w) (area-length area-to) (i .apart .second .among) other
+      only-other (i .apart .first) (area-length area-to) (i .only) (i .apart .second .among)
+      (λ e. i .apart .apart (sym e))
 
   -- the key of entry k is read from x and its value from y; inserting them answers r and leaves the bytes w′
   module _

@@ -6,7 +6,7 @@ use Prim.Native.Nat.{ℕ, suc, _+_, _*_, _-_, _≤_, _<_}
 use native.Mathlib.Nat.{add-zero, zero-add, sub-zero}
 use native.Mathlib.Omega.{arith}
 use borrow.Author.Tests.{leb-true, leb-false, eq-eqb, ne-eqb}
-use lib.Dec.{leb}
+use lib.Dec.{eqb, leb}
 use lib.ListN.{length, getD, drop, length-drop}
 use lib.Seq.{getD-drop, drop-drop}
 use Rattle.terms.specs.Bytes.{Bytes, digits, le}
@@ -16,13 +16,13 @@ use Rattle.rules.specs.WorkArea.{keysOf, place}
 -- ---- the place of a key in a list
 
 module _ (x key : ℕ) (l : List ℕ) where
-  pub place-here : x ≡ key → place (x ∷ l) key ≡ 0
+  pub place-here : eqb x key ≡ true → place (x ∷ l) key ≡ 0
   unfolding place
-  place-here same = rw (eq-eqb x key same, place)
+  place-here same = rw (same, place)
 
-  pub place-past : (x ≡ key → ⊥) → place (x ∷ l) key ≡ suc (place l key)
+  pub place-past : eqb x key ≡ false → place (x ∷ l) key ≡ suc (place l key)
   unfolding place
-  place-past other = rw (ne-eqb x key other, place)
+  place-past other = rw (other, place)
 
 -- ---- in bytes
 
@@ -76,8 +76,11 @@ module _ (w : Bytes) (n key : ℕ) where
         ∙ ap (λ (l : List ℕ). k + place l key) (rest-next w n k h ∙ ap (λ (y : ℕ). y ∷ rest w n (k + 1)) (sym is))
 
     pub search-found : x ≡ key → k ≡ place (keysOf w n) key
-    search-found same = omega (arith, next, place-here x key (rest w n (k + 1)) same)
+    search-found same = omega (arith, next, place-here x key (rest w n (k + 1)) (eq-eqb x key same))
 
     pub search-more : (x ≡ key → ⊥) → Searched w n key (k + 1)
     search-more other =
-        record { most = omega arith; left = next ∙ rw (place-past x key (rest w n (k + 1)) other) (omega arith) }
+        record {
+          most = omega arith;
+          left = next ∙ rw (place-past x key (rest w n (k + 1)) (ne-eqb x key other)) (omega arith);
+        }

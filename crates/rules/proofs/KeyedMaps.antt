@@ -1,8 +1,9 @@
--- Maps of any keys: a map has a key behind a front that lacks it, or lacks it (`look`), and that tells what an insertion
--- makes of it.
+-- Maps of any keys: a map has a key behind a front that lacks it, or lacks it (`look`), and that tells what `get` finds
+-- in it and what an insertion makes of it.
 use mathlib.Core.Path.{_≡_, refl, ap, _∙_}
 use mathlib.Core.Bool.{Bool, true, false}
 use mathlib.Core.List.{[], _∷_, _++_}
+use mathlib.Core.Option.{some, none}
 use Prim.Native.Nat.{ℕ, suc, _+_}
 use native.Mathlib.Nat.{add-zero}
 use native.Mathlib.Omega.{arith}
@@ -14,30 +15,48 @@ use Rattle.rules.specs.Refusal.{Result, _>>=_, assert}
 use Rattle.rules.specs.Refusal.Result.{ok, refused}
 use Rattle.rules.specs.Refusal.Refusal.{polynomialSize}
 use Rattle.rules.specs.Limits.{Limits, plus}
-use Rattle.rules.specs.IndexMap.{Map, Keys, enter, insert, swapRemove}
+use Rattle.rules.specs.IndexMap.{Map, Keys, get, enter, insert, swapRemove}
 
-module _ {K : Type 0} (keys : Keys K) (key : K) where
-  -- ---- where a key stands
+module _ {K : Type 0} (is : K → Bool) where
+  -- ---- where a key stands that is the one asked for
 
   pub data Lacks : Map K → Type 0 where
     nothing : Lacks []
-    another : {e : K × Rational} {m : Map K} → keys .same (e .0) key ≡ false → Lacks m → Lacks (e ∷ m)
+    another : {e : K × Rational} {m : Map K} → is (e .0) ≡ false → Lacks m → Lacks (e ∷ m)
 
   pub data Look : Map K → Type 0 where
-    found : (p : Map K) (e : K × Rational) (s : Map K) → keys .same (e .0) key ≡ true → Lacks p → Look (p ++ e ∷ s)
+    found : (p : Map K) (e : K × Rational) (s : Map K) → is (e .0) ≡ true → Lacks p → Look (p ++ e ∷ s)
     missing : {m : Map K} → Lacks m → Look m
 
-  look-past : {e : K × Rational} → keys .same (e .0) key ≡ false → {m : Map K} → Look m → Look (e ∷ m)
-  look-past {e} other (found p f s is none) = found (e ∷ p) f s is (another other none)
-  look-past other (missing none) = missing (another other none)
+  look-past : {e : K × Rational} → is (e .0) ≡ false → {m : Map K} → Look m → Look (e ∷ m)
+  look-past {e} other (found p f s here lacks) = found (e ∷ p) f s here (another other lacks)
+  look-past other (missing lacks) = missing (another other lacks)
 
   pub look : (m : Map K) → Look m
   look [] = missing nothing
-  look (e ∷ m) = go (keys .same (e .0) key) refl (look m)
+  look (e ∷ m) = go (is (e .0)) refl (look m)
     where
-      go : (t : Bool) → keys .same (e .0) key ≡ t → Look m → Look (e ∷ m)
+      go : (t : Bool) → is (e .0) ≡ t → Look m → Look (e ∷ m)
       go true h l = found [] e m h nothing
       go false h l = look-past {e = e} h l
+
+module _ {K : Type 0} (keys : Keys K) (key : K) where
+  abbrev pub sameKey : K → Bool
+  sameKey k = keys .same k key
+
+  -- ---- get
+
+  pub get-missing : {m : Map K} → Lacks sameKey m → get keys m key ≡ none
+  unfolding get
+  get-missing nothing = refl
+  get-missing (another other rest) = rw (other, get) (get-missing rest)
+
+  pub get-found :
+      {p : Map K} → Lacks sameKey p → (e : K × Rational) (s : Map K) → keys .same (e .0) key ≡ true →
+      get keys (p ++ e ∷ s) key ≡ some (e .1)
+  unfolding get
+  get-found nothing e s is = rw (is, get)
+  get-found (another other rest) e s is = rw (other, get) (get-found rest e s is)
 
   -- ---- insert
 
@@ -66,7 +85,7 @@ module _ {K : Type 0} (keys : Keys K) (key : K) where
 
   module _ (l : Limits) (value : Rational) where
     enter-missing :
-        (n : ℕ) {m : Map K} → Lacks m → enter keys l n m key value ≡ appended l (suc (n + length m)) m value
+        (n : ℕ) {m : Map K} → Lacks sameKey m → enter keys l n m key value ≡ appended l (suc (n + length m)) m value
     unfolding enter
     enter-missing n nothing = rw (add-zero n)
     enter-missing n (another {e} {m} other rest) =
@@ -77,7 +96,7 @@ module _ {K : Type 0} (keys : Keys K) (key : K) where
         ∙ ap (λ (i : ℕ). appended l (suc i) (e ∷ m) value) size)
 
     enter-found :
-        (n : ℕ) {p : Map K} → Lacks p → (e : K × Rational) (s : Map K) → keys .same (e .0) key ≡ true →
+        (n : ℕ) {p : Map K} → Lacks sameKey p → (e : K × Rational) (s : Map K) → keys .same (e .0) key ≡ true →
         enter keys l n (p ++ e ∷ s) key value ≡ entered p e s (plus l (e .1) value)
     unfolding enter
     enter-found n nothing e s is = rw (is, enter)
@@ -92,14 +111,14 @@ module _ {K : Type 0} (keys : Keys K) (key : K) where
 
     module _ (some-value : isZero value ≡ false) where
       pub insert-missing :
-          {m : Map K} → Lacks m → insert keys l m key value ≡ appended l (suc (length m)) m value
+          {m : Map K} → Lacks sameKey m → insert keys l m key value ≡ appended l (suc (length m)) m value
       unfolding insert
       insert-missing {m} lacks =
           let size : 0 + length m ≡ length m = omega arith in
           rw (some-value, insert) (enter-missing 0 lacks ∙ ap (λ (i : ℕ). appended l (suc i) m value) size)
 
       pub insert-found :
-          {p : Map K} → Lacks p → (e : K × Rational) (s : Map K) → keys .same (e .0) key ≡ true →
+          {p : Map K} → Lacks sameKey p → (e : K × Rational) (s : Map K) → keys .same (e .0) key ≡ true →
           insert keys l (p ++ e ∷ s) key value ≡ entered p e s (plus l (e .1) value)
       unfolding insert
       insert-found lacks e s is = rw (some-value, insert) (enter-found 0 lacks e s is)

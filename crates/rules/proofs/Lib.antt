@@ -53,14 +53,16 @@ pub mod RelationSound
 pub mod LinearCases
 pub mod InferredNumbers
 pub mod Yields
+pub mod Refusals
+pub mod Zeros
 pub mod NumberBytes
 pub mod MapEnds
 pub mod CheckedNumbers
 pub mod EntryBytes
+pub mod KeyedMaps
 pub mod MapKeys
 pub mod StoredBytes
 pub mod KeySearch
-pub mod MapEntry
 pub mod StoredEntries
 pub mod AreaEntry
 pub mod Areas
@@ -80,7 +82,6 @@ pub mod RunParts
 pub mod LastTests
 pub mod FoldedSteps
 pub mod FoldedAreas
-pub mod Codes
 pub mod Emptied
 pub mod PartialFold
 pub mod Tautologies
@@ -93,7 +94,6 @@ pub mod EntryLoops
 pub mod CombinationLoops
 pub mod ScaledCombinations
 pub mod CoefficientDivisors
-pub mod KeyedMaps
 pub mod MonomialBytes
 pub mod PackedMonomials
 pub mod StoredMonomials
@@ -115,6 +115,8 @@ pub mod PolynomialTermWalks
 pub mod PolynomialArgWalks
 pub mod PolynomialFactorWalks
 pub mod ScaledRelations
+pub mod Results
+pub mod AreaSteps
 pub mod TurnedEntries
 pub mod Moduli
 pub mod PolynomialSides

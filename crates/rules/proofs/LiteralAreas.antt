@@ -1,22 +1,21 @@
 -- One literal in the work area: what each step leaves of the areas, and what its answer says of the definition.
 use mathlib.Core.Path.{_≡_, refl, sym, subst, ap, ap₂, _∙_}
-use mathlib.Core.Bool.{Bool, true, false, cond}
+use mathlib.Core.Bool.{true, false}
 use mathlib.Core.List.{[]}
-use Prim.Native.Nat.{ℕ, zero, suc, _+_}
+use Prim.Native.Nat.{ℕ}
 use native.Mathlib.Omega.{arith}
 use lib.ListN.{length}
 use Rattle.terms.specs.Rational.{Rational, Proper}
-use Rattle.terms.specs.Bytes.{Bytes, room, complement, put, putNumber}
+use Rattle.terms.specs.Bytes.{Bytes}
 use Rattle.terms.specs.Term.{Term}
-use Rattle.terms.proofs.LittleEndian.{length-put}
 use Rattle.rules.specs.Refusal.{Result, _>>=_}
 use Rattle.rules.specs.Refusal.Result.{ok, refused}
 use Rattle.rules.specs.Refusal.Refusal.{numberRange}
 use Rattle.rules.specs.Limits.{Limits, limited}
-use Rattle.rules.specs.IndexMap.{Map, combination}
+use Rattle.rules.specs.IndexMap.{Map}
 use Rattle.rules.specs.LinearComb.{LinearComb, mul}
 use Rattle.rules.specs.LinearArithmetic.{allInt, strengthen, strengthened, scalar, weakened}
-use Rattle.rules.specs.WorkArea.{Sum, slots, stored, entriesOf, putEntry, blanked}
+use Rattle.rules.specs.WorkArea.{Sum, slots, stored, entriesOf, blanked}
 use Rattle.rules.specs.WorkArea.{combOf, areaOf, withArea, OnlyArea, Area, Apart}
 use Rattle.rules.specs.WorkArea.{Held, Kept, KeptSum, SummedIs, Sums}
 use Rattle.rules.specs.LinearSteps.{SumHas, combWith, StrengthenedIs, scaledOf, ScaledIs, ScaledLeft}
@@ -24,26 +23,12 @@ use Rattle.rules.specs.declared.disequality.Strengthened.{Strengthened}
 use Rattle.rules.specs.declared.disequality.Strengthened.the-variants as stronger
 use Rattle.rules.specs.declared.linear_comb.Summed.{Summed}
 use Rattle.rules.specs.declared.linear_comb.Summed.the-variants as summed
-use Rattle.rules.proofs.StoredEntries.{kept-entries, clear-all}
-use Rattle.rules.proofs.Areas.{stored-length, area-length, area-with, area-other, empty-held}
+use Rattle.rules.proofs.EntryBytes.{length-blanked}
+use Rattle.rules.proofs.StoredEntries.{kept-entries}
+use Rattle.rules.proofs.Areas.{stored-length, area-length, area-with, area-other}
 use Rattle.rules.proofs.Areas.{with-length, with-same, with-with, with-swap}
-
--- ---- lengths
-
-length-putNumber : (q : Rational) (b : Bytes) (i : ℕ) → length (putNumber q b i) ≡ length b
-unfolding putNumber
-length-putNumber q b i = go (room 8 b i)
-  where
-    go :
-        (t : Bool) →
-        length (cond t (put 4 (complement 4 (q .den)) (put 4 (complement 4 (q .num)) b i) (i + 4)) b) ≡ length b
-    go true = length-put 4 _ _ _ ∙ length-put 4 _ _ _
-    go false = refl
-
-length-blanked : (n : ℕ) (w : Bytes) → length (blanked n w) ≡ length w
-unfolding blanked putEntry
-length-blanked zero w = refl
-length-blanked (suc k) w = length-putNumber _ _ _ ∙ (length-put _ _ _ _ ∙ length-blanked k w)
+use Rattle.rules.proofs.AreaSteps.{held-length, blanked-empty, kept-sum, sum-comb, answer-has}
+use Rattle.rules.proofs.AreaSteps.{only-area, only-other, emptied-held, emptied-only}
 
 -- ---- refuse
 
@@ -87,35 +72,6 @@ module _ (o : ℕ) (s : Sum) (a : Rational) (b w : Bytes) (k : Kept b w (s .len)
   not-all-int p t =
       (some-not (limited l) o (combOf b w s) a t ∙ rw (kept-entries k), record { size = k .size; proper = p })
 
--- ---- an area that is emptied
-
--- the bytes that area j is given
-module _
-    {j : ℕ} {w : Bytes} (a : Area j w) {w′ : Bytes} (x : Bytes) (long : length x ≡ 20480)
-    (e : w′ ≡ withArea j x w) where
-  pub given-area : areaOf j w′ ≡ x
-  given-area = ap (areaOf j) e ∙ area-with a x long
-
-  pub given-only : OnlyArea j w w′
-  given-only = e ∙ ap (λ y. withArea j y w) (sym given-area)
-
-pub blanked-empty : {b x : Bytes} {n : ℕ} → Kept b x n → blanked n x ≡ stored slots []
-blanked-empty {x = x} k = ap (λ i. blanked i x) (k .size) ∙ clear-all (k .map) (k .held) .bytes
-
-pub emptied :
-    {b : Bytes} (j : ℕ) (w : Bytes) {n : ℕ} {w′ : Bytes} → Kept b (areaOf j w) n →
-    w′ ≡ withArea j (blanked n (areaOf j w)) w → w′ ≡ withArea j (stored slots []) w
-emptied j w k e = e ∙ ap (λ y. withArea j y w) (blanked-empty k)
-
--- ---- a sum with the same entries
-
-module _ {b w : Bytes} {m : Map Term} {t : Sum} (h : Held b w m) (has : SumHas t m) where
-  abbrev pub kept-sum : KeptSum b w t
-  kept-sum = record { kept = record { map = m; held = h; size = has .size }; proper = has .proper }
-
-  pub comb-with : combOf b w t ≡ combWith t m
-  comb-with = ap (λ i. combination i (t .constant)) (kept-entries (kept-sum .kept))
-
 -- ---- scaled
 
 pub stronger-has :
@@ -151,11 +107,10 @@ module _ (b w : Bytes) (l o : ℕ) (s : Sum) (a : Rational) (k : KeptSum b (area
       {w′ : Bytes} {r : Strengthened} → Area 1 w → StrengthenedIs (k .kept .map) r Before → r ≡ stronger.OutOfRange →
       w′ ≡ withArea 1 (blanked (s .len) (areaOf 1 w)) w → ScaledLeft b w w′ stronger.OutOfRange After
   unstrengthened area h e f =
-      let g = emptied 1 w (k .kept) f in
       record {
         map = [];
-        held = empty-held (given-area area (stored slots []) (stored-length []) g);
-        only = given-only area (stored slots []) (stored-length []) g;
+        held = emptied-held area (k .kept) f;
+        only = emptied-only area (k .kept) f;
         is = (scaled-out (limited l) o (combOf b (areaOf 1 w) s) a (refusal e h), refl);
       }
 
@@ -169,7 +124,7 @@ module _ (b w : Bytes) (l o : ℕ) (s : Sum) (a : Rational) (k : KeptSum b (area
 
     multiplied : Sums b (areaOf 1 w′) r Product
     multiplied =
-        rw (← comb-with (k .kept .held) (h .1), ← is-scalar) (sums (kept-sum (k .kept .held) (h .1)))
+        rw (← sum-comb (k .kept .held) (h .1), ← is-scalar) (sums (kept-sum (k .kept .held) (h .1)))
 
     then : After ≡ (Product >>= λ u. ok (weakened p a, u))
     then = scaled-then (limited l) o (combOf b (areaOf 1 w) s) a (h .0)
@@ -191,13 +146,10 @@ module _ (b w : Bytes) (l o : ℕ) (s : Sum) (a : Rational) (k : KeptSum b (area
           map = m .map;
           held = m .held;
           only = only;
-          is = (then ∙ rw (is .0, f), record { size = is .1 .0; proper = is .1 .1 });
+          is = (then ∙ rw (is .0, f), answer-has (is .1));
         }
 
 -- ---- areas 0 and 1 together
-
-pub held-length : {b x : Bytes} {m : Map Term} → Held b x m → length x ≡ 20480
-held-length {m = m} h = ap length (h .bytes) ∙ stored-length m
 
 pub same-apart : {w w′ : Bytes} → Apart 0 1 w → length w′ ≡ length w → Apart 0 1 w′
 same-apart a e =
@@ -244,13 +196,10 @@ module _ {w : Bytes} (a : Apart 0 1 w) where
   -- area 1 alone has changed
   module _ {b w₁ : Bytes} {m : Map Term} (h : Held b (areaOf 1 w₁) m) (only : OnlyArea 1 w w₁) where
     pub first-there : areaOf 0 w₁ ≡ areaOf 0 w
-    first-there =
-        ap (areaOf 0) only ∙ area-other (a .second) (areaOf 1 w₁) (held-length h) (a .first .among) (a .apart)
+    first-there = only-other (a .second) (held-length h) only (a .first .among) (a .apart)
 
     pub still-apart : Apart 0 1 w₁
-    still-apart =
-        same-apart a
-        (ap length only ∙ (with-length (a .second) (areaOf 1 w₁) (held-length h) ∙ sym (a .second .size)))
+    still-apart = same-apart a (only-area (a .second) (held-length h) only .size ∙ sym (a .second .size))
 
     -- it is empty, and then area 0 is emptied
     pub emptied-after :

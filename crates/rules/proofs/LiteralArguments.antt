@@ -10,8 +10,8 @@ use Rattle.terms.specs.Term.{Term}
 use Rattle.terms.specs.Book.{tree}
 use Rattle.terms.specs.declared.number.Checked.{Checked}
 use Rattle.terms.specs.declared.number.Checked.the-variants as answer
-use Rattle.rules.specs.Refusal.{Refusal, Result, _>>=_, assert, orElse, number}
-use Rattle.rules.specs.Refusal.Result.{ok, refused}
+use Rattle.rules.specs.Refusal.{_>>=_, assert, orElse}
+use Rattle.rules.specs.Refusal.Result.{ok}
 use Rattle.rules.specs.Refusal.Refusal.{numberRange, notUnit, coeffNotFound}
 use Rattle.rules.specs.Limits.{Limits, limited, over}
 use Rattle.rules.specs.IndexMap.{Map, get}
@@ -24,15 +24,8 @@ use Rattle.rules.specs.declared.index_map.Coefficient.the-variants.{Of, 
 use Rattle.rules.specs.declared.linear_arithmetic.Inference.{Inference}
 use Rattle.rules.specs.declared.linear_arithmetic.Inference.the-variants as inference
 use Rattle.rules.specs.declared.linear_arithmetic.Argued.the-variants as argued
+use Rattle.rules.proofs.Results.{refuses, refused-then}
 use Rattle.rules.proofs.CheckedNumbers.{over-value, over-out}
-
-pub refuses : {A : Type 0} {d : Result A} (r : Refusal) → d ≡ refused r → Refuses (number r) d
-refuses r e = record { reason = r; is = e; code = refl }
-
--- a refusal ends what comes after it
-pub refuses-then : {A B : Type 0} {c : ℕ} {d : Result A} (f : A → Result B) → Refuses c d → Refuses c (d >>= f)
-unfolding _>>=_
-refuses-then f r = record { reason = r .reason; is = rw (r .is); code = r .code }
 
 -- ---- inferred
 
@@ -127,7 +120,7 @@ module _ (l : Limits) (acc own : Map Term) where
       unfolding argumentFrom
       argument-refused {c} f =
           subst (Refuses c) (sym none-given)
-          (refuses-then (λ a. ok (a, a ∷ [])) (subst (λ z. InferredIs z (inferred l acc own)) f is))
+          (refused-then (λ a. ok (a, a ∷ [])) (subst (λ z. InferredIs z (inferred l acc own)) f is))
 
 -- the definition's argument is that of the two maps alone, where nothing was inferred before
 pub argument-of :

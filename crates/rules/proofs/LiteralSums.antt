@@ -4,7 +4,6 @@ use mathlib.Core.List.{List, []}
 use mathlib.Core.Option.{Option}
 use Prim.Native.Nat.{ℕ}
 use native.Mathlib.Omega.{arith}
-use lib.ListN.{length}
 use Rattle.terms.specs.Rational.{Rational, Proper}
 use Rattle.terms.specs.Bytes.{Bytes}
 use Rattle.terms.specs.Term.{Term}
@@ -38,26 +37,16 @@ use Rattle.rules.specs.declared.linear_arithmetic.Processed.the-variants
 use Rattle.rules.specs.declared.linear_arithmetic.Progress as by-value
 use Rattle.rules.specs.declared.linear_comb.Summed.{Summed}
 use Rattle.rules.specs.declared.linear_comb.Summed.the-variants as summed
-use Rattle.rules.proofs.Areas.{stored-length, with-length, with-same, area-other, sorts-with, empty-held}
-use Rattle.rules.proofs.LiteralArguments.{refuses, refuses-then, argument-of}
-use Rattle.rules.proofs.LiteralAreas.{blanked-empty, kept-sum, comb-with, scaled-kept, held-length}
+use Rattle.rules.proofs.Areas.{stored-length, with-same, empty-held}
+use Rattle.rules.proofs.Results.{bind-same, bind-assoc, refuses, refused-then}
+use Rattle.rules.proofs.LiteralArguments.{argument-of}
+use Rattle.rules.proofs.AreaSteps.{held-length, blanked-empty, kept-sum, sum-comb, answer-has}
+use Rattle.rules.proofs.AreaSteps.{only-area, only-sorts, only-other}
+use Rattle.rules.proofs.LiteralAreas.{scaled-kept}
 use Rattle.rules.proofs.LiteralAreas.{both-given, first-is, first-left}
 use Rattle.rules.proofs.LiteralAreas.{first-only, first-there, still-apart, emptied-after}
 
 -- ---- the definition
-
-then-same :
-    {A B : Type 0} (m : Result A) {f g : A → Result B} → ((a : A) → f a ≡ g a) → (m >>= f) ≡ (m >>= g)
-unfolding _>>=_
-then-same (ok a) h = h a
-then-same (refused r) h = refl
-
-then-assoc :
-    {A B C : Type 0} (m : Result A) (f : A → Result B) (g : B → Result C) →
-    ((m >>= f) >>= g) ≡ (m >>= λ a. f a >>= g)
-unfolding _>>=_
-then-assoc (ok a) f g = refl
-then-assoc (refused r) f g = refl
 
 -- strengthening and scaling are steps 4 and 5
 module _ (l : Limits) (p : Progress) (d : Disequality) (a : Rational) (trace : List Rational) where
@@ -71,9 +60,9 @@ module _ (l : Limits) (p : Progress) (d : Disequality) (a : Rational) (trace : L
       ≡ (scaledOf l (d .operator) (d .sum) a >>= sum-of)
   unfolding scaledOf _>>=_
   scaled-in-one =
-      then-same (strengthened l (d .operator) (d .sum) a)
-      (λ x. sym (then-assoc (mul l (x .1) (scalar (x .0) a)) (λ s. ok (weakened (x .0) a, s)) sum-of))
-      ∙ sym (then-assoc (strengthened l (d .operator) (d .sum) a)
+      bind-same (strengthened l (d .operator) (d .sum) a)
+      (λ x. sym (bind-assoc (mul l (x .1) (scalar (x .0) a)) (λ s. ok (weakened (x .0) a, s)) sum-of))
+      ∙ sym (bind-assoc (strengthened l (d .operator) (d .sum) a)
       (λ x. mul l (x .1) (scalar (x .0) a) >>= λ s. ok (weakened (x .0) a, s)) sum-of)
 
 -- the disequality of a literal, and the rest
@@ -82,13 +71,13 @@ pub processed-in-two :
     processDisequality l p phi arg ≡ (disequalityOf l phi (p .visits) >>= λ d. accumulated l p d arg)
 unfolding processDisequality accumulated
 processed-in-two l p phi arg =
-    then-same (disequalityOf l phi (p .visits))
-    (λ d. then-same (argumentOf l p (d .sum) arg) (λ x. scaled-in-one l p d (x .0) (x .1)))
+    bind-same (disequalityOf l phi (p .visits))
+    (λ d. bind-same (argumentOf l p (d .sum) arg) (λ x. scaled-in-one l p d (x .0) (x .1)))
 
 module _ (l : Limits) (p : Progress) (d : Disequality) (arg : Option Rational) where
   unargued : {c : ℕ} → Refuses c (argumentOf l p (d .sum) arg) → Refuses c (accumulated l p d arg)
   unfolding accumulated
-  unargued r = refuses-then _ r
+  unargued r = refused-then _ r
 
   module _ {a : Rational} {t : List Rational} (e : argumentOf l p (d .sum) arg ≡ ok (a, t)) where
     unscaled : scaledOf l (d .operator) (d .sum) a ≡ refused numberRange → accumulated l p d arg ≡ refused numberRange
@@ -198,26 +187,18 @@ module _
               (first-there apart (left .held) (left .only))
               (subst
               (λ s. Sums b (areaOf 0 w₂) r₂ (add terms (limited l) (combOf b (areaOf 0 w₁) (p .acc)) s))
-              (comb-with (left .held) (scaled-as .1))
+              (sum-comb (left .held) (scaled-as .1))
               (sums (subst (λ x. KeptSum b x (p .acc)) (sym (first-there apart (left .held) (left .only))) k₀)
               (scaled-kept scaled-is left)))
 
           area₂ : Area 0 w₂
-          area₂ =
-              record {
-                size =
-                    ap length only
-                    ∙ with-length (still-apart apart (left .held) (left .only) .first) (areaOf 0 w₂)
-                    (held-length (total .held));
-                among = apart .first .among;
-              }
+          area₂ = only-area (still-apart apart (left .held) (left .only) .first) (held-length (total .held)) only
 
           literal-emptied : blanked (t .len) (areaOf 1 w₂) ≡ stored slots []
           literal-emptied =
               ap (blanked (t .len))
-              (ap (areaOf 1) only
-              ∙ area-other (still-apart apart (left .held) (left .only) .first) (areaOf 0 w₂)
-              (held-length (total .held)) {i = 1} (apart .second .among) (λ z. omega arith))
+              (only-other (still-apart apart (left .held) (left .only) .first) (held-length (total .held)) only {i = 1}
+              (apart .second .among) (λ z. omega arith))
               ∙ blanked-empty (scaled-kept scaled-is left .kept)
 
           -- area 1 emptied at last
@@ -263,7 +244,7 @@ module _
                 is = (
                   added (limited l) So-far The-literal (givenOf arg) argued-as (scaled-as .0) (out .0)
                       ∙ ap (λ z. ok (progress z (combWith u (total .map)) (traceOf found) (d .visits))) (sym g),
-                  (record { size = out .1 .0; proper = out .1 .1 }, argument .1 .1),
+                  (answer-has (out .1), argument .1 .1),
                 );
               }
 
@@ -309,7 +290,7 @@ module _
         is =
             subst (λ z. ProcessedIs z [] Next) (sym g) (
               subst (Refuses c) (sym (processed-in-two (limited l) (progressOf b w p) phi (givenOf arg)))
-                  (refuses-then _ (out .0)),
+                  (refused-then _ (out .0)),
               refl,
             );
       }
@@ -325,9 +306,7 @@ module _
     handed =
         record {
           apart = still-apart apart (left .held) (left .only);
-          sorts =
-              subst (SortsBelow (count b) b) (sym (left .only))
-              (sorts-with (apart .second) (areaOf 1 w₁) (held-length (left .held)) (folding .between .sorts));
+          sorts = only-sorts (apart .second) (held-length (left .held)) (left .only) (folding .between .sorts);
           sum =
               subst (λ x. KeptSum b x (p .acc)) (sym (first-there apart (left .held) (left .only))) (folding .acc);
           literal = kept-sum (left .held) (literal-as .1);
@@ -346,7 +325,7 @@ module _
         ∙ ap₂
         (λ x s. accumulated (limited l) (progress (p .operator) (combOf b x (p .acc)) [] (p .visits))
         (disequality (q .operator) s (q .visits)) (givenOf arg))
-        (sym (first-there apart (left .held) (left .only))) (sym (comb-with (left .held) (literal-as .1))))
+        (sym (first-there apart (left .held) (left .only))) (sym (sum-comb (left .held) (literal-as .1))))
 
     pub literal-accumulated :
         {w′ : Bytes} {r : Processed} → AccumulatedLeft b w₁ w′ r Rest → ProcessedLeft b w w′ r Next

@@ -1,6 +1,6 @@
--- The keys of a map of terms: it has a key or lacks it (`look`), and an entry in the middle of a good map may be taken
+-- The keys of a map of terms: one that is absent is lacked, and an entry in the middle of a good map may be taken
 -- out and put in again (`taken-out`, `put-in`). So different keys below n are at most n (`few`).
-use mathlib.Core.Path.{_≡_, refl, sym, ap}
+use mathlib.Core.Path.{_≡_, refl, sym}
 use mathlib.Core.Bool.{Bool, true, false, not}
 use mathlib.Core.List.{[], _∷_, _++_}
 use Prim.Native.Nat.{ℕ, zero, suc, _+_, _≤_, _<_}
@@ -15,73 +15,55 @@ use Rattle.terms.specs.Book.{count}
 use Rattle.terms.proofs.Truths.{both}
 use Rattle.rules.specs.IndexMap.{Map}
 use Rattle.rules.specs.WorkArea.{absent, Entry, Good}
+use Rattle.rules.proofs.KeyedMaps.{Lacks, nothing, another, Look, found, missing, look}
+use Rattle.rules.proofs.MapEnds.{length-middle}
 
 abbrev pub keyOf : Term × Rational → ℕ
 keyOf e = recordNumber (e .0)
 
+abbrev pub numbered : ℕ → Term → Bool
+numbered i t = eqb (recordNumber t) i
+
 -- ---- a key that is absent
 
-pub data Lacks (i : ℕ) : Map Term → Type 0 where
-  nothing : Lacks i []
-  another : {e : Term × Rational} {m : Map Term} → (keyOf e ≡ i → ⊥) → Lacks i m → Lacks i (e ∷ m)
-
-pub lacks-absent : {i : ℕ} {m : Map Term} → Lacks i m → absent i m ≡ true
+pub lacks-absent : (i : ℕ) {m : Map Term} → Lacks (numbered i) m → absent i m ≡ true
 unfolding absent
-lacks-absent nothing = refl
-lacks-absent {i} (another {e} {m} other rest) = rw (ne-eqb (keyOf e) i other, lacks-absent rest)
+lacks-absent i nothing = refl
+lacks-absent i (another other rest) = rw (other, lacks-absent i rest)
 
-pub absent-lacks : (i : ℕ) (m : Map Term) → absent i m ≡ true → Lacks i m
+pub absent-lacks : (i : ℕ) (m : Map Term) → absent i m ≡ true → Lacks (numbered i) m
 unfolding absent
 absent-lacks i [] h = nothing
 absent-lacks i (e ∷ m) h =
     let tests = both (not (eqb (keyOf e) i)) (absent i m) h in
-    another (eqb-false (keyOf e) i (not-true _ (tests .0))) (absent-lacks i m (tests .1))
+    another (not-true _ (tests .0)) (absent-lacks i m (tests .1))
 
-lacks-head : {i : ℕ} {e : Term × Rational} {m : Map Term} → Lacks i (e ∷ m) → keyOf e ≡ i → ⊥
-lacks-head (another other rest) = other
+other-way : (i j : ℕ) → eqb i j ≡ false → eqb j i ≡ false
+other-way i j h = ne-eqb j i (λ e. eqb-false i j h (sym e))
 
-lacks-tail : {i : ℕ} {e : Term × Rational} {m : Map Term} → Lacks i (e ∷ m) → Lacks i m
-lacks-tail (another other rest) = rest
-
-module _ {i : ℕ} (e : Term × Rational) (s : Map Term) where
-  lacks-into : (p : Map Term) → (keyOf e ≡ i → ⊥) → Lacks i (p ++ s) → Lacks i (p ++ e ∷ s)
+module _ (i : ℕ) (e : Term × Rational) (s : Map Term) where
+  lacks-into : (p : Map Term) → eqb (keyOf e) i ≡ false → Lacks (numbered i) (p ++ s) → Lacks (numbered i) (p ++ e ∷ s)
   lacks-into [] other h = another other h
   lacks-into (f ∷ p) other (another here rest) = another here (lacks-into p other rest)
 
-  lacks-middle : (p : Map Term) → Lacks i (p ++ e ∷ s) → keyOf e ≡ i → ⊥
+  lacks-middle : (p : Map Term) → Lacks (numbered i) (p ++ e ∷ s) → eqb (keyOf e) i ≡ false
   lacks-middle [] (another here rest) = here
   lacks-middle (f ∷ p) (another here rest) = lacks-middle p rest
 
-  lacks-without : (p : Map Term) → Lacks i (p ++ e ∷ s) → Lacks i (p ++ s)
+  lacks-without : (p : Map Term) → Lacks (numbered i) (p ++ e ∷ s) → Lacks (numbered i) (p ++ s)
   lacks-without [] (another here rest) = rest
   lacks-without (f ∷ p) (another here rest) = another here (lacks-without p rest)
-
--- ---- where a key stands
-
-pub data Look (i : ℕ) : Map Term → Type 0 where
-  found : (p : Map Term) (e : Term × Rational) (s : Map Term) → keyOf e ≡ i → Lacks i p → Look i (p ++ e ∷ s)
-  missing : {m : Map Term} → Lacks i m → Look i m
-
-look-past : {i : ℕ} {e : Term × Rational} → (keyOf e ≡ i → ⊥) → {m : Map Term} → Look i m → Look i (e ∷ m)
-look-past {e} other (found p f s is none) = found (e ∷ p) f s is (another other none)
-look-past other (missing none) = missing (another other none)
-
-pub look : (i : ℕ) (m : Map Term) → Look i m
-look i [] = missing nothing
-look i (e ∷ m) = go (eqb (keyOf e) i) refl (look i m)
-  where
-    go : (t : Bool) → eqb (keyOf e) i ≡ t → Look i m → Look i (e ∷ m)
-    go true h l = found [] e m (eqb-true (keyOf e) i h) nothing
-    go false h l = look-past {e = e} (eqb-false (keyOf e) i h) l
 
 -- ---- an entry in the middle of a good map
 
 module _ {b : Bytes} where
   -- an entry before other entries
-  pub before : {e : Term × Rational} {m : Map Term} (n : Map Term) → Entry b e m → Lacks (keyOf e) n → Entry b e n
-  before n h none = record { term = h .term; inside = h .inside; proper = h .proper; once = lacks-absent none }
+  before :
+      {e : Term × Rational} {m : Map Term} (n : Map Term) → Entry b e m → Lacks (numbered (keyOf e)) n → Entry b e n
+  before {e} n h none =
+      record { term = h .term; inside = h .inside; proper = h .proper; once = lacks-absent (keyOf e) none }
 
-  lacks-others : {e : Term × Rational} {m : Map Term} → Entry b e m → Lacks (keyOf e) m
+  lacks-others : {e : Term × Rational} {m : Map Term} → Entry b e m → Lacks (numbered (keyOf e)) m
   lacks-others {e} {m} h = absent-lacks (keyOf e) m (h .once)
 
 module _ {b : Bytes} (e : Term × Rational) (s : Map Term) where
@@ -91,8 +73,10 @@ module _ {b : Bytes} (e : Term × Rational) (s : Map Term) where
   put-in (f ∷ p) new good =
       let others = lacks-others new in
       let first = good .0 in (
-        before (p ++ e ∷ s) first (lacks-into e s p (λ h. lacks-head others (sym h)) (lacks-others first)),
-        put-in p (before (p ++ s) new (lacks-tail others)) (good .1),
+        before (p ++ e ∷ s) first
+            (lacks-into (keyOf f) e s p (other-way (keyOf f) (keyOf e) (lacks-middle (keyOf e) f (p ++ s) [] others))
+            (lacks-others first)),
+        put-in p (before (p ++ s) new (lacks-without (keyOf e) f (p ++ s) [] others)) (good .1),
       )
 
   pub taken-out : (p : Map Term) → Good b (p ++ e ∷ s) → Entry b e (p ++ s) × Good b (p ++ s)
@@ -102,8 +86,9 @@ module _ {b : Bytes} (e : Term × Rational) (s : Map Term) where
       let first = good .0 in
       let rest = taken-out p (good .1) in
       let others = lacks-others first in (
-        before (f ∷ (p ++ s)) (rest .0) (another (λ h. lacks-middle e s p others (sym h)) (lacks-others (rest .0))),
-        (before (p ++ s) first (lacks-without e s p others), rest .1),
+        before (f ∷ (p ++ s)) (rest .0)
+            (another (other-way (keyOf e) (keyOf f) (lacks-middle (keyOf f) e s p others)) (lacks-others (rest .0))),
+        (before (p ++ s) first (lacks-without (keyOf f) e s p others), rest .1),
       )
 
 -- ---- different keys below n
@@ -117,32 +102,29 @@ unfolding Good
 good-below b [] g = empty
 good-below b (e ∷ m) g = more (g .0 .inside) (good-below b m (g .1))
 
-lower : {n : ℕ} {m : Map Term} → Below (suc n) m → Lacks n m → Below n m
+lower : {n : ℕ} {m : Map Term} → Below (suc n) m → Lacks (numbered n) m → Below n m
 lower empty h = empty
-lower {n} (more {e} small rest) (another other h) = more {e = e} (omega (arith, other)) (lower rest h)
+lower {n} (more {e} small rest) (another other h) =
+    more {e = e} (omega (arith, eqb-false (keyOf e) n other)) (lower rest h)
 
 below-without : {n : ℕ} (e : Term × Rational) (p s : Map Term) → Below n (p ++ e ∷ s) → Below n (p ++ s)
 below-without e [] s (more small rest) = rest
 below-without e (f ∷ p) s (more small rest) = more small (below-without e p s rest)
 
-pub length-middle : (e : Term × Rational) (p s : Map Term) → length (p ++ e ∷ s) ≡ suc (length (p ++ s))
-length-middle e [] s = refl
-length-middle e (f ∷ p) s = ap suc (length-middle e p s)
-
 -- the key n is taken out
 few-more :
     {n : ℕ} (b : Bytes) → ((m : Map Term) → Good b m → Below n m → length m ≤ n) →
-    {m : Map Term} → Look n m → Good b m → Below (suc n) m → length m ≤ suc n
+    {m : Map Term} → Look (numbered n) m → Good b m → Below (suc n) m → length m ≤ suc n
 few-more {n} b few (missing {m} none) g below = omega (arith, few m g (lower below none))
 few-more {n} b few (found p e s is none) g below =
     let rest = taken-out e s p g in
-    let gone : Lacks n (p ++ s) = rw is at (lacks-others (rest .0)) in
+    let gone : Lacks (numbered n) (p ++ s) = rw (eqb-true (keyOf e) n is) at (lacks-others (rest .0)) in
     omega (arith, length-middle e p s, few (p ++ s) (rest .1) (lower (below-without e p s below) gone))
 
 few : (b : Bytes) (n : ℕ) (m : Map Term) → Good b m → Below n m → length m ≤ n
 few b zero [] g below = omega arith
 few b zero (e ∷ m) g (more small rest) = absurd (omega arith)
-few b (suc n) m g below = few-more b (few b n) (look n m) g below
+few b (suc n) m g below = few-more b (few b n) (look (numbered n) m) g below
 
 -- no more different keys than records
 pub good-length : (b : Bytes) (m : Map Term) → Good b m → length m ≤ count b

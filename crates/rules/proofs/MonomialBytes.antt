@@ -9,7 +9,7 @@ use native.Mathlib.Omega.{arith}
 use borrow.Author.Tests.{eqb-true, eqb-false, eq-eqb}
 use lib.Dec.{eqb}
 use lib.ListN.{length, getD, take, drop, replicate, length-append, length-take, length-drop, length-replicate}
-use lib.ListN.{take-append-drop, replicate-append-replicate}
+use lib.ListN.{take-append-drop}
 use lib.Seq.{take-at, drop-at, drop-drop, drop-append-le}
 use Rattle.terms.specs.Rational.{Rational, Proper}
 use Rattle.terms.specs.Bytes.{Bytes, bytesOf, complement, numberAt, putNumber}
@@ -20,6 +20,7 @@ use Rattle.rules.specs.WorkArea.{blank}
 use Rattle.rules.specs.Polynomial.{Monomial, sameMonomial}
 use Rattle.rules.specs.PolynomialArea.{atomBytes, monomialBytes, entryBytes, keyAt, pasted, putEntry, blankKey}
 use Rattle.rules.specs.PolynomialArea.{blanked, Atoms}
+use Rattle.rules.proofs.Zeros.{zeros-join, zeros-behind}
 use Rattle.rules.proofs.NumberBytes.{length-bytesOf, parts, length-parts, number-at, number-back}
 
 -- ---- the bytes of a monomial
@@ -165,23 +166,7 @@ blank-size = refl
 -- the zeros of one place more
 pub one-more : (n : ℕ) → cell blankKey blank ++ replicate (25 * n) 0 ≡ replicate (25 * suc n) 0
 one-more n =
-    let size : 25 + 25 * n ≡ 25 * suc n = omega arith in
-    ap (λ (l : Bytes). l ++ replicate (25 * n) 0) blank-cell
-    ∙ replicate-append-replicate 25 (25 * n) 0
-    ∙ ap (λ (k : ℕ). replicate k 0) size
-
-one-more-behind :
-    (n : ℕ) (r : Bytes) → replicate (25 * n) 0 ++ (cell blankKey blank ++ r) ≡ replicate (25 * suc n) 0 ++ r
-one-more-behind n r = go (cell blankKey blank) 25 blank-cell (omega arith)
-  where
-    go :
-        (x : Bytes) (k : ℕ) → x ≡ replicate k 0 → 25 * n + k ≡ 25 * suc n →
-        replicate (25 * n) 0 ++ (x ++ r) ≡ replicate (25 * suc n) 0 ++ r
-    go x k zeros size =
-        sym (append-assoc (replicate (25 * n) 0) x r)
-        ∙ ap (λ (l : Bytes). (replicate (25 * n) 0 ++ l) ++ r) zeros
-        ∙ ap (λ (l : Bytes). l ++ r) (replicate-append-replicate (25 * n) k 0)
-        ∙ ap (λ (i : ℕ). replicate i 0 ++ r) size
+    ap (λ (l : Bytes). l ++ replicate (25 * n) 0) blank-cell ∙ zeros-join 25 (25 * n) (25 * suc n) (omega arith)
 
 pub blanked-front : (k : ℕ) (x r : Bytes) → length x ≡ 25 * k → blanked k (x ++ r) ≡ replicate (25 * k) 0 ++ r
 unfolding blanked
@@ -198,4 +183,4 @@ blanked-front (suc k) x r h =
     ∙ ap (λ (l : Bytes). putEntry l k blankKey blank)
     (blanked-front k (take (25 * k) x) (drop (25 * k) x ++ r) front)
     ∙ entry-at blankKey blank-size (replicate (25 * k) 0) k zeros blank r (drop (25 * k) x) last
-    ∙ one-more-behind k r
+    ∙ zeros-behind (25 * k) 25 (25 * suc k) (omega arith) (cell blankKey blank) r blank-cell

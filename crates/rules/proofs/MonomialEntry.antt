@@ -23,9 +23,10 @@ use Rattle.rules.specs.PolynomialArea.{places, monomialBytes, keysOf, pl
 use Rattle.rules.specs.PolynomialArea.{Key, Entry, Good, Held, Enters}
 use Rattle.rules.specs.declared.monomials.Entered.{Entered}
 use Rattle.rules.specs.declared.monomials.Entered.the-variants.{Length, Refused}
+use Rattle.rules.proofs.Refusals.{refuses}
 use Rattle.rules.proofs.CheckedNumbers.{plus-value, plus-out}
 use Rattle.rules.proofs.MapEnds.{length-middle, length-swapRemove}
-use Rattle.rules.proofs.KeyedMaps.{Lacks, nothing, another, Look, found, missing, look, entered}
+use Rattle.rules.proofs.KeyedMaps.{Lacks, nothing, another, Look, found, missing, look, sameKey, entered}
 use Rattle.rules.proofs.KeyedMaps.{insert-zero, insert-missing, insert-found}
 use Rattle.rules.proofs.MonomialSearch.{place-here, place-past}
 use Rattle.rules.proofs.PackedMonomials.{good-rest}
@@ -38,14 +39,14 @@ module _ {b key : Bytes} {x : Monomial} (is-key : Key b key x) where
   told : {e : Monomial × Rational} → Entry b e → sameBytes (monomialBytes (e .0)) key ≡ sameMonomial (e .0) x
   told h = same-key (entry-key h) is-key
 
-  place-missing : {p : Map Monomial} → Lacks monomials x p → Good b p → place (keyBytes p) key ≡ length p
+  place-missing : {p : Map Monomial} → Lacks (sameKey monomials x) p → Good b p → place (keyBytes p) key ≡ length p
   unfolding place keyBytes Good
   place-missing nothing g = refl
   place-missing (another {e} {m} other rest) g =
       place-past (monomialBytes (e .0)) key (keyBytes m) (told (g .0) ∙ other) ∙ ap suc (place-missing rest (g .1))
 
   place-found :
-      {p : Map Monomial} → Lacks monomials x p → (e : Monomial × Rational) (s : Map Monomial) →
+      {p : Map Monomial} → Lacks (sameKey monomials x) p → (e : Monomial × Rational) (s : Map Monomial) →
       sameMonomial (e .0) x ≡ true → Good b (p ++ e ∷ s) → place (keyBytes (p ++ e ∷ s)) key ≡ length p
   unfolding keyBytes Good
   place-found nothing e s is g = place-here (monomialBytes (e .0)) key (keyBytes s) (told (g .0) ∙ is)
@@ -70,7 +71,7 @@ pub record There (b w key : Bytes) (x : Monomial) (n k : ℕ) (m : Map Monomial)
   pub spot : k ≡ length front
   pub same : sameMonomial (entry .0) x ≡ true
   pub key-is : monomialBytes (entry .0) ≡ key
-  pub first : Lacks monomials x front
+  pub first : Lacks (sameKey monomials x) front
 
 module _
     {b w key : Bytes} {x : Monomial} (is-key : Key b key x) (n k : ℕ) (at : k ≡ place (keysOf w n) key) where
@@ -78,7 +79,7 @@ module _
   place-keys h size = at ∙ ap (λ (l : List Bytes). place l key) (ap (keysOf w) size ∙ held-keys h)
 
   looked-there :
-      k < n → {m : Map Monomial} → Look monomials x m → Held b w m → n ≡ length m → There b w key x n k m
+      k < n → {m : Map Monomial} → Look (sameKey monomials x) m → Held b w m → n ≡ length m → There b w key x n k m
   looked-there below (found p e s is lacks) h size =
       record {
         front = p;
@@ -96,7 +97,8 @@ module _
       absurd (omega (arith, place-keys h size, place-missing is-key lacks (h .good)))
 
   looked-nowhere :
-      n ≤ k → {m : Map Monomial} → Look monomials x m → Held b w m → n ≡ length m → Lacks monomials x m
+      n ≤ k → {m : Map Monomial} → Look (sameKey monomials x) m → Held b w m → n ≡ length m →
+      Lacks (sameKey monomials x) m
   looked-nowhere past (found p e s is lacks) h size =
       absurd
       (omega
@@ -104,10 +106,10 @@ module _
   looked-nowhere past (missing lacks) h size = lacks
 
   there : k < n → (m : Map Monomial) → Held b w m → n ≡ length m → There b w key x n k m
-  there below m h size = looked-there below (look monomials x m) h size
+  there below m h size = looked-there below (look (sameKey monomials x) m) h size
 
-  nowhere : n ≤ k → (m : Map Monomial) → Held b w m → n ≡ length m → Lacks monomials x m
-  nowhere past m h size = looked-nowhere past (look monomials x m) h size
+  nowhere : n ≤ k → (m : Map Monomial) → Held b w m → n ≡ length m → Lacks (sameKey monomials x) m
+  nowhere past m h size = looked-nowhere past (look (sameKey monomials x) m) h size
 
 module _ {b w key : Bytes} {x : Monomial} {n k : ℕ} {m : Map Monomial} (t : There b w key x n k m) where
   -- what is read at k
@@ -152,13 +154,9 @@ module _ (w : Bytes) (n : ℕ) (key : Bytes) (value : Rational) where
             map = [];
             held = cleared v held size left;
             is = (
-              record {
-                reason = polynomialSize;
-                is =
-                    insert-missing monomials x (limited l) value some-value (nowhere is-key n k at past p held size)
-                    ∙ rw (lt-leb (suc (length p)) 64 over);
-                code = refl;
-              },
+              refuses polynomialSize
+                  (insert-missing monomials x (limited l) value some-value (nowhere is-key n k at past p held size)
+                  ∙ rw (lt-leb (suc (length p)) 64 over)),
               refl,
             );
           }
@@ -197,13 +195,9 @@ module _ (w : Bytes) (n : ℕ) (key : Bytes) (value : Rational) where
             map = [];
             held = cleared v held size left;
             is = (
-              record {
-                reason = numberRange;
-                is =
-                    insert-there t (limited l) value some-value
-                    ∙ rw (plus-out l (t .entry .1) value (answered t ∙ out));
-                code = refl;
-              },
+              refuses numberRange
+                  (insert-there t (limited l) value some-value
+                  ∙ rw (plus-out l (t .entry .1) value (answered t ∙ out))),
               refl,
             );
           }

@@ -26,7 +26,6 @@ use Rattle.terms.specs.declared.term.Two.{Two}
 use Rattle.terms.specs.declared.term.Two.the-variants.{Both, NotTwo}
 use Rattle.terms.proofs.BookTerms.{recordNumber-tree}
 use Rattle.terms.proofs.Readings.{binary-shape}
-use Rattle.terms.proofs.Records.{length-numbers, length-arguments}
 use Rattle.terms.proofs.Findings.{tag}
 use Rattle.rules.specs.LinearComb.{size, armOf}
 use Rattle.rules.specs.LinearComb.Arm.{leaf}
@@ -34,6 +33,7 @@ use Rattle.rules.specs.LinearNodes.{NodeIs, NodeProper, constantNode, le
 use Rattle.rules.specs.LinearNodes.{factorsNode, productNode, operationNode, nodeOf}
 use Rattle.rules.specs.declared.linear_comb.Node.{Node}
 use Rattle.rules.specs.declared.linear_comb.Node.the-variants as node
+use Rattle.rules.proofs.ArgumentsLeft.{arguments-count}
 
 node-is : {r d : Node} → NodeProper r → r ≡ d → NodeIs r d
 node-is p e = record { is = e; proper = p }
@@ -123,20 +123,20 @@ pub counted :
     (t : Term) (b : Bytes) (i : ℕ) (args : Bytes) →
     forest (tree b) (arguments i (numbers args)) ≡ argumentsOf t → length args / 2 ≡ size (argumentsOf t)
 counted t b i args e =
-    sym (length-numbers args) ∙ sym (length-arguments i (numbers args))
-    ∙ sym (size-forest (tree b) (arguments i (numbers args))) ∙ ap size e
+    sym (arguments-count i args) ∙ sym (size-forest (tree b) (arguments i (numbers args))) ∙ ap size e
+
+-- what f makes of an operation, by its operator
+pub by-operator :
+    {A : Type 0} (f : ℕ → Terms → A) (other : A) (o : ℕ) (m : Option (ℕ × Terms)) →
+    elim m [ some p ↦ p .0 | none ↦ 0 ] ≡ suc o →
+    elim m [ some p ↦ f (p .0) (p .1) | none ↦ other ] ≡ f (suc o) (elim m [ some p ↦ p .1 | none ↦ nil ])
+by-operator f other o (some p) e = ap (λ (k : ℕ). f k (p .1)) e
+by-operator f other o none e = absurd (omega arith)
 
 module _ (t : Term) (coeff : Rational) where
   at-operator : (o : ℕ) → operatorOf t ≡ suc o → nodeOf t coeff ≡ operationNode t (suc o) (argumentsOf t) coeff
   unfolding nodeOf
-  at-operator o = go (asOp t)
-    where
-      go :
-          (m : Option (ℕ × Terms)) → elim m [ some p ↦ p .0 | none ↦ 0 ] ≡ suc o →
-          elim m [ some p ↦ operationNode t (p .0) (p .1) coeff | none ↦ leafNode t coeff ]
-          ≡ operationNode t (suc o) (elim m [ some p ↦ p .1 | none ↦ nil ]) coeff
-      go (some p) e = ap (λ (k : ℕ). operationNode t k (p .1) coeff) e
-      go none e = absurd (omega arith)
+  at-operator o = by-operator (λ k ts. operationNode t k ts coeff) (leafNode t coeff) o (asOp t)
 
   pub sum-node : operatorOf t ≡ Add → Proper coeff → NodeIs (node.Args coeff coeff) (nodeOf t coeff)
   unfolding operationNode armOf if_then_else_

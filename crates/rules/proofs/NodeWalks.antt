@@ -38,6 +38,7 @@ use Rattle.rules.specs.LinearComb.Arm.{sum, negation, difference, produc
 use Rattle.rules.specs.LinearComb.Factors.{firstIs, secondIs, neitherIs}
 use Rattle.rules.specs.LinearNodes.{constantNode, leafNode, scaledNode, factorNode, factorsNode, productNode}
 use Rattle.rules.specs.LinearNodes.{operationNode, nodeOf, addEach}
+use Rattle.rules.proofs.Results.{bind-same}
 use Rattle.rules.proofs.CheckedNumbers.{times-value, times-out}
 use Rattle.rules.specs.declared.linear_comb.Node.{Node}
 use Rattle.rules.specs.declared.linear_comb.Node.the-variants as node
@@ -76,11 +77,6 @@ armNode t ts coeff m = elim m [
 
 -- ---- steps
 
-pub after : {A B : Type 0} (m : Result A) (f g : A → Result B) → ((a : A) → f a ≡ g a) → (m >>= f) ≡ (m >>= g)
-unfolding _>>=_
-after (ok a) f g h = h a
-after (refused r) f g h = refl
-
 -- what follows on a number m that is in range or not, by the code's answer c for it
 pub on-answer :
     {A : Type 0} (m : Result Rational) (c : Checked) → ((q : Rational) → c ≡ checked.Value q → m ≡ ok q) →
@@ -107,7 +103,8 @@ on-product n a c f g h k =
 abbrev pub Own : Bytes → Term → Type 0
 Own b t = tree b (recordNumber t) ≡ t
 
-args-each :
+-- all arguments are walked with one coefficient
+pub args-each :
     (ts : Terms) (l : Limits) (coeff : Rational) (w : Walked Term) →
     addArgs ts l coeff w ≡ addEach ts l coeff coeff w
 unfolding addTerm addEach
@@ -203,11 +200,11 @@ module _ (b : Bytes) (n : ℕ) (coeff : Rational) (w : Walked Term) where
       (t : Term) → Each (Own b) (argumentsOf t) →
       addTerm t (limited n) coeff w ≡ (visit (limited n) w >>= act b (limited n) t coeff (nodeOf t coeff))
   unfolding addTerm nodeOf asOp operationNode
-  term-walk (integer i v) own = after (visit (limited n) w) _ _ (leaf-walk b n (integer i v) coeff)
-  term-walk (rational i q) own = after (visit (limited n) w) _ _ (leaf-walk b n (rational i q) coeff)
-  term-walk (bitvector i v k) own = after (visit (limited n) w) _ _ (leaf-walk b n (bitvector i v k) coeff)
-  term-walk (atom i s k) own = after (visit (limited n) w) _ _ (leaf-walk b n (atom i s k) coeff)
-  term-walk (op i o ts) own = after (visit (limited n) w) _ _ (λ w. go w (armOf o ts) refl)
+  term-walk (integer i v) own = bind-same (visit (limited n) w) (leaf-walk b n (integer i v) coeff)
+  term-walk (rational i q) own = bind-same (visit (limited n) w) (leaf-walk b n (rational i q) coeff)
+  term-walk (bitvector i v k) own = bind-same (visit (limited n) w) (leaf-walk b n (bitvector i v k) coeff)
+  term-walk (atom i s k) own = bind-same (visit (limited n) w) (leaf-walk b n (atom i s k) coeff)
+  term-walk (op i o ts) own = bind-same (visit (limited n) w) (λ w. go w (armOf o ts) refl)
     where
       go :
           (w : Walked Term) (m : Arm) → armOf o ts ≡ m →

@@ -5,7 +5,7 @@ use mathlib.Core.List.{[], _∷_, _++_, append-assoc, append-nil}
 use Prim.Native.Nat.{ℕ, zero, suc, _+_, _*_, _-_, _≤_, _<_}
 use native.Mathlib.Nat.{suc-add, zero-add}
 use native.Mathlib.Omega.{arith}
-use lib.ListN.{length, replicate, length-append, length-replicate, replicate-append-replicate}
+use lib.ListN.{length, replicate, length-append, length-replicate}
 use Rattle.terms.specs.Rational.{Rational}
 use Rattle.terms.specs.Bytes.{Bytes}
 use Rattle.rules.specs.IndexMap.{Map}
@@ -13,6 +13,7 @@ use Rattle.rules.specs.Polynomial.{Monomial}
 use Rattle.rules.specs.WorkArea.{blank}
 use Rattle.rules.specs.PolynomialArea.{monomialBytes, entryBytes, stored, putEntry, blankKey, blanked}
 use Rattle.rules.specs.PolynomialArea.{Entry, Good}
+use Rattle.rules.proofs.Zeros.{zeros-join}
 use Rattle.rules.proofs.MonomialBytes.{length-monomial, cell, entry-cell, length-cell, entry-at}
 use Rattle.rules.proofs.MonomialBytes.{blank-size, one-more, blanked-front}
 
@@ -133,11 +134,9 @@ module _ (b : Bytes) (m : Map Monomial) (g : Good b m) where
   blank-places : (k : ℕ) → blanked (length m) (stored (length m + k) m) ≡ stored (length m + k) []
   unfolding stored
   blank-places k =
-      let whole : 25 * length m + 25 * k ≡ 25 * (length m + k) = omega arith in
       ap (blanked (length m)) (ap (stored (length m + k)) (sym (append-nil m)) ∙ split k m [])
       ∙ blanked-front (length m) (packed m) (replicate (25 * k) 0) (length-packed b m g)
-      ∙ replicate-append-replicate (25 * length m) (25 * k) 0
-      ∙ ap (λ (i : ℕ). replicate i 0) whole
+      ∙ zeros-join (25 * length m) (25 * k) (25 * (length m + k)) (omega arith)
 
   pub blank-all : (n : ℕ) → length m ≤ n → blanked (length m) (stored n m) ≡ stored n []
   blank-all n room =

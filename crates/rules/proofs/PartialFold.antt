@@ -15,7 +15,7 @@ use lib.Dec.{eqb}
 use lib.IntN.{pos}
 use lib.ListN.{length, drop, length-drop, drop-of-length-le}
 use lib.Seq.{drop-drop}
-use Rattle.terms.specs.Rational.{Rational, Proper, whole}
+use Rattle.terms.specs.Rational.{Rational, whole}
 use Rattle.terms.specs.Bytes.{Bytes}
 use Rattle.terms.specs.Term.{Term}
 use Rattle.rules.specs.Refusal.{Refusal, Result, _>>=_, assert}
@@ -34,13 +34,15 @@ use Rattle.rules.specs.declared.linear_arithmetic.Folded.the-variants as
 use Rattle.rules.specs.declared.linear_arithmetic.Progress as by-value
 use Rattle.rules.specs.declared.linear_shapes.Verdict.{Verdict}
 use Rattle.rules.specs.declared.linear_shapes.Verdict.the-variants as verdict
+use Rattle.rules.proofs.CheckedNumbers.{whole-proper}
 use Rattle.rules.proofs.StoredEntries.{kept-small}
 use Rattle.rules.proofs.Areas.{only-then, only-none}
-use Rattle.rules.proofs.Codes.{code-none, code-some}
+use Rattle.rules.proofs.Results.{next, ends, refuses-as, refused-then, code-none, code-some, refused-verdict}
+use Rattle.rules.proofs.AreaSteps.{kept-sum, sum-entries}
 use Rattle.rules.proofs.RunParts.{length-numbersIn, length-named, numbersIn-drop, termsIn-drop}
 use Rattle.rules.proofs.RunParts.{inside-drop, readArgs-drop}
-use Rattle.rules.proofs.FoldedSteps.{later, next, ends, fold-on, fold-refused}
-use Rattle.rules.proofs.FoldedAreas.{Given, limitsOf, clauseOf, ArgsAre, kept-sum, sum-entries, between-only}
+use Rattle.rules.proofs.FoldedSteps.{later, fold-on, fold-refused}
+use Rattle.rules.proofs.FoldedAreas.{Given, limitsOf, clauseOf, ArgsAre, between-only}
 use Rattle.rules.proofs.Emptied.{ready-folding, emptied, cleared}
 
 -- ---- the rule by its steps
@@ -99,9 +101,6 @@ further :
 further l clause qs done {m} {k} steps {p} {q} same =
     rw (steps, drop-drop k done clause, drop-drop k done qs, same)
 
-zero-proper : Proper (whole (pos 0))
-zero-proper = record { numerator = omega arith; positive = record { lt = tt }; denominator = omega arith }
-
 -- so many literals are done, from the empty sum to p with the bytes w
 pub record PartSoFar (g : Given) (v : ℕ) (w : Bytes) (p : by-value.Progress) (done : ℕ) : Type 0 where
   pub inside : done ≤ length (g .literals) / 4
@@ -143,13 +142,9 @@ Judged g v w r =
 -- c is the number of what is read
 module _ (g : Given) (v c : ℕ) (c-is : (n : ℕ) → c ≡ codeOf (readArgs (limited n) (termsIn (g .book) (g .args)))) where
   pub part-unread : (c ≡ 0 → ⊥) → Judged g v (g .work) (verdict.Refused c)
-  unfolding _>>=_
   part-unread other =
-      let stopped = code-some _ c (c-is (g .limit)) other in (
-        ap verdict.Refused (stopped .code)
-            ∙ sym (ap (λ z. verdictOf (visitsOf z)) (partial-unread _ (clauseOf g) _ v _ (stopped .is))),
-        refl,
-      )
+      let stopped = code-some _ c (c-is (g .limit)) other in
+      (refused-verdict (refused-then _ (refuses-as stopped (partial-unread _ (clauseOf g) _ v))), refl)
 
   pub part-begin :
       c ≡ 0 → Ready (g .book) (g .work) → Inside (g .book) (g .literals) → length (g .literals) ≤ 16384 →
@@ -165,7 +160,7 @@ module _ (g : Given) (v c : ℕ) (c-is : (n : ℕ) → c ≡ codeOf (readArgs (l
         small = small;
         named = named;
         ready = ready;
-        folding = ready-folding ready _ refl (rw q-is zero-proper);
+        folding = ready-folding ready _ refl (rw q-is (whole-proper (pos 0) (omega arith)));
         only = only-none record { size = ready .size; among = omega arith };
         numbers = passed .value;
         all = passed .is;
@@ -241,13 +236,13 @@ module _ {g : Given} {v : ℕ} {w : Bytes} {p : by-value.Progress} {done : ℕ} 
         subst (λ z. FoldedIs (length (numbersIn (rested .part))) z (rest-left .map) restFold) e (rest-left .is)
 
     pub part-refused : (c : ℕ) → r ≡ folded.Refused c → Judged g v w′ (verdict.Refused c)
-    unfolding _>>=_
     part-refused c e =
         let is = said (folded.Refused c) e in
-        let rest-stopped = fold-refused (limitsOf g) (far .trace) _ _ (progressOf (g .book) w p) 0 _ (is .0 .is) in
-        let stopped = far .left ∙ rest-stopped in (
-          ap verdict.Refused (is .0 .code)
-              ∙ sym (ap (λ z. verdictOf (visitsOf z)) (partial-refused _ (clauseOf g) _ v _ (far .all) _ stopped)),
+        let rest-stops = fold-refused (limitsOf g) (far .trace) _ _ (progressOf (g .book) w p) 0 in (
+          refused-verdict
+              (refused-then _
+              (refuses-as (is .0)
+              (λ d f. partial-refused _ (clauseOf g) _ v _ (far .all) d (far .left ∙ rest-stops d f)))),
           emptied (far .ready) {j = 0} (omega arith) now-only (rest-left .held .bytes ∙ ap (stored slots) (is .1)),
         )
 

@@ -23,7 +23,7 @@ use Rattle.rules.specs.PolynomialNodes.{TermPre, ArgsPre, addEach}
 use Rattle.rules.specs.declared.polynomial.Filled.{Filled}
 use Rattle.rules.specs.declared.polynomial.Filled.the-variants.{Done, Refused}
 use Rattle.rules.proofs.ArgumentsLeft.{argsFrom, left-none, left-next, next-below}
-use Rattle.rules.proofs.PolynomialTermWalks.{refuses-same}
+use Rattle.rules.proofs.PolynomialSums.{refuses-same}
 
 -- ---- one argument and the others
 

@@ -32,7 +32,9 @@ use Rattle.rules.proofs.CheckedNumbers.{whole-proper}
 use Rattle.rules.proofs.TowerAreas.{tower-more, tower-less}
 use Rattle.rules.proofs.ArgumentsLeft.{argsFrom, left-none, left-next, next-below}
 use Rattle.rules.proofs.PolynomialTermWalks.{lentAbove, backAbove, lent-length, lent-empty, back-length}
-use Rattle.rules.proofs.PolynomialTermWalks.{back-held, Cleared, refuses-same, small}
+use Rattle.rules.proofs.PolynomialTermWalks.{back-held, small}
+use Rattle.rules.proofs.ProductEntries.{ClearSays}
+use Rattle.rules.proofs.PolynomialSums.{refuses-same}
 
 -- ---- nothing, and one
 
@@ -237,7 +239,7 @@ module _
       factor-clear = (omega (arith, inv .low, back-long), small (inv .held) (inv .has))
 
       pub factor-refused :
-          {c : ℕ} → answer ≡ Refused c → {w′ : Bytes} → Cleared (p .len) (backAbove w y) w′ →
+          {c : ℕ} → answer ≡ Refused c → {w′ : Bytes} → ClearSays (backAbove w y) 0 (p .len) w′ →
           Fills b w′ (Refused c) (productOf b args id limit d v₀)
       factor-refused e clear =
           let f = rw e at factor in

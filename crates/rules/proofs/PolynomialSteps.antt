@@ -37,7 +37,8 @@ use Rattle.rules.specs.PolynomialNodes.{quotientNode, operationNode, nod
 use Rattle.rules.specs.declared.polynomial_walk.Arm.{Arm}
 use Rattle.rules.specs.declared.polynomial_walk.Arm.the-variants as arm
 use Rattle.rules.proofs.CheckedNumbers.{over-value, over-out}
-use Rattle.rules.proofs.NodeWalks.{Own, Below, after, on-answer, on-product, forest-own, arguments-below}
+use Rattle.rules.proofs.Results.{bind-same}
+use Rattle.rules.proofs.NodeWalks.{Own, Below, on-answer, on-product, forest-own, arguments-below}
 
 -- what the walk does at a node of the term t, under d products and after the visit
 abbrev pub act : Bytes → Limits → ℕ → Term → Rational → Arm → Walked Monomial → Result (Walked Monomial)
@@ -181,11 +182,11 @@ module _ (b : Bytes) (n d : ℕ) (coeff : Rational) (w : Walked Monomial) where
       (t : Term) → Each (Own b) (argumentsOf t) →
       addTerm t (limited n) d coeff w ≡ (visit (limited n) w >>= act b (limited n) d t coeff (nodeOf t coeff))
   unfolding addTerm nodeOf asOp operationNode addScaled
-  term-walk (integer i v) own = after (visit (limited n) w) _ _ (leaf-walk b n d (integer i v) coeff)
-  term-walk (rational i q) own = after (visit (limited n) w) _ _ (leaf-walk b n d (rational i q) coeff)
-  term-walk (bitvector i v k) own = after (visit (limited n) w) _ _ (leaf-walk b n d (bitvector i v k) coeff)
-  term-walk (atom i s k) own = after (visit (limited n) w) _ _ (leaf-walk b n d (atom i s k) coeff)
-  term-walk (op i o ts) own = after (visit (limited n) w) _ _ (λ w. go w (armOf o ts))
+  term-walk (integer i v) own = bind-same (visit (limited n) w) (leaf-walk b n d (integer i v) coeff)
+  term-walk (rational i q) own = bind-same (visit (limited n) w) (leaf-walk b n d (rational i q) coeff)
+  term-walk (bitvector i v k) own = bind-same (visit (limited n) w) (leaf-walk b n d (bitvector i v k) coeff)
+  term-walk (atom i s k) own = bind-same (visit (limited n) w) (leaf-walk b n d (atom i s k) coeff)
+  term-walk (op i o ts) own = bind-same (visit (limited n) w) (λ w. go w (armOf o ts))
     where
       go :
           (w : Walked Monomial) (m : definition.Arm) →

@@ -1,15 +1,14 @@
 -- What is added to a polynomial in a tower's lowest area: a number to its constant, an atom to its entries, a product
 -- from the area above times a number. A refusal has emptied the area before.
---     cleared                                    the area is emptied and the answer is a refusal
+--     refuses-same, refuses-empty                the area is emptied and the answer is a refusal
 --     constant-out, constant-added               the sum of the constants, by whether it is in range
 --     atom-key, atom-out, atom-added             the monomial of one atom is entered
 --     scaled-out, scaled-outside, scaled-added   the product's entries are entered, then its constant is added
 use mathlib.Core.Path.{_≡_, refl, sym, _∙_, ap}
-use mathlib.Core.Logic.{_≢_}
 use mathlib.Core.List.{List, [], _∷_}
 use Prim.Native.Nat.{ℕ, _%_, _/_, _≤_, _<_}
 use native.Mathlib.Omega.{arith}
-use lib.ListN.{length, getD, set, replicate}
+use lib.ListN.{length, replicate}
 use Rattle.terms.specs.Rational.{Rational, Gives, addQ, mulQ, checked}
 use Rattle.terms.specs.Bytes.{Bytes, bytesOf}
 use Rattle.terms.specs.Book.{count, tree}
@@ -31,19 +30,23 @@ use Rattle.rules.specs.declared.polynomial.Filled.{Filled}
 use Rattle.rules.specs.declared.polynomial.Filled.the-variants.{Done, Refused}
 use Rattle.rules.proofs.CheckedNumbers.{plus-value, plus-out, times-value, times-out}
 use Rattle.rules.proofs.TowerAreas.{tower-less}
+use Rattle.rules.proofs.Refusals.{refuses, refuses-then}
+use Rattle.rules.proofs.ProductEntries.{ClearSays, AllScaledSays}
 
 -- ---- the answers
 
-cleared :
+-- a refusal is the whole walk's, where that begins with what was refused
+pub refuses-same :
+    {A : Type 0} {b w : Bytes} → Towers b w ([] ∷ []) → {c : ℕ} {d : Result A} (r : Refuses c d) →
+    (e : Result (Walked Monomial)) → e ≡ refused (r .reason) → Fills b w (Refused c) e
+refuses-same t r e is =
+    record { map = []; held = t; is = (record { reason = r .reason; is = is; code = r .code }, refl) }
+
+-- the definition refuses with document 01's number
+pub refuses-empty :
     {b w : Bytes} → Towers b w ([] ∷ []) → (r : Refusal) (d : Result (Walked Monomial)) → d ≡ refused r →
     Fills b w (Refused (number r)) d
-cleared t r d e = record { map = []; held = t; is = (record { reason = r; is = e; code = refl }, refl) }
-
--- a refusal goes on
-on-refusal :
-    {A B : Type 0} {c : ℕ} {d : Result A} (f : A → Result B) → Refuses c d → Refuses c (d >>= f)
-unfolding _>>=_
-on-refusal f r = record { reason = r .reason; is = rw (r .is); code = r .code }
+refuses-empty t r d e = record { map = []; held = t; is = (refuses r e, refl) }
 
 -- what an insertion has answered
 module _
@@ -66,7 +69,7 @@ module _ {s : Poly} {m : Map Monomial} (has : PolyHas s m) (l v : ℕ) where
     unfolding addConstant _>>=_
     constant-out out t =
         let no : plus (limited l) (s .constant) q ≡ refused numberRange = plus-out l _ _ (sym (gives .is) ∙ out) in
-        cleared t numberRange _ (rw no)
+        refuses-empty t numberRange _ (rw no)
 
     pub constant-added :
         {c : Rational} → a ≡ checked.Value c → Towers b w (m ∷ []) →
@@ -92,7 +95,7 @@ module _ {s : Poly} {m : Map Monomial} (has : PolyHas s m) (l v : ℕ) where
     unfolding addEntry
     atom-out e =
         let is = entered-none enters e in
-        record { map = enters .map; held = enters .held; is = (on-refusal _ (is .0), is .1) }
+        record { map = enters .map; held = enters .held; is = (refuses-then _ (is .0), is .1) }
 
     pub atom-added :
         {n : ℕ} → r ≡ entered.Length n →
@@ -123,27 +126,14 @@ atom-key b id inside =
 
 -- ---- a product times a number
 
--- what `clear_at` promises: area j of n entries is emptied
-abbrev pub Clears : ℕ → ℕ → Bytes → Bytes → Type 0
-Clears j n w w′ =
-    (b : Bytes) (ms : List (Map Monomial)) → Towers b w ms → j < length ms → n ≡ length (getD ms j []) →
-    Towers b w′ (set ms j [])
-
 pub few-entries : {r : Entered} {n : ℕ} → Few r → r ≡ entered.Length n → n ≤ 64
 few-entries few e = rw e at few
-
--- what `insert_scaled` promises: the n entries of area 1, times a number, are entered among the m of area 0
-abbrev pub InsertsScaled : ℕ → Rational → ℕ → Bytes → Bytes → Entered → Type 0
-InsertsScaled n q m w w′ r =
-    (b : Bytes) (ms : List (Map Monomial)) → Towers b w ms → 1 < length ms → 0 < length ms → _≢_ {A = ℕ} 1 0 →
-    n ≡ length (getD ms 1 []) → m ≡ length (getD ms 0 []) → (l : ℕ) →
-    EntersAt b w′ ms 0 r (insertScaled (limited l) (getD ms 1 []) q (getD ms 0 []))
 
 -- r is what the insertion of the product's entries answers, and area 1 is emptied then
 module _
     {b w : Bytes} {s p : Poly} {m n : Map Monomial} (towers : Towers b w (m ∷ n ∷ [])) (has : PolyHas s m)
     (has-p : PolyHas p n) (coeff : Rational) (l v : ℕ) {w′ w″ : Bytes} {r : Entered}
-    (inserts : InsertsScaled (p .len) coeff (s .len) w w′ r) (clears : Clears 1 (p .len) w′ w″) where
+    (inserts : AllScaledSays w 1 (p .len) coeff 0 (s .len) w′ r) (clears : ClearSays w′ 1 (p .len) w″) where
   enters : EntersAt b w′ (m ∷ n ∷ []) 0 r (insertScaled (limited l) n coeff m)
   enters =
       inserts b (m ∷ n ∷ []) towers (omega arith) (omega arith) (λ e. omega arith) (has-p .size) (has .size) l
@@ -157,7 +147,7 @@ module _
   unfolding addScaled
   scaled-out e =
       let is = entered-none enters e in
-      record { map = enters .map; held = lowest; is = (on-refusal _ (is .0), is .1) }
+      record { map = enters .map; held = lowest; is = (refuses-then _ (is .0), is .1) }
 
   -- a is what the code finds for the product of the constant
   module _ {k : ℕ} (e : r ≡ entered.Length k) {a : Checked} (gives : Gives a (checked (mulQ coeff (p .constant)))) where
@@ -168,13 +158,13 @@ module _
     long = entered-all enters e .1
 
     pub scaled-outside :
-        a ≡ checked.OutOfRange → {w‴ : Bytes} → Clears 0 k w″ w‴ →
+        a ≡ checked.OutOfRange → {w‴ : Bytes} → ClearSays w″ 0 k w‴ →
         Fills b w‴ (Refused 11) (addScaled (limited l) coeff (polyWith p n) (walked (polyWith s m) v))
     unfolding addScaled _>>=_
     scaled-outside out clears =
         let no : times (limited l) coeff (p .constant) ≡ refused numberRange =
         times-out l _ _ (sym (gives .is) ∙ out) in
-        cleared (clears b (enters .map ∷ []) lowest (omega arith) long) numberRange _ (rw (entries, no))
+        refuses-empty (clears b (enters .map ∷ []) lowest (omega arith) long) numberRange _ (rw (entries, no))
 
     -- what is left is to add it to the constant of the sum
     module _ {c : Rational} (value : a ≡ checked.Value c) where

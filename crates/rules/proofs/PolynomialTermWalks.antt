@@ -5,25 +5,23 @@
 --         what the steps at a node ask
 --     unvisited, at-node, at-args, at-refusal, too-deep, factors-refused, factors-made
 --         the walk of a term is what is done at its node
-use mathlib.Core.Path.{_≡_, refl, sym, _∙_, ap, subst}
+use mathlib.Core.Path.{_≡_, sym, _∙_, ap, subst}
 use mathlib.Core.List.{List, [], _∷_, _++_, append-nil}
 use Prim.Native.Nat.{ℕ, suc, _+_, _-_, _≤_, _<_}
 use native.Mathlib.Numerals.{add-one}
 use native.Mathlib.Omega.{arith}
 use borrow.Author.Tests.{le-leb, lt-leb}
-use lib.ListN.{length, getD, set, take, drop, length-append, length-drop, drop-of-length-le}
+use lib.ListN.{length, take, drop, length-append, length-drop, drop-of-length-le}
 use lib.Seq.{take-all, length-take-le}
 use Rattle.terms.specs.Rational.{Rational, Proper}
 use Rattle.terms.specs.Bytes.{Bytes}
 use Rattle.terms.specs.Term.{Terms}
 use Rattle.terms.specs.Book.{tree, forest, numbers, arguments}
 use Rattle.terms.specs.Readers.{argumentsOf}
-use Rattle.rules.specs.Refusal.{Refusal, Result, _>>=_, assert, number}
-use Rattle.rules.specs.Refusal.Result.{refused}
+use Rattle.rules.specs.Refusal.{Result, _>>=_, assert}
 use Rattle.rules.specs.Refusal.Refusal.{visitLimit, numberRange, polynomialSize}
 use Rattle.rules.specs.Limits.{limited}
 use Rattle.rules.specs.IndexMap.{Map, Walked, walked, visit}
-use Rattle.rules.specs.WorkArea.{Refuses}
 use Rattle.rules.specs.Polynomial.{Monomial, Polynomial, addTerm, firstFactor}
 use Rattle.rules.specs.PolynomialArea.{Floors, AllGood, Towers, Poly, PolyHas, polyWith, Fills}
 use Rattle.rules.specs.PolynomialArea.{addScaled}
@@ -34,6 +32,9 @@ use Rattle.rules.specs.declared.polynomial_walk.Arm.{Arm}
 use Rattle.rules.specs.declared.polynomial_walk.Arm.the-variants.{Args, Product, Quotient, Constant, OutOfRange}
 use Rattle.rules.proofs.TowerAreas.{tower-less, tower-above, tower-on}
 use Rattle.rules.proofs.NodeWalks.{args-below}
+use Rattle.rules.proofs.ProductEntries.{ClearSays}
+use Rattle.rules.proofs.PolynomialSums.{refuses-same, refuses-empty}
+use Rattle.rules.proofs.Refusals.{stops}
 use Rattle.rules.proofs.PolynomialSteps.{act, walk-node, quotient-below}
 
 -- ---- the bytes above the foot
@@ -72,33 +73,6 @@ module _ {b w : Bytes} {m : Map Monomial} (held : Towers b w (m ∷ [])) where
       subst (λ (z : Bytes). Towers b z (m ∷ ns)) (sym (back-above w y))
       (tower-on held (long ∙ ap length (lent-above w)) u)
 
--- ---- the answers
-
--- the foot, of n entries, was emptied
-abbrev pub Cleared : ℕ → Bytes → Bytes → Type 0
-Cleared n w w′ =
-    (b : Bytes) (ms : List (Map Monomial)) → Towers b w ms → 0 < length ms → n ≡ length (getD ms 0 []) →
-    Towers b w′ (set ms 0 [])
-
--- the definition refuses with document 01's number
-pub refuses-empty :
-    {b w : Bytes} → Towers b w ([] ∷ []) → (r : Refusal) (d : Result (Walked Monomial)) → d ≡ refused r →
-    Fills b w (Refused (number r)) d
-refuses-empty t r d e =
-    record { map = []; held = t; is = (record { reason = r; is = e; code = refl }, refl) }
-
-pub stops :
-    {A B : Type 0} (d : Result A) (f : A → Result B) {r : Refusal} → d ≡ refused r → (d >>= f) ≡ refused r
-unfolding _>>=_
-stops d f e = rw e
-
--- a refusal is the whole walk's, where that begins with what was refused
-pub refuses-same :
-    {A : Type 0} {b w : Bytes} → Towers b w ([] ∷ []) → {c : ℕ} {d : Result A} (r : Refuses c d) →
-    (e : Result (Walked Monomial)) → e ≡ refused (r .reason) → Fills b w (Refused c) e
-refuses-same t r e is =
-    record { map = []; held = t; is = (record { reason = r .reason; is = is; code = r .code }, refl) }
-
 pub small : {b w : Bytes} {s : Poly} {m : Map Monomial} → Towers b w (m ∷ []) → PolyHas s m → s .len ≤ 64
 unfolding AllGood
 small t h = omega (arith, h .size, t .good .0 .1)
@@ -116,12 +90,12 @@ module _ {b w : Bytes} {id : ℕ} {coeff : Rational} {s : Poly} {d : ℕ} (pre :
   atom-pre = (clear-pre .0, (foot-small, (pre .filling .has .proper, (omega (arith, pre .inside), pre .proper))))
 
   cleared :
-      {w′ : Bytes} → Cleared (s .len) w w′ → (m : Map Monomial) → Towers b w (m ∷ []) → PolyHas s m →
+      {w′ : Bytes} → ClearSays w 0 (s .len) w′ → (m : Map Monomial) → Towers b w (m ∷ []) → PolyHas s m →
       Towers b w′ ([] ∷ [])
   cleared clear m t h = clear b (m ∷ []) t (omega arith) (h .size)
 
   pub unvisited :
-      (limit v : ℕ) → limit ≤ v → {w′ : Bytes} → Cleared (s .len) w w′ →
+      (limit v : ℕ) → limit ≤ v → {w′ : Bytes} → ClearSays w 0 (s .len) w′ →
       (m : Map Monomial) → Towers b w (m ∷ []) → PolyHas s m →
       Fills b w′ (Refused 10) (addTerm (tree b id) (limited limit) d coeff (walked (polyWith s m) v))
   unfolding visit assert _>>=_
@@ -173,7 +147,7 @@ module _ {b w : Bytes} {id : ℕ} {coeff : Rational} {s : Poly} {d : ℕ} (pre :
           walk-node b id limit d coeff _ ∙ rw (yes, ← look .is, add-one)
 
       pub at-refusal :
-          r ≡ OutOfRange → {w′ : Bytes} → Cleared (s .len) w w′ →
+          r ≡ OutOfRange → {w′ : Bytes} → ClearSays w 0 (s .len) w′ →
           (m : Map Monomial) → Towers b w (m ∷ []) → PolyHas s m →
           Fills b w′ (Refused 11) (addTerm (tree b id) (limited limit) d coeff (walked (polyWith s m) v))
       at-refusal e clear m t has = refuses-empty (cleared clear m t has) numberRange _ (rw (visited (polyWith s m), e))
@@ -196,7 +170,7 @@ module _ {b w : Bytes} {id : ℕ} {coeff : Rational} {s : Poly} {d : ℕ} (pre :
       at-args e ts is fills = at-node e (λ m t has. rw is at (fills m t has))
 
       pub too-deep :
-          r ≡ Product → 8 ≤ d → {w′ : Bytes} → Cleared (s .len) w w′ →
+          r ≡ Product → 8 ≤ d → {w′ : Bytes} → ClearSays w 0 (s .len) w′ →
           (m : Map Monomial) → Towers b w (m ∷ []) → PolyHas s m →
           Fills b w′ (Refused 12) (addTerm (tree b id) (limited limit) d coeff (walked (polyWith s m) v))
       unfolding assert _>>=_
@@ -254,7 +228,7 @@ module _ {b w : Bytes} {id : ℕ} {coeff : Rational} {s : Poly} {d : ℕ} (pre :
               visited limit v h q ∙ rw (product, yes, is, add-one d)
 
           pub factors-refused :
-              {c : ℕ} → answer ≡ Refused c → {w′ : Bytes} → Cleared (s .len) (backAbove w y) w′ →
+              {c : ℕ} → answer ≡ Refused c → {w′ : Bytes} → ClearSays (backAbove w y) 0 (s .len) w′ →
               (m : Map Monomial) → Towers b w (m ∷ []) → PolyHas s m →
               Fills b w′ (Refused c) (addTerm (tree b id) (limited limit) d coeff (walked (polyWith s m) v))
           factors-refused e clear m t has =

@@ -1,6 +1,6 @@
 -- One entry of the loops of `mul`: the definition's answer from what the code reads of it, a monomial's bytes and a
 -- number, and from the number that it computes.
-use mathlib.Core.Path.{_≡_, ap, subst}
+use mathlib.Core.Path.{_≡_, subst}
 use mathlib.Core.Logic.{_≢_}
 use mathlib.Core.List.{List, [], _∷_, _++_}
 use Prim.Native.Nat.{ℕ, suc, _+_, _*_, _≤_, _<_}
@@ -17,10 +17,11 @@ use Rattle.rules.specs.Refusal.Refusal.{numberRange, polynomialSize}
 use Rattle.rules.specs.Limits.{limited}
 use Rattle.rules.specs.IndexMap.{Map, combination, insert}
 use Rattle.rules.specs.Polynomial.{Monomial, monomials, joined, mulEach, mulLeft, insertScaled}
-use Rattle.rules.specs.PolynomialArea.{monomialBytes, keyAt, Key, Held, Floors, partAt, Towers, EntersAt, noEntry}
+use Rattle.rules.specs.PolynomialArea.{keyAt, Key, Held, Floors, partAt, Towers, EntersAt, noEntry}
 use Rattle.rules.specs.PolynomialArea.{enterProduct, mulEntry, enterScaled}
 use Rattle.rules.specs.declared.monomials.Entered.{Entered}
 use Rattle.rules.proofs.CheckedNumbers.{times-value, times-out}
+use Rattle.rules.proofs.AtomPlaces.{key-count}
 use Rattle.rules.proofs.StoredMonomials.{read-key, read-value}
 
 -- ---- what the functions promise of an answer r and of the bytes w′ that they leave
@@ -90,11 +91,6 @@ key-byte w j k h known =
     )
     (known (1600 * j + (25 * k + 0)))
 
--- how many atoms
-pub key-first : {b x : Bytes} {y : Monomial} → Key b x y → getD x 0 0 ≡ length y
-unfolding monomialBytes
-key-first k = ap (λ z. getD z 0 0) (k .bytes)
-
 module _ {b w : Bytes} (q : Map Monomial) (held : Held b w q) (k : ℕ) (h : k < length q) where
   split : Held b w (take k q ++ getD q k noEntry ∷ drop (suc k) q)
   split = subst (Held b w) (split-at q k noEntry h) held
@@ -124,19 +120,10 @@ module _ (l : ℕ) (e : Monomial × Rational) (q : Rational) {c : Rational} (c-i
 -- ---- a monomial against an entry
 
 module _
-    (l : ℕ)
-    {b x : Bytes}
-    {y : Monomial}
-    (key : Key b x y)
-    (c : Rational)
-    (e : Monomial × Rational)
-    {other : Bytes}
-    (key′ : Key b other (e .0))
-    {d : Rational}
-    (d-is : d ≡ e .1)
-    (m : Map Monomial) where
+    (l : ℕ) {b x : Bytes} {y : Monomial} (key : Key b x y) (c : Rational) (e : Monomial × Rational) {other : Bytes}
+    (key′ : Key b other (e .0)) {d : Rational} (d-is : d ≡ e .1) (m : Map Monomial) where
   atoms : getD x 0 0 + getD other 0 0 ≡ length y + length (e .0)
-  atoms = rw (key-first key, key-first key′)
+  atoms = rw (key-count key, key-count key′)
 
   pub product-long : 8 < getD x 0 0 + getD other 0 0 → enterProduct (limited l) y c e m ≡ refused polynomialSize
   unfolding enterProduct _>>=_ assert
@@ -158,15 +145,8 @@ module _
 -- ---- an entry against a polynomial
 
 module _
-    (l : ℕ)
-    (e : Monomial × Rational)
-    (q : Map Monomial)
-    (constant : Rational)
-    {c : Rational}
-    (c-is : c ≡ e .1)
-    (m : Map Monomial)
-    {m1 : Map Monomial}
-    (each : mulEach (limited l) (e .0) c q m ≡ ok m1) where
+    (l : ℕ) (e : Monomial × Rational) (q : Map Monomial) (constant : Rational) {c : Rational} (c-is : c ≡ e .1)
+    (m : Map Monomial) {m1 : Map Monomial} (each : mulEach (limited l) (e .0) c q m ≡ ok m1) where
   pub entry-out :
       checked (mulQ c constant) ≡ answer.OutOfRange →
       mulEntry (limited l) e (combination q constant) m ≡ refused numberRange

@@ -19,7 +19,8 @@ use Rattle.rules.specs.PolynomialArea.{places, Key, Towers, Few}
 use Rattle.rules.specs.PolynomialArea.{enterProduct, mulEntry, enterScaled}
 use Rattle.rules.specs.declared.monomials.Entered.{Entered}
 use Rattle.rules.specs.declared.monomials.Entered.the-variants.{Length, Refused}
-use Rattle.rules.proofs.EntryTurns.{turns, bind-assoc, bind-same, Task, Does, Turned, Looping}
+use Rattle.rules.proofs.Results.{bind-assoc, bind-same}
+use Rattle.rules.proofs.EntryTurns.{turns, Task, Does, Turned, Looping}
 use Rattle.rules.proofs.EntryTurns.{loop-begin, loop-more, loop-refused, loop-done}
 use Rattle.rules.proofs.ProductEntries.{ProductSays, EachSays, EntrySays, LeftSays, ScaledSays, AllScaledSays}
 

@@ -23,7 +23,7 @@ use Rattle.rules.specs.declared.polynomial.Made.{Made}
 use Rattle.rules.specs.declared.polynomial.Made.the-variants as made
 use Rattle.rules.proofs.CheckedNumbers.{times-value, times-out}
 use Rattle.rules.proofs.TowerAreas.{tower-more, tower-less}
-use Rattle.rules.proofs.EntryTurns.{refused-then}
+use Rattle.rules.proofs.Refusals.{refuses, refuses-then}
 use Rattle.rules.proofs.ProductEntries.{ClearSays, LeftSays, AllScaledSays}
 
 -- ---- what the functions promise of an answer r and of the bytes w′ that they leave
@@ -47,13 +47,13 @@ MulSays w p q w′ r =
 module _ (l : ℕ) (p q : Polynomial) where
   left-refused : {c : ℕ} → Refuses c (mulLeft (limited l) (p .entries) q []) → Refuses c (mul (limited l) p q)
   unfolding mul
-  left-refused r = refused-then _ r
+  left-refused r = refuses-then _ r
 
   module _ {m1 : Map Monomial} (left : mulLeft (limited l) (p .entries) q [] ≡ ok m1) where
     scaled-refused :
         {c : ℕ} → Refuses c (insertScaled (limited l) (q .entries) (p .constant) m1) → Refuses c (mul (limited l) p q)
     unfolding mul _>>=_
-    scaled-refused r = rw left (refused-then _ r)
+    scaled-refused r = rw left (refuses-then _ r)
 
     module _ {m2 : Map Monomial} (scaled : insertScaled (limited l) (q .entries) (p .constant) m1 ≡ ok m2) where
       constant-out :
@@ -86,11 +86,7 @@ record Scaled (p q : Poly) (b w : Bytes) (u v : Map Monomial) (l : ℕ) (r : Ent
   pub done : EntersAt b w (u ∷ v ∷ first ∷ []) 2 r (insertScaled (limited l) v (p .constant) first)
 
 module _
-    {w : Bytes}
-    (high : Floors 2 w)
-    {p q : Poly}
-    {w1 : Bytes}
-    {r1 : Entered}
+    {w : Bytes} (high : Floors 2 w) {p q : Poly} {w1 : Bytes} {r1 : Entered}
     (left : LeftSays w (p .len) (q .len) (q .constant) w1 r1) where
   after-left :
       {b : Bytes} {u v : Map Monomial} → Towers b w (u ∷ v ∷ []) → PolyHas p u → PolyHas q v → (l : ℕ) →
@@ -106,10 +102,7 @@ module _
       (refuse b u v _ (rw (done .is .1) at (done .held)) (hp .size) (hq .size))
 
   module _
-      {len : ℕ}
-      (e1 : r1 ≡ Length len)
-      {w2 : Bytes}
-      {r2 : Entered}
+      {len : ℕ} (e1 : r1 ≡ Length len) {w2 : Bytes} {r2 : Entered}
       (all : AllScaledSays w1 1 (q .len) (p .constant) 2 len w2 r2) where
     after-scaled :
         {b : Bytes} {u v : Map Monomial} → Towers b w (u ∷ v ∷ []) → PolyHas p u → PolyHas q v → (l : ℕ) →
@@ -139,7 +132,7 @@ module _
       constant-outside out clear is refuse b u v tower hp hq l =
           let after = rw e2 at (after-scaled tower hp hq l) in
           let no = constant-out l (polyWith p u) (polyWith q v) (after .is-first) (after .done .is .0) out in
-          none-made is (record { reason = numberRange; is = no; code = refl })
+          none-made is (refuses numberRange no)
           (refuse b u v _ (clear b _ (after .done .held) (omega arith) (after .done .is .1)) (hp .size) (hq .size))
 
       pub product-made :

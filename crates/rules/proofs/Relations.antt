@@ -6,23 +6,23 @@ use mathlib.Core.Path.{_≡_, refl, sym, _∙_, ap, subst}
 use mathlib.Core.Bool.{Bool, true, false}
 use mathlib.Core.List.{List, [], _∷_}
 use mathlib.Core.Option.{Option, some, none}
-use Prim.Native.Nat.{ℕ, zero, suc, _/_, _≤_, _<_}
+use Prim.Native.Nat.{ℕ, _/_, _≤_, _<_}
 use native.Mathlib.Omega.{arith}
 use borrow.Author.Tests.{le-leb, lt-leb, ltb-true, ne-eqb}
 use lib.Dec.{eqb, ltb}
-use lib.ListN.{length, getD}
+use lib.ListN.{length}
 use Rattle.terms.specs.Bytes.{Bytes}
 use Rattle.terms.specs.Operator.{Not, LessThan, LessEq, GreaterThan, GreaterEq}
 use Rattle.terms.specs.Term.{Term, Terms, recordNumber, unary, if_then_else_}
 use Rattle.terms.specs.Term.Term.{op}
 use Rattle.terms.specs.Term.Terms.{nil, _▹_}
-use Rattle.terms.specs.Book.{count, recordOf, argBytes, tree, numbers, arguments, argumentAt, earlier, nothing, forest}
+use Rattle.terms.specs.Book.{count, recordOf, argBytes, tree, numbers, arguments, argumentAt, earlier, forest}
 use Rattle.terms.specs.Book.{allBelow}
 use Rattle.terms.specs.Readers.{Child, found, asOp, operatorOf, argumentsOf, removeNegation}
 use Rattle.terms.specs.declared.term.Only.{Only}
 use Rattle.terms.specs.declared.term.Only.the-variants as only
 use Rattle.terms.proofs.Truths.{both}
-use Rattle.terms.proofs.Records.{length-numbers, earlier-before, forest-of-two}
+use Rattle.terms.proofs.Records.{earlier-before, forest-of-two}
 use Rattle.terms.proofs.Readings.{unary-shape}
 use Rattle.terms.proofs.BookTerms.{recordNumber-tree}
 use Rattle.terms.proofs.RecordReadings.{argumentsOf-record}
@@ -37,7 +37,9 @@ use Rattle.rules.specs.declared.disequality.Operation.{Operation}
 use Rattle.rules.specs.declared.disequality.Operation.the-variants as operation
 use Rattle.rules.specs.declared.disequality.Relation.the-variants as relation
 use Rattle.rules.proofs.NodeAnswers.{counted}
+use Rattle.rules.proofs.Results.{refuses}
 use Rattle.rules.proofs.NodeWalks.{args-below}
+use Rattle.rules.proofs.ArgumentsLeft.{next-below}
 
 -- ---- negate_operator
 
@@ -210,20 +212,12 @@ not-two-sides (a ▹ c ▹ d ▹ ts) h = refl
 abbrev withSides : ℕ → Result (Term × Term) → Result (ℕ × Term × Term)
 withSides o m = m >>= λ p. ok (o, p .0, p .1)
 
-argument-below : (i : ℕ) (l : List ℕ) → allBelow i l ≡ true → (k : ℕ) → k < length l → earlier i (getD l k nothing) < i
-unfolding allBelow
-argument-below i [] e k h = absurd (omega arith)
-argument-below i (a ∷ l) e zero h =
-    let lower : a < i = ltb-true a i (both (ltb a i) (allBelow i l) e .0) in
-    rw (earlier-before i a lower) lower
-argument-below i (a ∷ l) e (suc k) h = argument-below i l (both (ltb a i) (allBelow i l) e .1) k (omega arith)
-
 module _ (b : Bytes) (i : ℕ) {r : Operation} (n : InnerIs b r (inner (tree b i))) where
   pub no-relation-of : r ≡ operation.Neither → Refuses 26 (relationOf (tree b i))
   unfolding relationOf orElse _>>=_
   no-relation-of e =
       let is : inner (tree b i) ≡ none = subst (λ (r : Operation). InnerIs b r (inner (tree b i))) e n in
-      record { reason = invalidDisequalityOp; is = rw (is, relationOf); code = refl }
+      refuses invalidDisequalityOp (rw (is, relationOf))
 
   module _ {o x : ℕ} (e : r ≡ operation.Of o x) (args : Bytes)
       (args-is : forest (tree b) (arguments x (numbers args)) ≡ argumentsOf (tree b x)) where
@@ -238,15 +232,13 @@ module _ (b : Bytes) (i : ℕ) {r : Operation} (n : InnerIs b r (inner (tree b i
     unfolding _>>=_
     other-sides h =
         let many = not-two-sides (argumentsOf (tree b x)) (λ k. h (counted (tree b x) b x args args-is ∙ k)) in
-        record { reason = tooManyArgsInDisequality; is = relation-is ∙ ap (withSides o) many; code = refl }
+        refuses tooManyArgsInDisequality (relation-is ∙ ap (withSides o) many)
 
     side-below : Laid b → (k : ℕ) → k < length args / 2 → argumentAt args k x < count b
-    unfolding argumentAt
     side-below laid k h =
         let inside = operation-is .1 in
         let all = args-below b x inside (laid x inside) args args-is in
-        let lower = argument-below x (numbers args) all k (omega (arith, length-numbers args)) in
-        omega (arith, lower)
+        omega (arith, next-below args x {k = k} h refl all)
 
     pub two-sides :
         {y z : ℕ} → Laid b → length args / 2 ≡ 2 → y ≡ argumentAt args 0 x → z ≡ argumentAt args 1 x →

@@ -4,10 +4,10 @@
 --     drop-to-end, drop-past-end       what the function `rest` takes
 --     named-drop, named-cons, named-past, termsIn-drop       the terms that they name
 --     below-at, inside-drop       each names a record of the book
---     readArgs-drop, ArgumentAt, argument-at, argument-past       the arguments that are read
+--     readOf, fraction-read, readArgs-drop, ArgumentAt, argument-at, argument-past       the arguments that are read
 --     ReadSoFar, read-begin .. read-end, argument-of .. argument-beyond       the functions `read_args`, `argument_at`
 use mathlib.Core.Path.{_≡_, refl, sym, ap, _∙_}
-use mathlib.Core.Bool.{Bool, true, false, _&&_}
+use mathlib.Core.Bool.{true}
 use mathlib.Core.Logic.{_⊎_}
 use mathlib.Core.List.{List, [], _∷_}
 use mathlib.Core.Option.{Option, some, none}
@@ -25,6 +25,7 @@ use Rattle.terms.specs.Book.{count, tree, allBelow}
 use Rattle.terms.specs.Readers.{asFraction, ranged, Finds}
 use Rattle.terms.specs.declared.term.Reading.{Reading}
 use Rattle.terms.specs.declared.term.Reading.the-variants.{Value, NotNumber, OutOfRange}
+use Rattle.terms.proofs.Truths.{both}
 use Rattle.terms.proofs.Findings.{tag, no-value}
 use Rattle.terms.proofs.LittleEndian.{le-cons, le-of-two}
 use Rattle.rules.proofs.Yields.{through}
@@ -109,22 +110,18 @@ module _ (b : Bytes) where
 
 -- ---- each names a record of the book
 
-both-true : (s t : Bool) → (s && t) ≡ true → (s ≡ true) × (t ≡ true)
-both-true true t h = (refl, h)
-both-true false t h = (cc, cc)
-
 module _ (n : ℕ) where
-  pub below-at : (l : List ℕ) (k : ℕ) → allBelow n l ≡ true → k < length l → getD l k 0 < n
+  pub below-at : (l : List ℕ) (k d : ℕ) → allBelow n l ≡ true → k < length l → getD l k d < n
   unfolding allBelow
-  below-at [] k h inside = absurd (omega arith)
-  below-at (i ∷ l) zero h inside = ltb-true i n (both-true (ltb i n) (allBelow n l) h .0)
-  below-at (i ∷ l) (suc k) h inside = below-at l k (both-true (ltb i n) (allBelow n l) h .1) (omega arith)
+  below-at [] k d h inside = absurd (omega arith)
+  below-at (i ∷ l) zero d h inside = ltb-true i n (both (ltb i n) (allBelow n l) h .0)
+  below-at (i ∷ l) (suc k) d h inside = below-at l k d (both (ltb i n) (allBelow n l) h .1) (omega arith)
 
   below-drop : (l : List ℕ) (k : ℕ) → allBelow n l ≡ true → allBelow n (drop k l) ≡ true
   unfolding allBelow
   below-drop l zero h = h
   below-drop [] (suc k) h = refl
-  below-drop (i ∷ l) (suc k) h = below-drop l k (both-true (ltb i n) (allBelow n l) h .1)
+  below-drop (i ∷ l) (suc k) h = below-drop l k (both (ltb i n) (allBelow n l) h .1)
 
 pub inside-drop : (b p : Bytes) (k : ℕ) → Inside b p → Inside b (drop (4 * k) p)
 inside-drop b p k h = ap (allBelow (count b)) (numbersIn-drop p k) ∙ below-drop (count b) (numbersIn p) k h
@@ -132,7 +129,7 @@ inside-drop b p k h = ap (allBelow (count b)) (numbersIn-drop p k) ∙ below-dro
 -- ---- the arguments that are read
 
 -- `as_fraction_err`
-abbrev readOf : Reading → Result Rational
+abbrev pub readOf : Reading → Result Rational
 readOf (Value q) = ok q
 readOf NotNumber = refused expectedAnyNumber
 readOf OutOfRange = refused numberRange
@@ -143,7 +140,7 @@ read-ok NotNumber q h = cc
 read-ok OutOfRange q h = cc
 
 module _ (l : Limits) where
-  fraction-read : (t : Term) → fractionErr l t ≡ readOf (asFraction (l .numbers) t)
+  pub fraction-read : (t : Term) → fractionErr l t ≡ readOf (asFraction (l .numbers) t)
   unfolding fractionErr fractionOf _>>=_ orElse
   fraction-read t = go (asFraction (l .numbers) t)
     where

@@ -15,11 +15,12 @@ use Rattle.rules.specs.Refusal.{_>>=_}
 use Rattle.rules.specs.Limits.{Limits, limited, times}
 use Rattle.rules.specs.IndexMap.{Map, scaleAll}
 use Rattle.rules.specs.LinearComb.{mul}
-use Rattle.rules.specs.WorkArea.{Sum, entriesOf, combOf, blanked, Held, Kept, KeptSum, Inserts, Sums}
+use Rattle.rules.specs.WorkArea.{Sum, entriesOf, combOf, blanked, Kept, KeptSum, Inserts, Sums}
 use Rattle.rules.specs.declared.index_map.Inserted.the-variants.{Length, OutOfRange}
 use Rattle.rules.specs.declared.linear_comb.Summed.the-variants as summed
 use Rattle.rules.proofs.CheckedNumbers.{times-value, times-out, whole-proper}
 use Rattle.rules.proofs.StoredEntries.{kept-entries, clear-all}
+use Rattle.rules.proofs.AreaSteps.{kept-cleared}
 use Rattle.rules.proofs.Yields.{Yields, gives, and-then, past, at-ok}
 
 -- an entry for an entry
@@ -30,12 +31,8 @@ scaled-length l q [] = gives refl
 scaled-length l q (e ∷ M) =
     past (times l (e .1) q) λ v. and-then (scaled-length l q M) λ m h. gives (omega arith)
 
-module _ {b w : Bytes} {n : ℕ} (kept : Kept b w n) where
-  pub kept-cleared : {w′ : Bytes} → w′ ≡ blanked n w → Held b w′ []
-  kept-cleared e = rw (e, kept .size) (clear-all (kept .map) (kept .held))
-
-  kept-length : length (entriesOf b w n) ≡ n
-  kept-length = rw (kept-entries kept, kept .size)
+kept-length : {b w : Bytes} {n : ℕ} → Kept b w n → length (entriesOf b w n) ≡ n
+kept-length kept = rw (kept-entries kept, kept .size)
 
 module _ {b w : Bytes} {s : Sum} (kept : KeptSum b w s) (q : Rational) (l : ℕ) where
   pub times-zero :

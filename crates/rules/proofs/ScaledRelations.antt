@@ -1,4 +1,4 @@
--- The steps of `poly_simp_rel`. An answer is 0 or a refusal's number, which is not 0 (`nonzero`): a definition `stops`
+-- The steps of `poly_simp_rel`. An answer is 0 or a refusal's number, which is not 0: a definition `stops`
 -- at a number and `goes-on` at 0. Shapes that the definitions ask for one after the other are found at once (`pairs`):
 -- the two sides of an equation (`equated-steps`), the operands of a relation (`sides-steps`). What is left of
 -- `bitvectorCase` and `numberCase` after the coefficients is a step of its own (`vectors-in-turn`, `numbers-in-turn`).
@@ -8,7 +8,6 @@ use mathlib.Core.Bool.{Bool, true, false, _&&_, _||_, not, Bool·beq, cond}
 use mathlib.Core.List.{List, [], _∷_}
 use mathlib.Core.Option.{Option, some, none}
 use Prim.Native.Nat.{ℕ, _%_, _≤_, _<_}
-use native.Mathlib.Omega.{arith}
 use borrow.Author.Tests.{eq-eqb, ne-eqb, eqb-true, eqb-false, le-leb, lt-leb}
 use lib.Dec.{eqb}
 use Rattle.terms.specs.Rational.{Rational, isZero, isPositive}
@@ -29,18 +28,14 @@ use Rattle.terms.specs.declared.term.Reading.the-variants.{Value, NotNumber, Ou
 use Rattle.terms.specs.declared.term.BitVector.{BitVector}
 use Rattle.terms.specs.declared.term.BitVector.the-variants.{Bits, NotBitvector}
 use Rattle.terms.proofs.RecordReadings.{asOp-record, asOp-other}
-use Rattle.rules.specs.Refusal.{Refusal, Result, _>>=_, assert, orElse, number}
+use Rattle.rules.specs.Refusal.{Refusal, Result, _>>=_, assert, orElse}
 use Rattle.rules.specs.Refusal.Result.{ok, refused}
-use Rattle.rules.specs.Refusal.Refusal.{workAreaOrLimit, bookSize, recordLayout, sortBroken, recordRepeated}
-use Rattle.rules.specs.Refusal.Refusal.{runSize, runRecord, noRoom, visitLimit, numberRange, polynomialSize}
-use Rattle.rules.specs.Refusal.Refusal.{wrongNumberOfArgs, wrongNumberOfPremises, wrongLengthOfClause}
+use Rattle.rules.specs.Refusal.Refusal.{numberRange}
+use Rattle.rules.specs.Refusal.Refusal.{wrongLengthOfClause}
 use Rattle.rules.specs.Refusal.Refusal.{wrongLengthOfPremiseClause, termOfWrongForm, expectedAnyNumber}
-use Rattle.rules.specs.Refusal.Refusal.{invalidDisequalityOp, tooManyArgsInDisequality, notUnit, coeffNotFound}
-use Rattle.rules.specs.Refusal.Refusal.{disequalityIsNotContradiction, notValidTautologyCase}
-use Rattle.rules.specs.Refusal.Refusal.{disequalityIsNotTautology, expectedEqual, expectedLessThan}
-use Rattle.rules.specs.Refusal.Refusal.{expectedLessEq, polynomialsNotEqual, coeffIsZero, coeffDifferentSignums}
-use Rattle.rules.specs.Refusal.Refusal.{coeffEven, invalidOperators, expectedBitvector, expectedOperationTerm}
-use Rattle.rules.specs.Limits.{Limits, limited, fractionOf, fractionErr}
+use Rattle.rules.specs.Refusal.Refusal.{coeffIsZero, coeffDifferentSignums}
+use Rattle.rules.specs.Refusal.Refusal.{invalidOperators}
+use Rattle.rules.specs.Limits.{Limits, limited, fractionErr}
 use Rattle.rules.specs.LinearArithmetic.{Clause, onlyLiteral, binaryErr, isRelation, assertEq, both}
 use Rattle.rules.specs.LinearArithmetic.{boundsCase}
 use Rattle.rules.specs.Polynomial.{premiseTerm, Scaled, scaled, differenceOf, assertSides, assertOdd}
@@ -62,76 +57,8 @@ use Rattle.rules.specs.declared.polynomial_rel.Signs.{Signs}
 use Rattle.rules.specs.declared.polynomial_rel.Signs.the-variants as signs
 use Rattle.rules.proofs.ShapeSteps.{bounds-are, no-bounds, both-asked, pair-is, no-pair}
 use Rattle.rules.proofs.ShapeSteps.{literal-is, no-literal, OnlyIn}
-use Rattle.rules.proofs.WalkSteps.{refuses}
-
--- ---- answers that are 0 or a refusal's number
-
-nonzero : (r : Refusal) → number r ≡ 0 → ⊥
-nonzero workAreaOrLimit e = omega arith
-nonzero bookSize e = omega arith
-nonzero recordLayout e = omega arith
-nonzero sortBroken e = omega arith
-nonzero recordRepeated e = omega arith
-nonzero runSize e = omega arith
-nonzero runRecord e = omega arith
-nonzero noRoom e = omega arith
-nonzero visitLimit e = omega arith
-nonzero numberRange e = omega arith
-nonzero polynomialSize e = omega arith
-nonzero wrongNumberOfArgs e = omega arith
-nonzero wrongNumberOfPremises e = omega arith
-nonzero wrongLengthOfClause e = omega arith
-nonzero wrongLengthOfPremiseClause e = omega arith
-nonzero termOfWrongForm e = omega arith
-nonzero expectedAnyNumber e = omega arith
-nonzero invalidDisequalityOp e = omega arith
-nonzero tooManyArgsInDisequality e = omega arith
-nonzero notUnit e = omega arith
-nonzero coeffNotFound e = omega arith
-nonzero disequalityIsNotContradiction e = omega arith
-nonzero notValidTautologyCase e = omega arith
-nonzero disequalityIsNotTautology e = omega arith
-nonzero expectedEqual e = omega arith
-nonzero expectedLessThan e = omega arith
-nonzero expectedLessEq e = omega arith
-nonzero polynomialsNotEqual e = omega arith
-nonzero coeffIsZero e = omega arith
-nonzero coeffDifferentSignums e = omega arith
-nonzero coeffEven e = omega arith
-nonzero invalidOperators e = omega arith
-nonzero expectedBitvector e = omega arith
-nonzero expectedOperationTerm e = omega arith
-
-module _ {A B : Type 0} {code : ℕ} where
-  pub stops : (x : Result A) (f : A → Result B) → code ≡ codeOf x → (code ≡ 0 → ⊥) → code ≡ codeOf (x >>= f)
-  unfolding _>>=_
-  stops (ok a) f e h = absurd (h e)
-  stops (refused r) f e h = e
-
-  pub goes-on :
-      {r : ℕ} (x : Result A) (f : A → Result B) → code ≡ codeOf x → code ≡ 0 → ((a : A) → r ≡ codeOf (f a)) →
-      r ≡ codeOf (x >>= f)
-  unfolding _>>=_
-  goes-on (ok a) f e z k = k a
-  goes-on (refused q) f e z k = absurd (nonzero q (sym e ∙ z))
-
-module _ {code : ℕ} (n : ℕ) where
-  pub refused-with :
-      (d : Result (Unit {0})) → code ≡ codeOf d → (code ≡ 0 → ⊥) → verdict.Refused code ≡ verdictOf (after n d)
-  unfolding _>>=_
-  refused-with (ok a) e h = absurd (h e)
-  refused-with (refused r) e h = ap verdict.Refused e
-
-  pub accepted-with :
-      (d : Result (Unit {0})) → code ≡ codeOf d → code ≡ 0 → verdict.Accepted n ≡ verdictOf (after n d)
-  unfolding _>>=_
-  accepted-with (ok a) e z = refl
-  accepted-with (refused r) e z = absurd (nonzero r (sym e ∙ z))
-
-refused-code :
-    {A B : Type 0} {c : ℕ} {d : Result A} (f : A → Result B) → Refuses c d → c ≡ codeOf (d >>= f)
-unfolding _>>=_
-refused-code {A} f r = r .code ∙ ap (λ (x : Result A). codeOf (x >>= f)) (sym (r .is))
+use Rattle.rules.proofs.RunParts.{readOf, fraction-read}
+use Rattle.rules.proofs.Results.{bind-assoc, refuses, stops, goes-on, refused-code, refused-with, accepted-with}
 
 -- ---- shapes
 
@@ -255,19 +182,12 @@ module _ (b : Bytes) (i o : ℕ) (read : Term → Result (Term × Term)) (r : Bo
 
 -- ---- the sides of the conclusion against those of the premise
 
-in-a-row :
-    {A B C : Type 0} (x : Result A) (f : A → Result B) (g : B → Result C) →
-    (x >>= λ a. f a >>= g) ≡ ((x >>= f) >>= g)
-unfolding _>>=_
-in-a-row (ok a) f g = refl
-in-a-row (refused r) f g = refl
-
 module _ (l r : Term × Term) (p : Scaled) where
   sides-in-turn :
       assertSides l r p ≡ (boundsCase assertEq (l, p .1) >>= λ u. boundsCase assertEq (r, p .3))
   unfolding assertSides boundsCase
   sides-in-turn =
-      in-a-row (assertEq (l .0) (p .1 .0)) (λ u. assertEq (l .1) (p .1 .1)) (λ u. boundsCase assertEq (r, p .3))
+      sym (bind-assoc (assertEq (l .0) (p .1 .0)) (λ u. assertEq (l .1) (p .1 .1)) (λ u. boundsCase assertEq (r, p .3)))
 
   module _ {code : ℕ} (e : code ≡ codeOf (boundsCase assertEq (l, p .1))) where
     pub left-differs : (code ≡ 0 → ⊥) → code ≡ codeOf (assertSides l r p)
@@ -327,44 +247,36 @@ module _ (p : Scaled) (phi : Term) where
 
 -- ---- the coefficients of numbers
 
-module _ {r : Reading} (l : ℕ) (t : Term) (f : Finds r (asFraction ranged t)) where
-  fraction-is : {q : Rational} → r ≡ Value q → fractionErr (limited l) t ≡ ok q
-  unfolding fractionErr fractionOf _>>=_ orElse
-  fraction-is e = rw (sym (f .is) ∙ e)
-
-  no-fraction : r ≡ NotNumber → fractionErr (limited l) t ≡ refused expectedAnyNumber
-  unfolding fractionErr fractionOf _>>=_ orElse
-  no-fraction e = rw (sym (f .is) ∙ e)
-
-  out-of-range : r ≡ OutOfRange → fractionErr (limited l) t ≡ refused numberRange
-  unfolding fractionErr fractionOf _>>=_ orElse
-  out-of-range e = rw (sym (f .is) ∙ e)
+-- a reading as the definition has it
+number-read :
+    {r s : Reading} (l : ℕ) (t : Term) → Finds r (asFraction ranged t) → r ≡ s → fractionErr (limited l) t ≡ readOf s
+number-read l t f e = fraction-read (limited l) t ∙ ap readOf (sym (f .is) ∙ e)
 
 module _ (s t : Term) {x : Reading} (first : Finds x (asFraction ranged s)) where
   pub first-no-number : x ≡ NotNumber → (l : ℕ) → Refuses 25 (signsOf (limited l) s t)
   unfolding signsOf _>>=_
-  first-no-number e l = refuses expectedAnyNumber _ (rw (no-fraction l s first e, signsOf))
+  first-no-number e l = refuses expectedAnyNumber (rw (number-read l s first e, signsOf))
 
   pub first-outside : x ≡ OutOfRange → (l : ℕ) → Refuses 11 (signsOf (limited l) s t)
   unfolding signsOf _>>=_
-  first-outside e l = refuses numberRange _ (rw (out-of-range l s first e, signsOf))
+  first-outside e l = refuses numberRange (rw (number-read l s first e, signsOf))
 
   module _ {p : Rational} (x-is : x ≡ Value p) {y : Reading} (second : Finds y (asFraction ranged t)) where
     pub second-no-number : y ≡ NotNumber → (l : ℕ) → Refuses 25 (signsOf (limited l) s t)
     unfolding signsOf _>>=_
     second-no-number e l =
-        refuses expectedAnyNumber _ (rw (fraction-is l s first x-is, signsOf, no-fraction l t second e))
+        refuses expectedAnyNumber (rw (number-read l s first x-is, signsOf, number-read l t second e))
 
     pub second-outside : y ≡ OutOfRange → (l : ℕ) → Refuses 11 (signsOf (limited l) s t)
     unfolding signsOf _>>=_
     second-outside e l =
-        refuses numberRange _ (rw (fraction-is l s first x-is, signsOf, out-of-range l t second e))
+        refuses numberRange (rw (number-read l s first x-is, signsOf, number-read l t second e))
 
     pub both-numbers :
         {q : Rational} (r : Signs) → y ≡ Value q → SignsAre r (oneSign p q) → (l : ℕ) →
         SignsAre r (signsOf (limited l) s t)
     unfolding signsOf _>>=_
-    both-numbers r e h l = rw (fraction-is l s first x-is, signsOf, fraction-is l t second e) h
+    both-numbers r e h l = rw (number-read l s first x-is, signsOf, number-read l t second e) h
 
 pub positive-like : (t : Bool) → Bool·beq true t ≡ t
 positive-like true = refl
@@ -373,12 +285,12 @@ positive-like false = refl
 module _ (p q : Rational) where
   pub first-zero : isZero p ≡ true → Refuses 37 (oneSign p q)
   unfolding oneSign assert _>>=_
-  first-zero e = refuses coeffIsZero _ (rw (e, oneSign))
+  first-zero e = refuses coeffIsZero (rw (e, oneSign))
 
   module _ (first : isZero p ≡ false) where
     pub second-zero : isZero q ≡ true → Refuses 37 (oneSign p q)
     unfolding oneSign assert _>>=_
-    second-zero e = refuses coeffIsZero _ (rw (first, oneSign, e))
+    second-zero e = refuses coeffIsZero (rw (first, oneSign, e))
 
     pub same-signs :
         {s t r : Bool} → isZero q ≡ false → isPositive p ≡ s → isPositive q ≡ t → Bool·beq s t ≡ r →

@@ -28,12 +28,11 @@ use Rattle.terms.specs.declared.term.Two.the-variants as two
 use Rattle.terms.specs.declared.term.Reading.{Reading}
 use Rattle.terms.specs.declared.term.Reading.the-variants.{Value, NotNumber, OutOfRange}
 use Rattle.terms.proofs.BookTerms.{recordNumber-tree}
-use Rattle.terms.proofs.LittleEndian.{le-of-two}
-use Rattle.terms.proofs.Records.{length-numbers, length-arguments, argument-of-arguments}
+use Rattle.terms.proofs.Records.{argument-of-arguments}
 use Rattle.terms.proofs.Findings.{tag, no-value}
 use Rattle.rules.specs.Refusal.{Refusal, Result, _>>=_, assert, orElse, number}
 use Rattle.rules.specs.Refusal.Result.{ok, refused}
-use Rattle.rules.specs.Refusal.Refusal.{wrongLengthOfClause, termOfWrongForm, expectedAnyNumber, expectedEqual}
+use Rattle.rules.specs.Refusal.Refusal.{wrongLengthOfClause, termOfWrongForm, expectedAnyNumber}
 use Rattle.rules.specs.Limits.{signedNumberErr}
 use Rattle.rules.specs.LinearArithmetic.{onlyLiteral, three?, ternary, samePair, unaryErr, binaryErr, ternaryErr}
 use Rattle.rules.specs.LinearArithmetic.{assertEq, assertLessThan, assertLessEq, negatedBinary, both, boundsCase}
@@ -45,32 +44,19 @@ use Rattle.rules.specs.declared.linear_shapes.Three.{Three}
 use Rattle.rules.specs.declared.linear_shapes.Three.the-variants as three
 use Rattle.rules.specs.declared.linear_shapes.Bounds.{Bounds}
 use Rattle.rules.specs.declared.linear_shapes.Bounds.the-variants as bounds
+use Rattle.rules.proofs.Results.{stops, goes-on}
+use Rattle.rules.proofs.RunParts.{length-numbersIn, number-at}
+use Rattle.rules.proofs.ArgumentsLeft.{arguments-count}
 
 -- ---- the only literal
 
-records-count : (part : Bytes) → length (numbersIn part) ≡ length part / 4
-unfolding numbersIn
-records-count [] = refl
-records-count (m ∷ []) = refl
-records-count (m ∷ c ∷ []) = refl
-records-count (m ∷ c ∷ x ∷ []) = refl
-records-count (m ∷ c ∷ x ∷ y ∷ l) = omega (arith, records-count l)
-
-first-number : (part : Bytes) → length part / 4 ≡ 1 → getD (numbersIn part) 0 0 ≡ le 2 part 2
-unfolding numbersIn
-first-number [] h = absurd (omega arith)
-first-number (m ∷ []) h = absurd (omega arith)
-first-number (m ∷ c ∷ []) h = absurd (omega arith)
-first-number (m ∷ c ∷ x ∷ []) h = absurd (omega arith)
-first-number (m ∷ c ∷ x ∷ y ∷ l) h = le-of-two (m ∷ c ∷ x ∷ y ∷ l) 2 x y (omega arith) refl refl
-
-one-named : (b : Bytes) (l : List ℕ) → length l ≡ 1 → ok (tree b (getD l 0 0)) ≡ onlyLiteral (named b l)
+pub one-named : (b : Bytes) (l : List ℕ) → length l ≡ 1 → ok (tree b (getD l 0 0)) ≡ onlyLiteral (named b l)
 unfolding onlyLiteral named
 one-named b [] h = absurd (omega arith)
 one-named b (i ∷ []) h = refl
 one-named b (i ∷ j ∷ l) h = absurd (omega arith)
 
-more-named : (b : Bytes) (l : List ℕ) → (length l ≡ 1 → ⊥) → refused wrongLengthOfClause ≡ onlyLiteral (named b l)
+pub more-named : (b : Bytes) (l : List ℕ) → (length l ≡ 1 → ⊥) → refused wrongLengthOfClause ≡ onlyLiteral (named b l)
 unfolding onlyLiteral named
 more-named b [] h = refl
 more-named b (i ∷ []) h = absurd (h refl)
@@ -83,12 +69,12 @@ module _ (part : Bytes) where
   pub literal-found : {x : ℕ} → length part / 4 ≡ 1 → x ≡ le 2 part 2 → OnlyIn (only.Of x)
   unfolding orElse
   literal-found {x} n e b =
-      let place : x ≡ getD (numbersIn part) 0 0 = e ∙ sym (first-number part n) in
-      ap (λ (i : ℕ). ok (tree b i)) place ∙ one-named b (numbersIn part) (records-count part ∙ n)
+      let place : x ≡ getD (numbersIn part) 0 0 = e ∙ sym (number-at part 0 0 (omega arith)) in
+      ap (λ (i : ℕ). ok (tree b i)) place ∙ one-named b (numbersIn part) (length-numbersIn part ∙ n)
 
   pub no-literal-found : (length part / 4 ≡ 1 → ⊥) → OnlyIn only.Neither
   unfolding orElse
-  no-literal-found n b = more-named b (numbersIn part) (λ h. n (sym (records-count part) ∙ h))
+  no-literal-found n b = more-named b (numbersIn part) (λ h. n (sym (length-numbersIn part) ∙ h))
 
   pub literal-is :
       {r : Only} {x : ℕ} (b : Bytes) → OnlyIn r → r ≡ only.Of x → onlyLiteral (termsIn b part) ≡ ok (tree b x)
@@ -149,16 +135,13 @@ module _ (b : Bytes) (i o : ℕ) {p : ℕ} (p-is : p ≡ operatorOf (tree b i)) 
     asked : ternary o (tree b i) ≡ three? (forest (tree b) (arguments i (numbers args)))
     asked = ternary-of o (tree b i) (sym p-is ∙ same) ∙ ap three? (sym args-are)
 
-    count : length (arguments i (numbers args)) ≡ length args / 2
-    count = length-arguments i (numbers args) ∙ length-numbers args
-
     pub three-found :
         {x y z : ℕ} → length args / 2 ≡ 3 → x ≡ argumentAt args 0 i → y ≡ argumentAt args 1 i →
         z ≡ argumentAt args 2 i → some (tree b x, tree b y, tree b z) ≡ ternary o (tree b i)
     three-found n x-is y-is z-is =
         sym
         (asked
-        ∙ three-of (tree b) (arguments i (numbers args)) (count ∙ n)
+        ∙ three-of (tree b) (arguments i (numbers args)) (arguments-count i args ∙ n)
         ∙ rw (
           argument-of-arguments i args 0,
           argument-of-arguments i args 1,
@@ -169,7 +152,10 @@ module _ (b : Bytes) (i o : ℕ) {p : ℕ} (p-is : p ≡ operatorOf (tree b i)) 
         ))
 
     pub not-three : (length args / 2 ≡ 3 → ⊥) → none ≡ ternary o (tree b i)
-    not-three n = sym (asked ∙ other-than-three (tree b) (arguments i (numbers args)) (λ h. n (sym count ∙ h)))
+    not-three n =
+        sym
+        (asked
+        ∙ other-than-three (tree b) (arguments i (numbers args)) (λ h. n (sym (arguments-count i args) ∙ h)))
 
 -- ---- pairs
 
@@ -394,26 +380,14 @@ module _
 module _ (test : Term → Term → Result (Unit {0})) (s1 d1 s2 d2 : Term) {code : ℕ} where
   pub other-terms :
       code ≡ codeOf (assertEq s1 s2) → (code ≡ 0 → ⊥) → code ≡ codeOf (boundsCase test ((s1, d1), (s2, d2)))
-  unfolding boundsCase assertEq assert _>>=_
-  other-terms = go (same s1 s2)
-    where
-      go :
-          (t : Bool) → code ≡ codeOf (assert t expectedEqual) → (code ≡ 0 → ⊥) →
-          code ≡ codeOf (assert t expectedEqual >>= λ u. test d1 d2)
-      go true e h = absurd (h e)
-      go false e h = e
+  unfolding boundsCase
+  other-terms e h = stops _ _ e h
 
   pub one-term :
       {r : ℕ} → code ≡ codeOf (assertEq s1 s2) → code ≡ 0 → r ≡ codeOf (test d1 d2) →
       r ≡ codeOf (boundsCase test ((s1, d1), (s2, d2)))
-  unfolding boundsCase assertEq assert _>>=_
-  one-term {r} = go (same s1 s2)
-    where
-      go :
-          (t : Bool) → code ≡ codeOf (assert t expectedEqual) → code ≡ 0 → r ≡ codeOf (test d1 d2) →
-          r ≡ codeOf (assert t expectedEqual >>= λ u. test d1 d2)
-      go true e h k = k
-      go false e h k = absurd (omega arith)
+  unfolding boundsCase
+  one-term e h k = goes-on _ _ e h (λ u. k)
 
 module _ (b : Bytes) (p q : Two) where
   pub no-first : p ≡ two.NotTwo → none ≡ both (foundTwo b p) (foundTwo b q)

@@ -8,14 +8,14 @@ use Prim.Native.Nat.{ℕ, suc}
 use native.Mathlib.Omega.{arith}
 use borrow.Author.Tests.{ne-eqb}
 use lib.ListN.{length}
-use Rattle.terms.specs.Rational.{Rational, Proper, Makes, negQ}
+use Rattle.terms.specs.Rational.{Rational, Makes, negQ}
 use Rattle.terms.specs.Bytes.{Bytes}
 use Rattle.terms.specs.Operator.{LessThan, LessEq, GreaterThan, GreaterEq}
 use Rattle.terms.specs.Term.{Term, Terms, if_then_else_}
 use Rattle.terms.specs.Book.{tree}
 use Rattle.terms.proofs.Ranges.{proper-neg}
 use Rattle.rules.specs.Refusal.{Result, _>>=_, orElse}
-use Rattle.rules.specs.Refusal.Result.{ok, refused}
+use Rattle.rules.specs.Refusal.Result.{ok}
 use Rattle.rules.specs.Refusal.Refusal.{numberRange, invalidDisequalityOp}
 use Rattle.rules.specs.Limits.{Limits}
 use Rattle.rules.specs.IndexMap.{Map, combination, negAll, neg, sub}
@@ -23,7 +23,7 @@ use Rattle.rules.specs.LinearComb.{LinearComb, terms, fromTerm}
 use Rattle.rules.specs.LinearArithmetic.{inner, twoSides, negateDisequality, turned, Disequality, disequalityOf}
 use Rattle.rules.specs.WorkArea.{slots, stored, entriesOf, blanked, Held, Kept, Sum, combOf, KeptSum, negated}
 use Rattle.rules.specs.WorkArea.{Refuses, Sums, Walks, Area, Apart, areaOf, withArea, OnlyArea}
-use Rattle.rules.specs.LinearSteps.{Between, relationOf, RelationIs, SumHas, combWith, SidesLeft}
+use Rattle.rules.specs.LinearSteps.{Between, relationOf, RelationIs, SumHas, SidesLeft}
 use Rattle.rules.specs.LinearSteps.{LiteralIs, LiteralLeft, subtracted, SubtractedLeft}
 use Rattle.rules.specs.declared.linear_comb.Summed.the-variants as summed
 use Rattle.rules.specs.declared.linear_comb.Walk.the-variants.{Done, Refused}
@@ -32,29 +32,11 @@ use Rattle.rules.specs.declared.disequality.Sides.the-variants as sides
 use Rattle.rules.specs.declared.disequality.Disequality as by-value
 use Rattle.rules.specs.declared.disequality.Literal.{Literal}
 use Rattle.rules.specs.declared.disequality.Literal.the-variants as literal
-use Rattle.rules.proofs.StoredEntries.{kept-entries, clear-all}
+use Rattle.rules.proofs.Results.{bind-same, bind-assoc, refuses, refuses-as}
+use Rattle.rules.proofs.StoredEntries.{kept-entries}
 use Rattle.rules.proofs.Areas.{stored-length, empty-held, area-length, with-same, with-length, area-with}
 use Rattle.rules.proofs.Areas.{with-with, only-with, area-other, with-swap, only-none}
-
--- ---- a combination by value, with the entries of its area
-
-module _ {b w : Bytes} {s : Sum} {m : Map Term} (held : Held b w m) (has : SumHas s m) where
-  pub sum-kept : KeptSum b w s
-  sum-kept = record { kept = record { map = m; held = held; size = has .size }; proper = has .proper }
-
-  pub sum-comb : combOf b w s ≡ combWith s m
-  unfolding sum-kept
-  sum-comb = ap (λ e. combination e (s .constant)) (kept-entries (sum-kept .kept))
-
--- as a call's answer tells it
-abbrev Told : Sum → Map Term → Type 0
-Told s m = (s .len ≡ length m) × Proper (s .constant)
-
-answer-has : {s : Sum} {m : Map Term} → Told s m → SumHas s m
-answer-has told = record { size = told .0; proper = told .1 }
-
-pub answer-kept : {b w : Bytes} {s : Sum} {m : Map Term} → Held b w m → Told s m → KeptSum b w s
-answer-kept held told = sum-kept held (answer-has told)
+use Rattle.rules.proofs.AreaSteps.{kept-sum, sum-comb, answer-has, only-other, emptied-held, emptied-only}
 
 -- ---- both areas
 
@@ -76,12 +58,10 @@ in-both a = record { first = a; second = in-right a; apart = left-not-right }
 -- a change of one of them leaves the other
 module _ {w w′ : Bytes} (a : Area 1 w) (a′ : Area 1 w′) where
   pub right-stays : OnlyArea 1 w w′ → areaOf 2 w′ ≡ areaOf 2 w
-  right-stays only = ap (areaOf 2) only ∙ area-other a (areaOf 1 w′) (area-length a′) (omega arith) right-not-left
+  right-stays only = only-other a (area-length a′) only (omega arith) right-not-left
 
   pub left-stays : OnlyArea 2 w w′ → areaOf 1 w′ ≡ areaOf 1 w
-  left-stays only =
-      ap (areaOf 1) only
-      ∙ area-other (in-right a) (areaOf 2 w′) (area-length (in-right a′)) (omega arith) left-not-right
+  left-stays only = only-other (in-right a) (area-length (in-right a′)) only (omega arith) left-not-right
 
 -- nothing else changes
 pub record OnlyBoth (w w′ : Bytes) : Type 0 where
@@ -136,22 +116,6 @@ both-left {w} {w′} a both same =
     ∙ ap (λ x. withArea 2 x u) (same ∙ sym (area-other a (areaOf 1 w′) long (omega arith) right-not-left))
     ∙ with-same (in-right (in-left u (with-length a (areaOf 1 w′) long)))
 
--- an area that is emptied of what it kept
-module _
-    {j : ℕ} {b w : Bytes} {n : ℕ} (w′ : Bytes) (a : Area j w) (kept : Kept b (areaOf j w) n)
-    (is : w′ ≡ withArea j (blanked n (areaOf j w)) w) where
-  blank-held : Held b (blanked n (areaOf j w)) []
-  blank-held = rw (kept .size) (clear-all (kept .map) (kept .held))
-
-  blank-length : length (blanked n (areaOf j w)) ≡ 20480
-  blank-length = ap length (blank-held .bytes) ∙ stored-length []
-
-  pub emptied : Held b (areaOf j w′) []
-  emptied = rw (is, area-with a (blanked n (areaOf j w)) blank-length) blank-held
-
-  pub only-emptied : OnlyArea j w w′
-  only-emptied = rw is (only-with a (blanked n (areaOf j w)) blank-length)
-
 -- ---- negate_disequality
 
 -- along the relation and the two walks
@@ -162,41 +126,9 @@ sides-of : (l : Limits) (phi : Term) (n : ℕ) →
       s2 ← fromTerm l b (s1 .visits)
       ok (o, s1 .sum, s2 .sum, s2 .visits))
 unfolding negateDisequality relationOf _>>=_
-sides-of l phi n = go (orElse (inner phi) invalidDisequalityOp)
-  where
-    rest : ℕ → Term → Term → Result (ℕ × LinearComb × LinearComb × ℕ)
-    rest o a b = do
-      s1 ← fromTerm l a n
-      s2 ← fromTerm l b (s1 .visits)
-      ok (o, s1 .sum, s2 .sum, s2 .visits)
-
-    go :
-        (r : Result (ℕ × Terms)) →
-        (do
-          (o, args) ← r
-          (a, b) ← twoSides args
-          rest o a b)
-        ≡ (do
-          (o, a, b) ← (do
-            (o, args) ← r
-            (a, b) ← twoSides args
-            ok (o, a, b))
-          rest o a b)
-    go (refused r) = refl
-    go (ok (o, args)) = split (twoSides args)
-      where
-        split :
-            (r : Result (Term × Term)) →
-            (do
-              (a, b) ← r
-              rest o a b)
-            ≡ (do
-              (o, a, b) ← (do
-                (a, b) ← r
-                ok (o, a, b))
-              rest o a b)
-        split (refused r) = refl
-        split (ok (a, b)) = refl
+sides-of l phi n =
+    let args : Result (ℕ × Terms) = orElse (inner phi) invalidDisequalityOp in
+    bind-same args (λ x. sym (bind-assoc (twoSides (x .1)) _ _)) ∙ sym (bind-assoc args _ _)
 
 -- the areas are empty before
 module _ {b w : Bytes} (between : Between b w) where
@@ -217,7 +149,7 @@ module _ {b w : Bytes} (between : Between b w) where
           held-left = empty-held (between .left);
           held-right = empty-held (between .right);
           only = both-none between-left .is;
-          is = (record { reason = why .reason; is = rw (sides-of, why .is); code = why .code }, (refl, refl));
+          is = (refuses-as why (λ r e. rw (sides-of, e)), (refl, refl));
         }
 
     module _
@@ -237,14 +169,7 @@ module _ {b w : Bytes} (between : Between b w) where
             held-left = why .held;
             held-right = right-empty a₁ only₁;
             only = one .is;
-            is = (
-              record {
-                reason = why .is .0 .reason;
-                is = rw (sides-of, found .0, why .is .0 .is);
-                code = why .is .0 .code;
-              },
-              (why .is .1, refl),
-            );
+            is = (refuses-as (why .is .0) (λ r e. rw (sides-of, found .0, e)), (why .is .1, refl));
           }
 
       module _
@@ -265,21 +190,14 @@ module _ {b w : Bytes} (between : Between b w) where
             SidesLeft b w w₃ (sides.Refused c) (negateDisequality l phi n)
         unfolding _>>=_
         right-refused {w₃ = w₃} why a₃ clear =
-            let only₃ : OnlyArea 1 w₂ w₃ = only-emptied w₃ a₂ left-kept clear in
+            let only₃ : OnlyArea 1 w₂ w₃ = emptied-only a₂ left-kept clear in
             record {
               left = [];
               right = why .map;
-              held-left = emptied w₃ a₂ left-kept clear;
+              held-left = emptied-held a₂ left-kept clear;
               held-right = rw (right-stays a₂ a₃ only₃) (why .held);
               only = then-left between-left two a₃ only₃ .is;
-              is = (
-                record {
-                  reason = why .is .0 .reason;
-                  is = rw (sides-of, found .0, left .is .0, why .is .0 .is);
-                  code = why .is .0 .code;
-                },
-                (refl, why .is .1),
-              );
+              is = (refuses-as (why .is .0) (λ r e. rw (sides-of, found .0, left .is .0, e)), (refl, why .is .1));
             }
 
         pub both-sides :
@@ -357,10 +275,10 @@ module _
   right-kept = rw (right-stays a a₁ only₁) (right .kept)
 
   only₂ : OnlyArea 2 w₁ w₂
-  only₂ = only-emptied w₂ (in-right a₁) right-kept clear
+  only₂ = emptied-only (in-right a₁) right-kept clear
 
   right-gone : areaOf 2 w₂ ≡ stored slots []
-  right-gone = emptied w₂ (in-right a₁) right-kept clear .bytes
+  right-gone = emptied-held (in-right a₁) right-kept clear .bytes
 
   so-far : OnlyBoth w w₂
   so-far = then-right a (then-left a (both-none a) a₁ only₁) a₂ only₂
@@ -380,7 +298,7 @@ module _
           map = out .map;
           held = rw (left-stays a₁ a₂ only₂) (out .held);
           only = rw (← right-gone) (so-far .is);
-          is = (record { reason = numberRange; is = rw (subtracted, out .is .0); code = refl }, out .is .1);
+          is = (refuses numberRange (rw (subtracted, out .is .0)), out .is .1);
         }
 
     -- the constant on the right
@@ -406,7 +324,7 @@ module _
           SubtractedLeft b w w₃ (literal.Is e) result
       unfolding subtracted _>>=_
       subtracted-left a₃ turning =
-          let last = turning (sum-kept over-held over-has) in
+          let last = turning (kept-sum over-held over-has) in
           record {
             map = last .map;
             held = last .held;
@@ -434,22 +352,15 @@ module _ {b w w₁ : Bytes} (between : Between b w) (l : Limits) (phi : Term) (n
         map = why .left;
         held = why .held-left;
         only = both-left (between-left between) (record { area = a₁; is = why .only }) (gone ∙ sym (between .right));
-        is = (
-          record {
-            reason = why .is .0 .reason;
-            is = rw (difference-of, why .is .0 .is);
-            code = why .is .0 .code;
-          },
-          why .is .1 .0,
-        );
+        is = (refuses-as (why .is .0) (λ r e. rw (difference-of, e)), why .is .1 .0);
       }
 
   module _ {o v : ℕ} {s t : Sum} (found : SidesLeft b w w₁ (sides.Both o s t v) (negateDisequality l phi n)) where
     pub left-side : KeptSum b (areaOf 1 w₁) s
-    left-side = sum-kept (found .held-left) (found .is .1 .0)
+    left-side = kept-sum (found .held-left) (found .is .1 .0)
 
     pub right-side : KeptSum b (areaOf 2 w₁) t
-    right-side = sum-kept (found .held-right) (found .is .1 .1)
+    right-side = kept-sum (found .held-right) (found .is .1 .1)
 
     difference-is : disequalityOf l phi n ≡ subtracted l o (combOf b (areaOf 1 w₁) s) (combOf b (areaOf 2 w₁) t) v
     unfolding _>>=_

@@ -5,12 +5,13 @@ use mathlib.Core.List.{[], _∷_, _++_, append-assoc, append-nil}
 use Prim.Native.Nat.{ℕ, suc, _+_, _*_, _-_, _≤_, _<_}
 use native.Mathlib.Nat.{suc-add, zero-add}
 use native.Mathlib.Omega.{arith}
-use lib.ListN.{length, replicate, length-append, replicate-append-replicate}
+use lib.ListN.{length, replicate, length-append}
 use Rattle.terms.specs.Rational.{Rational}
 use Rattle.terms.specs.Bytes.{Bytes}
 use Rattle.terms.specs.Term.{Term}
 use Rattle.rules.specs.IndexMap.{Map}
 use Rattle.rules.specs.WorkArea.{entryBytes, stored, putEntry, blank, blanked}
+use Rattle.rules.proofs.Zeros.{zeros-join}
 use Rattle.rules.proofs.EntryBytes.{cell, length-cell, entry-at, one-more, blanked-front}
 use Rattle.rules.proofs.MapKeys.{keyOf}
 
@@ -98,11 +99,9 @@ module _ (n : ℕ) (p : Map Term) (room : length p < n) where
 blank-places : (k : ℕ) (m : Map Term) → blanked (length m) (stored (length m + k) m) ≡ stored (length m + k) []
 unfolding stored
 blank-places k m =
-    let whole : 10 * length m + 10 * k ≡ 10 * (length m + k) = omega arith in
     ap (blanked (length m)) (ap (stored (length m + k)) (sym (append-nil m)) ∙ split k m [])
     ∙ blanked-front (length m) (packed m) (replicate (10 * k) 0) (length-packed m)
-    ∙ replicate-append-replicate (10 * length m) (10 * k) 0
-    ∙ ap (λ (i : ℕ). replicate i 0) whole
+    ∙ zeros-join (10 * length m) (10 * k) (10 * (length m + k)) (omega arith)
 
 pub blank-all : (n : ℕ) (m : Map Term) → length m ≤ n → blanked (length m) (stored n m) ≡ stored n []
 blank-all n m room =

@@ -17,10 +17,10 @@ use Rattle.rules.specs.WorkArea.{slots, entryBytes, stored, keysOf, entr
 use Rattle.rules.specs.WorkArea.{absent, Entry, Good, Held, Kept}
 use Rattle.rules.proofs.EntryBytes.{key-found, value-found}
 pub use Rattle.rules.proofs.MapKeys.{good-length}
-use Rattle.rules.proofs.MapKeys.{keyOf, put-in, taken-out, length-middle}
+use Rattle.rules.proofs.MapKeys.{keyOf, put-in, taken-out}
 use Rattle.rules.proofs.StoredBytes.{packed, entry-cell, length-entry, length-packed}
 use Rattle.rules.proofs.StoredBytes.{behind, write-over, write-end, blank-end, blank-all}
-use Rattle.rules.proofs.MapEnds.{Ends, nothing, last, ends, swapRemove-last}
+use Rattle.rules.proofs.MapEnds.{length-middle, Ends, nothing, last, ends, swapRemove-last}
 
 -- no more entries than records: there is room for them
 good-room : (b : Bytes) (m : Map Term) → Good b m → length m ≤ slots

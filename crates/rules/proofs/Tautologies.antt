@@ -2,9 +2,8 @@
 -- bounds.
 --     tautology-refused, tautology-clear, tautology-holds, tautology-fails       the first form, in area 1
 --     many-literals, phi-inside, two-pass, two-refused, first-form       the rule by its forms
-use mathlib.Core.Path.{_≡_, refl, sym, ap, subst, _∙_}
+use mathlib.Core.Path.{_≡_, sym, ap, subst, _∙_}
 use mathlib.Core.Bool.{Bool, true, false}
-use mathlib.Core.List.{List, [], _∷_}
 use mathlib.Core.Option.{some, none}
 use Prim.Native.Nat.{ℕ, _/_, _≤_, _<_}
 use native.Mathlib.Omega.{arith}
@@ -16,13 +15,13 @@ use Rattle.terms.specs.Readers.{Children, foundTwo}
 use Rattle.terms.specs.declared.term.Two.{Two}
 use Rattle.terms.specs.declared.term.Two.the-variants.{Both, NotTwo}
 use Rattle.rules.specs.Refusal.{Result, _>>=_, assert}
-use Rattle.rules.specs.Refusal.Result.{ok, refused}
-use Rattle.rules.specs.Refusal.Refusal.{wrongLengthOfClause, disequalityIsNotTautology}
+use Rattle.rules.specs.Refusal.Result.{ok}
+use Rattle.rules.specs.Refusal.Refusal.{disequalityIsNotTautology}
 use Rattle.rules.specs.Limits.{limited}
 use Rattle.rules.specs.LinearArithmetic.{Disequality, disequality, disequalityOf, isTautology, onlyLiteral}
 use Rattle.rules.specs.LinearArithmetic.{tautologyCase, laTautology}
 use Rattle.rules.specs.WorkArea.{slots, stored, areaOf, withArea, combOf, Area, Kept, Ready, blanked}
-use Rattle.rules.specs.LinearSteps.{numbersIn, named, termsIn, Inside, codeOf, verdictOf, combWith}
+use Rattle.rules.specs.LinearSteps.{numbersIn, termsIn, Inside, codeOf, verdictOf, combWith}
 use Rattle.rules.specs.LinearSteps.{LiteralIs, LiteralLeft, tautologyOf}
 use Rattle.rules.specs.declared.disequality.Disequality as by-value
 use Rattle.rules.specs.declared.disequality.Literal.{Literal}
@@ -30,11 +29,10 @@ use Rattle.rules.specs.declared.disequality.Literal.the-variants as lite
 use Rattle.rules.specs.declared.linear_shapes.Verdict.{Verdict}
 use Rattle.rules.specs.declared.linear_shapes.Verdict.the-variants as verdict
 use Rattle.rules.proofs.StoredEntries.{kept-small}
-use Rattle.rules.proofs.Areas.{stored-length, with-length}
 use Rattle.rules.proofs.RunParts.{length-numbersIn, below-at}
-use Rattle.rules.proofs.Codes.{code-none, code-some}
-use Rattle.rules.proofs.FoldedSteps.{next, ends}
-use Rattle.rules.proofs.FoldedAreas.{kept-sum, sum-entries}
+use Rattle.rules.proofs.ShapeSteps.{one-named, more-named}
+use Rattle.rules.proofs.Results.{next, ends, refused-then, refused-verdict, refused-with, accepted-with}
+use Rattle.rules.proofs.AreaSteps.{held-length, kept-sum, sum-entries, only-area}
 use Rattle.rules.proofs.Emptied.{emptied, cleared}
 
 -- ---- the first form
@@ -66,7 +64,7 @@ module _ {b w w′ : Bytes} (phi v l : ℕ) (ready : Ready b w) (r : Literal) (l
   unfolding tautologyOf
   tautology-refused c e =
       let is = said (literal.Refused c) e in (
-        ap verdict.Refused (is .0 .code) ∙ sym (ap verdictOf (ends _ (is .0 .is))),
+        refused-verdict (refused-then _ (is .0)),
         emptied ready {j = 1} (omega arith) (left .only) (left .held .bytes ∙ ap (stored slots) (is .1)),
       )
 
@@ -76,15 +74,8 @@ module _ {b w w′ : Bytes} (phi v l : ℕ) (ready : Ready b w) (r : Literal) (l
 
     pub tautology-clear : Area 1 w′ × (d .sum .len ≤ 4096)
     tautology-clear =
-        let area : Area 1 w = record { size = ready .size; among = omega arith } in (
-          record {
-            size =
-                ap length (left .only)
-                ∙ with-length area (areaOf 1 w′) (ap length (left .held .bytes) ∙ stored-length (left .map));
-            among = omega arith;
-          },
-          omega (arith, kept-small kept),
-        )
+        let area : Area 1 w = record { size = ready .size; among = omega arith } in
+        (only-area area (held-length (left .held)) (left .only), omega (arith, kept-small kept))
 
     -- the area was cleared
     module _ (t : Bool) (told : Tells d t) (w″ : Bytes) (clear : w″ ≡ without (d .sum .len) w′) where
@@ -117,23 +108,11 @@ module _ {b w w′ : Bytes} (phi v l : ℕ) (ready : Ready b w) (r : Literal) (l
 
 -- ---- the rule
 
-only-one : (b : Bytes) (ns : List ℕ) → length ns ≡ 1 → onlyLiteral (named b ns) ≡ ok (tree b (getD ns 0 0))
-unfolding onlyLiteral named
-only-one b [] h = absurd (omega arith)
-only-one b (i ∷ []) h = refl
-only-one b (i ∷ j ∷ ns) h = absurd (omega arith)
-
-only-other : (b : Bytes) (ns : List ℕ) → (length ns ≡ 1 → ⊥) → onlyLiteral (named b ns) ≡ refused wrongLengthOfClause
-unfolding onlyLiteral named
-only-other b [] h = refl
-only-other b (i ∷ []) h = absurd (h refl)
-only-other b (i ∷ j ∷ ns) h = refl
-
 pub phi-inside :
     (b literals : Bytes) → length literals / 4 ≡ 1 → {phi : ℕ} → phi ≡ getD (numbersIn literals) 0 0 →
     Inside b literals → phi < count b
 phi-inside b literals one phi-is h =
-    rw phi-is (below-at (count b) (numbersIn literals) 0 h (omega (arith, length-numbersIn literals)))
+    rw phi-is (below-at (count b) (numbersIn literals) 0 0 h (omega (arith, length-numbersIn literals)))
 
 module _ (b literals : Bytes) (v l : ℕ) where
   pub many-literals :
@@ -141,12 +120,13 @@ module _ (b literals : Bytes) (v l : ℕ) where
       verdict.Refused 22 ≡ verdictOf (laTautology (limited l) (termsIn b literals) v)
   unfolding laTautology
   many-literals h =
-      sym (ap verdictOf (ends _ (only-other b (numbersIn literals) (λ e. h (sym (length-numbersIn literals) ∙ e)))))
+      sym
+      (ap verdictOf (ends _ (sym (more-named b (numbersIn literals) (λ e. h (sym (length-numbersIn literals) ∙ e))))))
 
   -- there is one, in record phi
   module _ (one : length literals / 4 ≡ 1) (phi : ℕ) (phi-is : phi ≡ getD (numbersIn literals) 0 0) where
     literal-is : onlyLiteral (termsIn b literals) ≡ ok (tree b phi)
-    literal-is = rw phi-is (only-one b (numbersIn literals) (length-numbersIn literals ∙ one))
+    literal-is = rw phi-is (sym (one-named b (numbersIn literals) (length-numbersIn literals ∙ one)))
 
     -- r says whether it is a disjunction of two
     module _ (r : Two) (two : Children b phi r (binary 3 (tree b phi))) where
@@ -161,16 +141,12 @@ module _ (b literals : Bytes) (v l : ℕ) where
       pub two-pass :
           (x y : ℕ) → r ≡ Both x y → (c : ℕ) → c ≡ codeOf (tautologyCase (tree b x) (tree b y)) → c ≡ 0 →
           verdict.Accepted v ≡ verdictOf (laTautology (limited l) (termsIn b literals) v)
-      two-pass x y e c c-is zero-is =
-          let passed = code-none (tautologyCase (tree b x) (tree b y)) (sym zero-is ∙ c-is) in
-          sym (ap verdictOf (with-two x y e ∙ next _ (passed .is)))
+      two-pass x y e c c-is zero-is = accepted-with v _ c-is zero-is ∙ sym (ap verdictOf (with-two x y e))
 
       pub two-refused :
           (x y : ℕ) → r ≡ Both x y → (c : ℕ) → c ≡ codeOf (tautologyCase (tree b x) (tree b y)) → (c ≡ 0 → ⊥) →
           verdict.Refused c ≡ verdictOf (laTautology (limited l) (termsIn b literals) v)
-      two-refused x y e c c-is other =
-          let refuses = code-some (tautologyCase (tree b x) (tree b y)) c c-is other in
-          ap verdict.Refused (refuses .code) ∙ sym (ap verdictOf (with-two x y e ∙ ends _ (refuses .is)))
+      two-refused x y e c c-is other = refused-with v _ c-is other ∙ sym (ap verdictOf (with-two x y e))
 
       without-two : r ≡ NotTwo → laTautology (limited l) (termsIn b literals) v ≡ tautologyOf (limited l) (tree b phi) v
       unfolding laTautology tautologyOf

@@ -6,7 +6,7 @@ use mathlib.Core.List.{List, [], _∷_, _++_, append-assoc}
 use Prim.Native.Nat.{ℕ, zero, suc, _+_, _*_, _-_, _≤_, _<_}
 use native.Mathlib.Omega.{arith}
 use lib.ListN.{length, getD, set, take, drop, replicate}
-use lib.ListN.{length-append, length-drop, take-append-drop, replicate-append-replicate}
+use lib.ListN.{length-append, length-drop, take-append-drop}
 use lib.Seq.{take-at, drop-at, drop-drop, take-add}
 use Rattle.terms.specs.Bytes.{Bytes}
 use Rattle.rules.specs.Refusal.{Result}
@@ -15,6 +15,7 @@ use Rattle.rules.specs.Polynomial.{Monomial}
 use Rattle.rules.specs.PolynomialArea.{places, stored, blanked, Good, Held, Enters}
 use Rattle.rules.specs.PolynomialArea.{tower, AllGood, partAt, Towers, EntersAt}
 use Rattle.rules.specs.declared.monomials.Entered.{Entered}
+use Rattle.rules.proofs.Zeros.{zeros, zeros-join}
 use Rattle.rules.proofs.StoredMonomials.{stored-length, held-length, clear-all}
 
 -- w with other bytes in area j
@@ -45,14 +46,6 @@ module _ (k j : ℕ) (w : Bytes) where
       ap (λ z. take (k * suc j) w ++ (y ++ drop k z)) drop-next
       ∙ ap (λ z. z ++ (y ++ drop k (drop (k * j) (drop k w)))) take-next
       ∙ append-assoc (take k w) (take (k * j) (drop k w)) (y ++ drop k (drop (k * j) (drop k w)))
-
-abbrev zeros : ℕ → Bytes
-zeros n = replicate n 0
-
-zeros-split : (k n : ℕ) → k ≤ n → zeros n ≡ zeros k ++ zeros (n - k)
-zeros-split k n room =
-    let sizes : k + (n - k) ≡ n = omega arith in
-    sym (replicate-append-replicate k (n - k) 0 ∙ ap zeros sizes)
 
 -- ---- the lowest area and the tower above it
 
@@ -137,7 +130,7 @@ tower-none e = record { bytes = e; good = tt }
 
 zeros-tower : (n : ℕ) → 1600 ≤ n → zeros n ≡ tower ([] ∷ []) n
 unfolding tower stored
-zeros-tower n room = zeros-split 1600 n room
+zeros-tower n room = sym (zeros-join 1600 (n - 1600) n (omega arith))
 
 pub tower-more :
     {b w : Bytes} {ms : List (Map Monomial)} → Towers b w ms → 1600 * length ms + 1600 ≤ length w →

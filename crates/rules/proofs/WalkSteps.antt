@@ -23,7 +23,7 @@ use Rattle.rules.specs.Refusal.Refusal.{visitLimit, numberRange}
 use Rattle.rules.specs.Limits.{limited, plus}
 use Rattle.rules.specs.IndexMap.{Walked, walked, visit, insert, addEntry, addConstant}
 use Rattle.rules.specs.LinearComb.{terms, addTerm}
-use Rattle.rules.specs.WorkArea.{Sum, combOf, entriesOf, blanked, KeptSum, Refuses, Inserts, Walks}
+use Rattle.rules.specs.WorkArea.{Sum, combOf, entriesOf, blanked, KeptSum, Inserts, Walks}
 use Rattle.rules.specs.LinearNodes.{NodeIs, WalkPre, ArgsPre, nodeOf, addEach}
 use Rattle.rules.specs.declared.index_map.Inserted.{Inserted}
 use Rattle.rules.specs.declared.index_map.Inserted.the-variants as inserted
@@ -31,23 +31,19 @@ use Rattle.rules.specs.declared.linear_comb.Walk.{Walk}
 use Rattle.rules.specs.declared.linear_comb.Walk.the-variants.{Done, Refused}
 use Rattle.rules.specs.declared.linear_comb.Node.{Node}
 use Rattle.rules.specs.declared.linear_comb.Node.the-variants.{Args, Factor, Constant, OutOfRange}
+use Rattle.rules.proofs.Results.{refuses}
 use Rattle.rules.proofs.CheckedNumbers.{plus-value, plus-out}
-use Rattle.rules.proofs.StoredEntries.{held-entries, kept-entries, kept-small, clear-all}
+use Rattle.rules.proofs.StoredEntries.{held-entries, kept-entries, kept-small}
+use Rattle.rules.proofs.AreaSteps.{kept-cleared, answer-kept}
 use Rattle.rules.proofs.NodeWalks.{act, walk-node, factor-below, args-below}
 
 -- ---- the answers
-
--- the definition refuses with document 01's number
-pub refuses : {A : Type 0} (r : Refusal) (d : Result A) → d ≡ refused r → Refuses (number r) d
-refuses r d e = record { reason = r; is = e; code = refl }
 
 module _ {b w : Bytes} {s : Sum} (kept : KeptSum b w s) where
   cleared :
       {w′ : Bytes} → w′ ≡ blanked (s .len) w → (r : Refusal) (d : Result (Walked Term)) → d ≡ refused r →
       Walks b w′ (Refused (number r)) d
-  cleared e r d is =
-      let k = kept .kept in
-      record { map = []; held = rw (e, k .size) (clear-all (k .map) (k .held)); is = (refuses r d is, refl) }
+  cleared e r d is = record { map = []; held = kept-cleared (kept .kept) e; is = (refuses r is, refl) }
 
   pub done : {v : ℕ} (d : Result (Walked Term)) → d ≡ ok (walked (combOf b w s) v) → Walks b w (Done s v) d
   done d is =
@@ -56,11 +52,7 @@ module _ {b w : Bytes} {s : Sum} (kept : KeptSum b w s) where
 
 module _ {b w : Bytes} {s : Sum} {v : ℕ} {d : Result (Walked Term)} (walks : Walks b w (Done s v) d) where
   pub done-kept : KeptSum b w s
-  done-kept =
-      record {
-        kept = record { map = walks .map; held = walks .held; size = walks .is .1 .0 };
-        proper = walks .is .1 .1;
-      }
+  done-kept = answer-kept (walks .held) (walks .is .1)
 
   pub done-is : d ≡ ok (walked (combOf b w s) v)
   done-is = rw (walks .is .1 .0, held-entries (walks .held)) (walks .is .0)
@@ -97,7 +89,7 @@ module _ {b w : Bytes} {s : Sum} (kept : KeptSum b w s) (l v : ℕ) where
     unfolding addEntry _>>=_
     entry-out out =
         let is = rw out at (inserts .is) in
-        record { map = inserts .map; held = inserts .held; is = (refuses numberRange _ (rw (is .0)), is .1) }
+        record { map = inserts .map; held = inserts .held; is = (refuses numberRange (rw (is .0)), is .1) }
 
     pub entry-added :
         {n : ℕ} → r ≡ inserted.Length n →

@@ -5,7 +5,8 @@ use native.Mathlib.Omega.{arith}
 use borrow.Author.Needs.{needs}
 use Rattle.rules.proofs.StoredEntries.{kept-small}
 use Rattle.rules.proofs.Areas.{empty-held}
-use Rattle.rules.proofs.SidesAreas.{in-left, in-right, between-left, right-empty, answer-kept}
+use Rattle.rules.proofs.AreaSteps.{answer-kept}
+use Rattle.rules.proofs.SidesAreas.{in-left, in-right, between-left, right-empty}
 use Rattle.rules.proofs.SidesAreas.{no-relation, left-refused, right-refused, both-sides}
 use Rattle.rules.proofs.disequality.negate_disequality.Statement.{statement}
 use Rattle.rules.proofs.disequality.negate_disequality.Tie as tie

@@ -5,7 +5,8 @@ use borrow.Author.Needs.{needs}
 use Rattle.rules.proofs.disequality.subtracted.Statement.{statement}
 use Rattle.rules.proofs.disequality.subtracted.Tie as tie
 use Rattle.rules.proofs.StoredEntries.{kept-small}
-use Rattle.rules.proofs.SidesAreas.{in-left, in-right, answer-kept, out-of-range, subtracted-left}
+use Rattle.rules.proofs.AreaSteps.{answer-kept}
+use Rattle.rules.proofs.SidesAreas.{in-left, in-right, out-of-range, subtracted-left}
 
 sub-requires : tie.Need-sub-requires
 sub-requires c κs =

@@ -2,7 +2,8 @@
 use native.Mathlib.Omega.{arith}
 use borrow.Author.Needs.{needs}
 use Rattle.rules.proofs.StoredEntries.{kept-small}
-use Rattle.rules.proofs.LiteralAreas.{stronger-has, kept-sum, unstrengthened, unscaled, scaled-left}
+use Rattle.rules.proofs.AreaSteps.{kept-sum}
+use Rattle.rules.proofs.LiteralAreas.{stronger-has, unstrengthened, unscaled, scaled-left}
 use Rattle.rules.proofs.linear_arithmetic.scaled.Statement.{statement}
 use Rattle.rules.proofs.linear_arithmetic.scaled.Tie as tie
 

@@ -1,14 +1,15 @@
--- The loop's invariant: the first i bytes are copied (`Copied` of KeyCopies).
+-- The loop's invariant: the first i bytes are copied (`Copied`).
 use Prim.Native.Nat.{_*_, _-_}
 use native.Mathlib.Omega.{arith}
 use borrow.Author.Needs.{needs}
 use lib.ListN.{drop}
-use Rattle.rules.proofs.KeyCopies.{Copied, copied-none, key-more, key-all}
+use Rattle.rules.proofs.CopiedBytes.{Copied, copied-none}
+use Rattle.rules.proofs.KeyCopies.{key-more, key-all}
 use Rattle.rules.proofs.monomials.copy_key.Statement.{statement}
 use Rattle.rules.proofs.monomials.copy_key.Tie as tie
 
 abbrev Inv-loop : tie.InvT-loop
-Inv-loop entries k key₀ a i₀ key i = Copied key₀ 0 (drop (25 * k) entries) key i
+Inv-loop entries k key₀ a i₀ key i = Copied 17 key₀ 0 (drop (25 * k) entries) key i
 
 abbrev μ-loop : tie.MeasureT-loop
 μ-loop entries k key₀ a i₀ key i = 17 - i

@@ -1,13 +1,15 @@
--- The loop copies the monomial (`Copied` of KeyCopies); then the coefficient is written.
+-- The loop copies the monomial (`Copied`); then the coefficient is written.
+use mathlib.Core.Path.{refl}
 use Prim.Native.Nat.{_*_, _-_}
 use native.Mathlib.Omega.{arith}
 use borrow.Author.Needs.{needs}
-use Rattle.rules.proofs.KeyCopies.{Copied, copied-none, copied-more, entry-put}
+use Rattle.rules.proofs.CopiedBytes.{Copied, copied-none, copied-more}
+use Rattle.rules.proofs.KeyCopies.{entry-put}
 use Rattle.rules.proofs.monomials.put_entry.Statement.{statement}
 use Rattle.rules.proofs.monomials.put_entry.Tie as tie
 
 abbrev Inv-loop : tie.InvT-loop
-Inv-loop entries₀ k key value a i₀ entries i = Copied entries₀ (25 * k) key entries i
+Inv-loop entries₀ k key value a i₀ entries i = Copied 17 entries₀ (25 * k) key entries i
 
 abbrev μ-loop : tie.MeasureT-loop
 μ-loop entries₀ k key value a i₀ entries i = 17 - i
@@ -15,7 +17,7 @@ abbrev μ-loop : tie.MeasureT-loop
 loop-again : tie.Need-loop-again Inv-loop μ-loop
 loop-again c =
     let inside = c .before in
-    copied-more (inside .before .loop .inv) (omega arith) (omega arith) (inside .loop-test .taken)
+    copied-more (inside .before .loop .inv) (omega arith) (omega arith) (inside .loop-test .taken) refl
 
 returns : tie.Need-returns Inv-loop μ-loop
 returns c =

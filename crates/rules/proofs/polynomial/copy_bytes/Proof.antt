@@ -1,13 +1,14 @@
 -- The loop's invariant is `Copied` of CopiedBytes; the measure is how many bytes are left.
 use Prim.Native.Nat.{_-_}
-use mathlib.Core.Path.{refl}
+use mathlib.Core.Path.{refl, _∙_}
 use borrow.Author.Needs.{needs}
-use Rattle.rules.proofs.CopiedBytes.{Copied, copied-none, copied-more, copied-whole}
+use lib.Seq.{take-all}
+use Rattle.rules.proofs.CopiedBytes.{Copied, copied-none, front-more, front-all}
 use Rattle.rules.proofs.polynomial.copy_bytes.Statement.{statement}
 use Rattle.rules.proofs.polynomial.copy_bytes.Tie as tie
 
 abbrev Inv-loop : tie.InvT-loop
-Inv-loop from to₀ i₀ to i = Copied from to₀ 17 to i
+Inv-loop from to₀ i₀ to i = Copied 17 to₀ 0 from to i
 
 abbrev μ-loop : tie.MeasureT-loop
 μ-loop from to₀ i₀ to i = 17 - i
@@ -15,7 +16,7 @@ abbrev μ-loop : tie.MeasureT-loop
 loop-again : tie.Need-loop-again Inv-loop μ-loop
 loop-again c =
     let inside = c .before in
-    copied-more (search needs) (search needs) (inside .before .loop .inv) (inside .loop-test .taken) refl
+    front-more (inside .before .loop .inv) (search needs) (search needs) (inside .loop-test .taken) refl
 
 pub copy-bytes-spec : {M : Type 1} → statement M
 copy-bytes-spec =
@@ -30,4 +31,4 @@ copy-bytes-spec =
     (λ c. search needs)
     loop-again
     (λ c. c .before .loop .inv .size)
-    (λ c. copied-whole (c .before .loop .inv) (c .loop-test .left) (search needs) (search needs)))
+    (λ c. front-all (c .before .loop .inv) (search needs) (c .loop-test .left) ∙ take-all 17 _ (search needs)))

@@ -7,7 +7,7 @@ use Rattle.rules.proofs.polynomial.lower.Statement.{statement}
 use Rattle.rules.proofs.polynomial.lower.Tie as tie
 
 abbrev Inv-loop : tie.InvT-loop
-Inv-loop stack₀ i₀ stack i = Copied (drop 3200 stack₀) stack₀ 1600 stack i
+Inv-loop stack₀ i₀ stack i = Copied 1600 stack₀ 0 (drop 3200 stack₀) stack i
 
 abbrev μ-loop : tie.MeasureT-loop
 μ-loop stack₀ i₀ stack i = 1600 - i
