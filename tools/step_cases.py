@@ -1,11 +1,12 @@
-"""Random steps of rules 1 to 6 with the Rust's answers: the file that the program `step_cases` replays.
+"""Random steps of rules 1 to 8 with the Rust's answers: the file that the program `step_cases` replays.
 
     python3 tools/step_cases.py ORACLE [--count N] [--seed N] [--each N] [--records N]
 
 --each says how many steps of one rule and verdict are kept, --records how large a book may grow before another is begun.
 
-Each step is a run by itself, so that the Rust judges every one of them. A step is dropped where a number might leave the range of 2^31
-(`step_fits` of random_cases.py judges that from above), since the Rust has no such range.
+Each step is a run by itself, behind the step that it names as its premise if it has one, so that the Rust judges every one of them. A step
+is dropped where a number might leave the range of 2^31 or a polynomial its sizes (`step_fits` of random_cases.py judges that from above),
+since the Rust has no such limits.
 
 The file crates/step_cases/data/cases: books, each
     2 bytes   how many records
@@ -15,9 +16,9 @@ and for each step
     1 byte    the rule
     1 byte    the verdict, 0 where the step is accepted
     2 bytes   the visits of an accepted step
-    2 bytes   how many C records, how many A records, a byte each
-    1 byte    how many numbers are inferred
-    the C records and the A records, 4 bytes each
+    3 bytes   how many C records, how many other records, how many numbers are inferred
+    the C records, 4 bytes each
+    the other records: the A records, or of rule 8 the P records and then the C records of the step that the first of them names
     the inferred numbers, 4 bytes of numerator and 4 of denominator
 All numbers are little-endian.
 """
@@ -30,18 +31,25 @@ from collections import Counter
 from books import Book, step_bytes
 from random_cases import SORTS, Maker, ask, inferred_of, step_fits
 
-RULES = (1, 2, 3, 4, 4, 5, 5, 5, 6, 6, 6)  # how often each is tried
+RULES = (1, 2, 3, 4, 4, 5, 5, 5, 6, 6, 6, 7, 7, 7, 8, 8, 8, 8)  # how often each is tried
+TWO_LITERALS = (5, [["not", ["<", "x", "3"]], ["not", [">", "x", "2"]]], ["1", "1"])  # accepted, and no premise for rule 8
 CASES = os.path.join(os.path.dirname(__file__), "..", "crates", "step_cases", "data", "cases")
 
 
 def steps_of(maker, count):
-    """Steps of rules 1 to 6, some of them damaged: rule, literals, arguments."""
+    """Steps, some of them damaged: rule, literals, arguments, how many premises, and the step that is the premise."""
     for i in range(count):
-        step = maker.step(RULES[i % len(RULES)], [])[0]
+        steps = maker.step(RULES[i % len(RULES)], [])
+        premise, step = steps[0] if len(steps) > 1 else None, steps[-1]
         if maker.chance(maker.harm):
             step = maker.harmed(step)
-        if 1 <= step[0] <= 6:
-            yield step[0], step[2], step[3]
+        rule, premises, literals, arguments = step
+        if premise and maker.chance(maker.harm / 2):
+            premise = maker.harmed(premise)
+        if premise:
+            premise = TWO_LITERALS if maker.chance(0.05) else (premise[0], premise[2], premise[3])
+        if rule:
+            yield rule, literals, arguments, len(premises) if premise else 0, premise
 
 
 def packed_record(record):
@@ -52,30 +60,44 @@ def packed_record(record):
 def packed(book, steps):
     records = [book[i : i + 32] for i in range(0, len(book), 32)]
     parts = [struct.pack("<H", len(records))] + [packed_record(r) for r in records] + [struct.pack("<H", len(steps))]
-    for rule, verdict, visits, run, literals, arguments, inferred in steps:
-        parts.append(struct.pack("<BBHBBB", rule, verdict, visits, literals, arguments, len(inferred)))
-        parts.append(run[4:])  # without the S record
+    for rule, verdict, visits, records, counts, inferred in steps:
+        parts.append(struct.pack("<BBHBBB", rule, verdict, visits, *counts, len(inferred)))
+        parts.append(records)
         parts += [struct.pack("<iI", q.numerator, q.denominator) for q in inferred]
     return b"".join(parts)
 
 
 def in_books(steps, most):
-    """Steps with their books, each book shared by as many steps as give it no more than so many records."""
+    """Steps with their books, each book shared by as many steps as give it no more than so many records: the run, and of the step
+    itself the records that a rule reads."""
     book = Book(SORTS)
-    for rule, literals, arguments in steps:
+    for rule, literals, arguments, premises, premise in steps:
         if len(book.records) > most:
             book = Book(SORTS)
-        yield book, step_bytes(rule, [], [book.term(e) for e in literals], [book.term(e) for e in arguments])
+        before, named = b"", []
+        if premise:
+            named = [book.term(e) for e in premise[1]]
+            before = step_bytes(premise[0], [], named, [book.term(e) for e in premise[2]])
+        clause, args = [book.term(e) for e in literals], [book.term(e) for e in arguments]
+        run = before + step_bytes(rule, [0] * premises, clause, args)
+        others = step_bytes(0, [], [], args)[4:]
+        if rule == 8:
+            others = step_bytes(0, [0] * premises, named if premises else [], [])[4:]
+        yield book, run, step_bytes(0, [], clause, [])[4:] + others, (len(clause), len(others) // 4)
 
 
 def answered(oracle, steps, most):
     """Steps with their books and the Rust's answers: verdict, visits and what is inferred."""
     placed = list(in_books(steps, most))
-    for step, (book, run), answer in zip(steps, placed, ask(oracle, [(b.bytes(), run) for b, run in placed])):
-        if answer[0].isdigit() and "big" not in answer:
-            inferred = inferred_of(answer[3]).get(0)
-            if step_fits(*step, inferred):
-                yield step, book, run, (int(answer[0]), int(answer[2]), inferred or [])
+    for step, (book, run, records, counts), answer in zip(steps, placed, ask(oracle, [(b.bytes(), run) for b, run, _, _ in placed])):
+        before = 1 if step[4] else 0
+        if not answer[0].isdigit() or "big" in answer or int(answer[1]) < before:
+            continue
+        verdict, visits, inferred = int(answer[0]), int(answer[2]), inferred_of(answer[3]).get(before)
+        if step_fits(*step[:3], inferred) and not (before and step[4][0]):
+            yield step, book, records, counts, (verdict, visits, inferred or [])
+        elif before and step[4] == TWO_LITERALS and verdict:
+            yield step, book, records, counts, (verdict, 0, [])
 
 
 def main():
@@ -83,20 +105,20 @@ def main():
     option = lambda name, usual: int(sys.argv[sys.argv.index(name) + 1]) if name in sys.argv else usual
     maker = Maker(random.Random(option("--seed", 1)), 0.35)
     kept, chosen, books = Counter(), [], {}
-    for step, _, _, (verdict, _, _) in answered(oracle, list(steps_of(maker, option("--count", 20000))), 0):
+    for step, _, _, _, (verdict, _, _) in answered(oracle, list(steps_of(maker, option("--count", 20000))), 0):
         kept[step[0], verdict] += 1
         if kept[step[0], verdict] <= option("--each", 100):
             chosen.append(step)
     written = Counter()
-    for (rule, literals, arguments), book, run, (verdict, visits, inferred) in answered(oracle, chosen, option("--records", 1000)):
-        written[rule, verdict] += 1
-        books.setdefault(book, []).append((rule, verdict, visits, run, len(literals), len(arguments), inferred))
+    for step, book, records, counts, (verdict, visits, inferred) in answered(oracle, chosen, option("--records", 1000)):
+        written[step[0], verdict] += 1
+        books.setdefault(book, []).append((step[0], verdict, visits, records, counts, inferred))
     os.makedirs(os.path.dirname(CASES), exist_ok=True)
     with open(CASES, "wb") as f:
         for book, steps in books.items():
             f.write(packed(book.bytes(), steps))
     print("%d steps in %d books, %d bytes" % (sum(written.values()), len(books), os.path.getsize(CASES)))
-    for rule in range(1, 7):
+    for rule in range(1, 9):
         print("rule %d: %s" % (rule, {v: n for (r, v), n in sorted(written.items()) if r == rule}))
 
 

@@ -20,6 +20,8 @@ use rules::linear_shapes::Verdict;
 use rules::linear_shapes::la_disequality;
 use rules::linear_shapes::la_rw_eq;
 use rules::linear_shapes::la_totality;
+use rules::poly_simp::poly_simp;
+use rules::polynomial_rel::poly_simp_rel;
 use rules::work_area::prepare;
 use terms::book::BookRead;
 use terms::book::byte;
@@ -82,13 +84,31 @@ fn inside(book: &[u8], part: &[u8]) -> bool
     true
 }
 
-// A step by its rule.
+// How many records at the start of a part are P records.
+fn premises(part: &[u8]) -> usize
+    ensures { λ r. ⌜ r ≤ 65536 ⌝ }
+{
+    let m = part.len() / 4;
+    let mut k = 0;
+    while k < 65536 {
+        if m <= k {
+            return k;
+        }
+        if byte(part, 4 * k) != b'P' {
+            return k;
+        }
+        k += 1;
+    }
+    k
+}
+
+// A step by its rule; `others` are its arguments, or of rule 8 its premises and the literals of the first.
 fn check(
     book: &[u8],
     work: &mut [u8],
     rule: u8,
     literals: &[u8],
-    args: &[u8],
+    others: &[u8],
     limit: u32,
 ) -> Verdict
     requires { ⌜ Ready (now book) (now work) × (Inside (now book) (now literals) × (length (now literals) ≤ 16384)) ⌝ }
@@ -99,8 +119,13 @@ fn check(
         2 => la_disequality(book, literals, 0),
         3 => la_totality(book, literals, 0),
         4 => la_tautology(book, work, literals, 0, limit),
-        5 => la_generic(book, work, literals, args, 0, limit),
-        _ => bounded_farkas(book, work, literals, args, 0, limit),
+        5 => la_generic(book, work, literals, others, 0, limit),
+        6 => bounded_farkas(book, work, literals, others, 0, limit),
+        7 => poly_simp(book, work, literals, 0, limit),
+        _ => {
+            let n = premises(others);
+            poly_simp_rel(book, literals, n, rest(others, n), 0)
+        }
     }
 }
 
@@ -216,7 +241,9 @@ fn is_same(
         if agrees(book, work, h, literals, args) {
             if verdict == 0 {
                 if 5 <= rule {
-                    return infers(book, work, literals, args, numbers);
+                    if rule <= 6 {
+                        return infers(book, work, literals, args, numbers);
+                    }
                 }
             }
             return numbers.len() == 0;

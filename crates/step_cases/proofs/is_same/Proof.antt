@@ -19,7 +19,7 @@ agrees-requires c κs =
 
 infers-requires : tie.Need-infers-requires
 infers-requires c κs =
-    let agreed = c .before .before .before .before .before .before in
+    let agreed = c .before .before .before .before .before .before .before in
     let pre = begin (agreed .before) .pre in
     (subst (Ready _) (sym (agreed .agrees .ensures)) (pre .0), (named (agreed .before), pre .1))
 
