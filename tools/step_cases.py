@@ -2,7 +2,8 @@
 
     python3 tools/step_cases.py ORACLE [--count N] [--seed N] [--each N] [--records N]
 
---each says how many steps of one rule and verdict are kept, --records how large a book may grow before another is begun.
+--each says how many steps of one rule and verdict are kept, --records how large a book may grow before another is begun. The file that is
+there was made with --count 60000 --each 75 --records 120; the program's `stdout` has its number of steps.
 
 Each step is a run by itself, behind the step that it names as its premise if it has one, so that the Rust judges every one of them. A step
 is dropped where a number might leave the range of 2^31 or a polynomial its sizes (`step_fits` of random_cases.py judges that from above),
