@@ -3,12 +3,15 @@
     python3 tools/marked.py                     writes the file
     python3 tools/marked.py --oracle PROGRAM    compares the expected answers with the Rust's, and writes nothing
     python3 tools/marked.py --cases FILE        writes the cases for tools/try_definitions.py
+    python3 tools/marked.py --examples          writes K1 to K12 and a run that stops as files to examples/, and their answers
+    python3 tools/marked.py --marks PROGRAM     runs `mark` on those files, and says which answers differ from the table's
 
 The Rust has no refusals 1 to 12: of such a case only the accepted steps are compared, and of one with refusal 1 to 7 nothing.
 """
 import os
 import subprocess
 import sys
+import tempfile
 import textwrap
 
 from books import Book, argument, batch, expressions, listed, record_text, run_bytes, run_text, shown, to_bytes
@@ -16,6 +19,8 @@ from books import Book, argument, batch, expressions, listed, record_text, run_b
 HERE = os.path.dirname(os.path.abspath(__file__))
 TEXT = os.path.join(HERE, "marked.txt")
 TABLE = os.path.join(HERE, "..", "crates", "runs", "specs", "Marked.antt")
+
+EXAMPLES = os.path.join(HERE, "..", "examples")
 
 USUAL = (1000, 65536, 1000, 1000)
 
@@ -244,8 +249,58 @@ def write_cases(sections, path):
             f.write("%s %s %d %d %d %d %d %d %d %s %s # %s\n" % (*parts[:2], c.limit, c.work, *c.out, *c.answer, *parts[2:], c.name))
 
 
+# ---- the program `mark`
+
+
+STOPS = "30 behind an accepted step, which is written"
+
+
+def examples(sections):
+    """Document 01's examples, and a run that stops behind an elaborated step, each with the name of its files."""
+    for case in sections[0][1]:
+        yield case.name.replace(",", "").replace(" ", "_"), case
+    yield "stops", next(c for _, cases in sections for c in cases if c.name == STOPS)
+
+
+def write_examples(sections):
+    with open(os.path.join(EXAMPLES, "answers"), "w") as answers:
+        answers.write("# example, verdict, accepted steps, visits: written by tools/marked.py --examples from the table of tools/marked.txt\n")
+        for name, case in examples(sections):
+            for end, part in zip((".book", ".run"), case.bytes()):
+                with open(os.path.join(EXAMPLES, name + end), "wb") as f:
+                    f.write(part)
+            answers.write("%s %d %d %d\n" % (name, *case.answer))
+
+
+def marks(program, sections):
+    """Runs the program on the examples: with the limit of each case, and elaborating."""
+    wrong = 0
+    with tempfile.TemporaryDirectory() as out:
+        for name, case in examples(sections):
+            files = [os.path.join(EXAMPLES, name + end) for end in (".book", ".run")]
+            written = [os.path.join(out, end) for end in ("run", "tail")]
+            want = "verdict %d\naccepted steps %d\nvisits %d\n" % case.answer
+            for words in ([*files, str(case.limit)], ["--elaborate", *files, str(case.limit), *written]):
+                got = subprocess.run([program, *words], stdout=subprocess.PIPE, check=True).stdout.decode()
+                if not got.startswith(want):
+                    wrong += 1
+                    print("%s: expected %r, mark says %r" % (name, want, got))
+            for path, part in zip(written, case.bytes()[2:]):
+                with open(path, "rb") as f:
+                    if f.read() != part:
+                        wrong += 1
+                        print("%s: another elaboration is written" % name)
+    print("%d examples, %d answers differ" % (len(list(examples(sections))), wrong))
+    return wrong
+
+
 def main():
     sections = read_cases()
+    if sys.argv[1:2] == ["--examples"]:
+        write_examples(sections)
+        return
+    if sys.argv[1:2] == ["--marks"]:
+        sys.exit(1 if marks(sys.argv[2], sections) else 0)
     if sys.argv[1:2] == ["--oracle"]:
         sys.exit(1 if compare(sections, sys.argv[2]) else 0)
     if sys.argv[1:2] == ["--cases"]:

@@ -1,258 +1,142 @@
-// `mark BOOK` lists the records of a book file, one a line: number, sort and the record in words. A book that is refused
-// gets one sentence instead: document 01's number of the refusal, the record and the reason.
+// `mark BOOK` lists the records of a book file. `mark BOOK RUN [LIMIT]` marks a run over it. `mark --elaborate BOOK RUN LIMIT OUT_RUN OUT_TAIL`
+// writes the elaboration of its accepted steps and marks it again.
+mod elaboration;
+mod files;
+mod listing;
+mod marking;
+mod printing;
+mod words;
+
 ghost use Prim.Native.Nat.{_≤_};
-ghost use lib.ListN.{length};
-ghost use Rattle.io.specs.Counts.{Counts};
+use elaboration::elaborate_files;
+use files::read_arg;
 use libc::STDERR_FILENO;
-use libc::STDOUT_FILENO;
-use terms::book::BookRead;
-use terms::book::argument;
+use marking::list;
+use marking::mark;
 use terms::book::byte;
-use terms::book::read_book;
-use terms::book::record;
-use terms::bytes::read_u64;
-use terms::number::Number;
-use terms::number::magnitude;
-use terms::term::BitVector;
-use terms::term::Reading;
-use terms::term::args;
-use terms::term::as_bitvector;
-use terms::term::as_number;
-use terms::term::operator;
+use terms::book::same_bytes;
 
-// One byte more than a book of 2,048 records has, so that a longer file shows.
-const MOST: usize = 65537;
+// One byte more than a book of 2,048 records and a run of 4,096 have, so that a longer file shows.
+const BOOK: usize = 65537;
 
-fn print(text: &[u8]) {
-    io::write_all(STDOUT_FILENO, text);
+const RUN: usize = 16385;
+
+fn complain(text: &[u8]) {
+    io::write_all(STDERR_FILENO, text);
 }
 
-fn print_number(n: u64) {
-    io::print_decimal(STDOUT_FILENO, n);
+fn usage() {
+    complain(b"usage: mark BOOK\n");
+    complain(b"       mark BOOK RUN [LIMIT]\n");
+    complain(b"       mark --elaborate BOOK RUN LIMIT OUT_RUN OUT_TAIL\n");
 }
 
-fn print_signed(n: i64) {
-    if n < 0 {
-        print(b"-");
+// ---- the arguments
+
+// A decimal number of at most seven digits; 0 where the text is no such number.
+fn decimal(text: &[u8]) -> u32 {
+    let n = text.len();
+    if 7 < n {
+        return 0;
     }
-    print_number(magnitude(n));
-}
-
-// ---- a record in words
-
-fn print_sort(s: u8) {
-    match s {
-        1 => print(b"Bool"),
-        2 => print(b"Int"),
-        3 => print(b"Real"),
-        _ => print_width(s),
-    }
-}
-
-// The sort of a bit-vector of w bits is 3 + w.
-fn print_width(s: u8) {
-    print(b"BitVec(");
-    print_number(if 3 < s { s as u64 - 3 } else { 0 });
-    print(b")");
-}
-
-// The operator's name in SMT-LIB.
-fn print_operator(o: u8) {
-    match o {
-        1 => print(b"not"),
-        2 => print(b"and"),
-        3 => print(b"or"),
-        4 => print(b"="),
-        5 => print(b"<"),
-        6 => print(b"<="),
-        7 => print(b">"),
-        8 => print(b">="),
-        9 => print(b"+"),
-        10 => print(b"-"),
-        11 => print(b"*"),
-        12 => print(b"div"),
-        13 => print(b"/"),
-        14 => print(b"to_real"),
-        15 => print(b"bvadd"),
-        16 => print(b"bvsub"),
-        17 => print(b"bvneg"),
-        _ => print(b"bvmul"),
-    }
-}
-
-fn print_argument(a: usize) {
-    print(b" #");
-    print_number(a as u64);
-}
-
-// The arguments of record `id`, from the part of it that holds them.
-fn print_arguments(args: &[u8], id: usize) {
+    let mut value = 0;
     let mut k = 0;
-    while k < args.len() / 2 {
-        print_argument(argument(args, k, id));
+    while k < n {
+        let d = text[k];
+        if d < b'0' {
+            return 0;
+        }
+        if b'9' < d {
+            return 0;
+        }
+        value = 10 * value + (d - b'0') as u32;
         k += 1;
     }
+    value
 }
 
-fn print_operation(book: &[u8], id: usize, o: u8) {
-    print(b"(");
-    print_operator(o);
-    print_arguments(args(book, id), id);
-    print(b")");
-}
-
-// An integer or a real, by its sort.
-fn print_constant(q: Number, s: u8) {
-    if s == 2 {
-        print(b"integer ");
-        print_signed(q.num);
-    } else {
-        print(b"real ");
-        print_signed(q.num);
-        print(b"/");
-        print_signed(q.den);
-    }
-}
-
-fn print_bits(v: u64) {
-    print(b"bitvector ");
-    print_number(v);
-}
-
-fn print_atom(book: &[u8], id: usize) {
-    print(b"atom a");
-    print_number(read_u64(record(book, id), 4));
-}
-
-fn print_bits_or_atom(book: &[u8], id: usize) {
-    match as_bitvector(book, id) {
-        BitVector::Bits(v, _) => print_bits(v),
-        BitVector::NotBitvector => print_atom(book, id),
-    }
-}
-
-// A record that is no operation.
-fn print_leaf(book: &[u8], id: usize, s: u8) {
-    match as_number(book, id) {
-        Reading::Value(q) => print_constant(q, s),
-        _ => print_bits_or_atom(book, id),
-    }
-}
-
-// Record `id`, of sort s.
-fn print_record(book: &[u8], id: usize, s: u8) {
-    print_number(id as u64);
-    print(b" ");
-    print_sort(s);
-    print(b" ");
-    match operator(book, id) {
-        0 => print_leaf(book, id, s),
-        o => print_operation(book, id, o),
-    }
-    print(b"\n");
-}
-
-fn print_records(book: &[u8], sorts: &[u8], n: usize) {
-    let mut id = 0;
-    while id < n {
-        print_record(book, id, byte(sorts, id));
-        id += 1;
-    }
-}
-
-// ---- a refusal in words
-
-// Refusal 2 is the whole book's, the others are a record's.
-fn print_refusal(c: u8, id: usize) {
-    print(b"book refused: ");
-    print_number(c as u64);
-    if c != 2 {
-        print(b" at record ");
-        print_number(id as u64);
-    }
-    print(b": ");
-    match c {
-        2 => print(b"the book is not whole records of 32 bytes, or has more than 2048"),
-        3 => print(b"the record is not laid out as a term"),
-        4 => print(b"an argument has the wrong sort"),
-        _ => print(b"the record equals an earlier one"),
-    }
-    print(b"\n");
-}
-
-fn print_book(book: &[u8]) {
-    let mut sorts = [0u8; 2048];
-    match read_book(book, &mut sorts) {
-        BookRead::Records(n) => print_records(book, &sorts, n),
-        BookRead::RefusedAt(c, id) => print_refusal(c, id),
-    }
-}
-
-// ---- the file
-
-struct FileRead {
-    // Whether no read failed.
-    ok: bool,
-    // How many bytes stand at the start of the buffer.
-    bytes: usize,
-}
-
-// What `read` answers for the buffer from `at` on.
-fn read_at(fd: i32, space: &mut [u8], at: usize) -> isize
-    requires { ⌜ at ≤ length (now space) ⌝ }
-{
-    libc::read(fd, &mut space[at..])
-}
-
-// Reads until the buffer is full, the file ends or a read fails.
-fn read_file(fd: i32, space: &mut [u8]) -> FileRead
-    ensures { λ r. ⌜ Counts (r .bytes) (now (space .exit)) ⌝ }
-{
-    let mut n = 0;
-    while n < space.len() {
-        let got = read_at(fd, space, n);
-        if got < 0 {
-            return FileRead {
-                ok: false,
-                bytes: n,
-            };
+// The limit that argument i gives; 0, after a complaint, where it is none.
+fn limit_of(i: usize) -> u32 {
+    let mut text = io::buffer();
+    let n = os::arg(i, &mut text);
+    let limit = decimal(&text[..n]);
+    if 1 <= limit {
+        if limit <= 1000000 {
+            return limit;
         }
-        let k = io::count(got, &space[n..]);
-        if k == 0 {
-            break;
-        }
-        n += k;
     }
-    FileRead { ok: true, bytes: n }
+    complain(b"mark: LIMIT is not a number from 1 to 1000000\n");
+    0
 }
 
-fn mark_file(fd: i32, path: &[u8]) {
-    let mut space = [0u8; MOST];
-    let file = read_file(fd, &mut space);
-    if file.ok {
-        let n = file.bytes;
-        print_book(&space[..n]);
-    } else {
-        os::fail(path);
+// ---- the commands
+
+fn list_file() {
+    let mut book = [0u8; BOOK];
+    let b = read_arg(1, b"BOOK", &mut book);
+    if b.ok {
+        let n = b.bytes;
+        list(&book[..n]);
+    }
+}
+
+// Reads the files that arguments i and i + 1 name, and marks or elaborates.
+fn with_files(i: usize, limit: u32, elaborating: bool)
+    requires { ⌜ i ≤ 2 ⌝ }
+{
+    let mut book = [0u8; BOOK];
+    let mut run = [0u8; RUN];
+    let b = read_arg(i, b"BOOK", &mut book);
+    if b.ok {
+        let r = read_arg(i + 1, b"RUN", &mut run);
+        if r.ok {
+            let n = b.bytes;
+            let m = r.bytes;
+            if elaborating {
+                elaborate_files(&book[..n], &run[..m], limit);
+            } else {
+                mark(&book[..n], &run[..m], limit);
+            }
+        }
+    }
+}
+
+fn mark_with_limit() {
+    let limit = limit_of(3);
+    if limit != 0 {
+        with_files(1, limit, false);
+    }
+}
+
+fn elaborate_with_limit() {
+    let limit = limit_of(4);
+    if limit != 0 {
+        with_files(2, limit, true);
+    }
+}
+
+// Without an option.
+fn mark_or_list() {
+    match os::arg_count() {
+        2 => list_file(),
+        3 => with_files(1, 1000000, false),
+        4 => mark_with_limit(),
+        _ => usage(),
     }
 }
 
 fn main() {
-    if os::arg_count() != 2 {
-        io::write_all(STDERR_FILENO, b"usage: mark BOOK\n");
+    let mut option = io::buffer();
+    let n = os::arg(1, &mut option);
+    if same_bytes(&option[..n], b"--elaborate") {
+        if os::arg_count() == 7 {
+            elaborate_with_limit();
+            return;
+        }
+    }
+    if byte(&option, 0) == b'-' {
+        usage();
         return;
     }
-    let mut path = io::buffer();
-    let n = os::arg(1, &mut path);
-    if os::errno() != 0 {
-        os::fail(b"BOOK");
-        return;
-    }
-    let fd = os::open_read(&path[..n]);
-    if fd < 0 {
-        os::fail(&path[..n]);
-        return;
-    }
-    mark_file(fd, &path[..n]);
-    libc::close(fd);
+    mark_or_list();
 }

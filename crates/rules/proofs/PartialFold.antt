@@ -2,6 +2,7 @@
 --     partial-unread, partial-refused, partial-done       the rule by its steps
 --     PartSoFar, Rested, part-unread, part-begin, part-refused, part-done, part-again       its loop
 --     generic-unequal, generic-equal       `la_generic`
+--     begin-trace, inferred-proper, again-trace, done-trace       the numbers that its loop infers
 use mathlib.Core.Path.{_≡_, refl, sym, ap, subst, _∙_}
 use mathlib.Core.Bool.{Bool, true, false, _&&_, not, cond}
 use mathlib.Core.List.{List, [], _∷_, _++_, append-nil}
@@ -15,7 +16,7 @@ use lib.Dec.{eqb}
 use lib.IntN.{pos}
 use lib.ListN.{length, drop, length-drop, drop-of-length-le}
 use lib.Seq.{drop-drop}
-use Rattle.terms.specs.Rational.{Rational, whole}
+use Rattle.terms.specs.Rational.{Rational, Proper, whole}
 use Rattle.terms.specs.Bytes.{Bytes}
 use Rattle.terms.specs.Term.{Term}
 use Rattle.rules.specs.Refusal.{Refusal, Result, _>>=_, assert}
@@ -37,6 +38,7 @@ use Rattle.rules.specs.declared.linear_shapes.Verdict.the-variants as ve
 use Rattle.rules.proofs.CheckedNumbers.{whole-proper}
 use Rattle.rules.proofs.StoredEntries.{kept-small}
 use Rattle.rules.proofs.Areas.{only-then, only-none}
+use Rattle.rules.proofs.Yields.{Yields, gives, past}
 use Rattle.rules.proofs.Results.{next, ends, refuses-as, refused-then, code-none, code-some, refused-verdict}
 use Rattle.rules.proofs.AreaSteps.{kept-sum, sum-entries}
 use Rattle.rules.proofs.RunParts.{length-numbersIn, length-named, numbersIn-drop, termsIn-drop}
@@ -328,3 +330,36 @@ module _ (b literals args : Bytes) (v l : ℕ) where
       a ≡ verdictOf (visitsOf (laGenericPartial (limited l) (termsIn b literals) (termsIn b args) v)) →
       a ≡ verdictOf (visitsOf (laGeneric (limited l) (termsIn b literals) (termsIn b args) v))
   generic-equal h a a-is = a-is ∙ ap (λ r. verdictOf (visitsOf r)) (equal-counts h)
+
+-- ---- the numbers that the loop infers, for whoever takes each as it is found
+
+pub begin-trace :
+    (g : Given) (v c : ℕ) (c-is : (n : ℕ) → c ≡ codeOf (readArgs (limited n) (termsIn (g .book) (g .args))))
+    (zero-is : c ≡ 0) (ready : Ready (g .book) (g .work)) (named : Inside (g .book) (g .literals))
+    (small : length (g .literals) ≤ 16384) (q : Rational) (q-is : q ≡ whole (pos 0)) →
+    part-begin g v c c-is zero-is ready named small q q-is .trace ≡ []
+unfolding part-begin
+begin-trace g v c c-is zero-is ready named small q q-is = refl
+
+module _ {g : Given} {v : ℕ} {w : Bytes} {p : by-value.Progress} {done : ℕ} (far : PartSoFar g v w p done) where
+  module _ {w′ : Bytes} {r : Folded} (rested : Rested g w p done w′ r) where
+    pub inferred-proper : (q : by-value.Progress) (x : Rational) (k : ℕ) → r ≡ folded.Inferred q x k → Proper x
+    inferred-proper q x k e = said far rested (folded.Inferred q x k) e .1 .1
+
+    pub again-trace :
+        (q : by-value.Progress) (x : Rational) (k : ℕ) (e : r ≡ folded.Inferred q x k) →
+        part-again far rested q x k e .trace ≡ far .trace ++ x ∷ []
+    unfolding part-again
+    again-trace q x k e = refl
+
+    -- the rule hands out those of the loop
+    pub done-trace :
+        (q : by-value.Progress) → r ≡ folded.Done q →
+        Yields (λ s. s .trace ≡ far .trace)
+        (laGenericPartial (limitsOf g) (clauseOf g) (termsIn (g .book) (g .args)) v)
+    done-trace q e =
+        let done-all =
+        all-done far rested (progressWith q (rest-left far rested .map) []) (said far rested (folded.Done q) e .0)
+        in
+        subst (Yields _) (sym (partial-done _ (clauseOf g) _ v _ (far .all) _ done-all))
+        (past _ λ u. gives (append-nil (far .trace)))

@@ -1,12 +1,12 @@
 // Layer 2: the rules, on one step.
-pub mod disequality;
-pub mod index_map;
+mod disequality;
+mod index_map;
 pub mod linear_arithmetic;
 pub mod linear_comb;
 pub mod linear_shapes;
-pub mod monomials;
+mod monomials;
 pub mod poly_simp;
-pub mod polynomial;
+mod polynomial;
 pub mod polynomial_rel;
-pub mod polynomial_walk;
+mod polynomial_walk;
 pub mod work_area;

@@ -48,13 +48,13 @@ use terms::term::binary;
 // Some book keeps the areas that are read (`(b : Bytes) × ..`), so that the numbers in them are in range; what is promised
 // is promised for each such book.
 
-pub enum Inference {
+pub(crate) enum Inference {
     Of(Number),
     Refused(u8),
 }
 
 // An argument, and the same where it was inferred.
-pub enum Argued {
+pub(crate) enum Argued {
     Is(Number, Coefficient),
     Refused(u8),
 }
@@ -108,7 +108,7 @@ pub struct Progress {
     pub visits: u32,
 }
 
-pub enum Processed {
+pub(crate) enum Processed {
     // With the argument where it was inferred.
     Accumulated(Progress, Coefficient),
     Refused(u8),
@@ -233,7 +233,7 @@ fn accumulate(work: &mut [u8], p: Progress, d: Disequality, arg: Coefficient) ->
 }
 
 // One literal: its negation, with its argument given or inferred, is added to the sum so far. A refusal leaves all areas empty.
-pub fn process_disequality(
+pub(crate) fn process_disequality(
     book: &[u8],
     work: &mut [u8],
     p: Progress,

@@ -36,7 +36,7 @@ pub struct LinearComb {
 }
 
 // The answer of an operation that can leave the range of numbers.
-pub enum Summed {
+pub(crate) enum Summed {
     Sum(LinearComb),
     // Refusal 11.
     OutOfRange,
@@ -44,7 +44,7 @@ pub enum Summed {
 
 // ---- neg, mul, coefficients_gcd
 
-pub fn neg(entries: &mut [u8], s: LinearComb) -> LinearComb
+pub(crate) fn neg(entries: &mut [u8], s: LinearComb) -> LinearComb
     requires { ⌜ (s .len ≤ 4096) × Proper (s .constant) ⌝ }
     ensures { λ r. ⌜ r ≡ negated s ⌝ }
     ensures { λ r. ⌜ ((b : Bytes) → KeptSum b (now (entries .entry)) s →
@@ -86,7 +86,7 @@ fn scale_all(entries: &mut [u8], n: usize, q: Number) -> Inserted
 }
 
 // Multiplies a combination, in its own place.
-pub fn mul(entries: &mut [u8], s: LinearComb, q: Number) -> Summed
+pub(crate) fn mul(entries: &mut [u8], s: LinearComb, q: Number) -> Summed
     requires { ⌜ (s .len ≤ 4096) × (Proper (s .constant) × Proper q) ⌝ }
     ensures { λ r. ⌜ ((b : Bytes) → KeptSum b (now (entries .entry)) s → (l : ℕ) →
         Sums b (now (entries .exit)) r (mul (limited l) (combOf b (now (entries .entry)) s) q)) ⌝ }
@@ -138,7 +138,7 @@ fn gcd_from(entries: &[u8], n: usize, start: i64) -> i64
 }
 
 // The greatest common divisor of the coefficients and the constant; 1 where one of them is not whole, and where all are 0.
-pub fn coefficients_gcd(entries: &[u8], s: LinearComb) -> i64
+pub(crate) fn coefficients_gcd(entries: &[u8], s: LinearComb) -> i64
     requires { ⌜ (s .len ≤ 4096) × Proper (s .constant) ⌝ }
     ensures { λ r. ⌜ Proper (whole r) ⌝ }
     ensures { λ r. ⌜ ((b : Bytes) → Kept b (now (entries .entry)) (s .len) →
@@ -156,14 +156,14 @@ pub fn coefficients_gcd(entries: &[u8], s: LinearComb) -> i64
 // ---- add_term
 
 // What a walk has filled and the visits made so far.
-pub enum Walk {
+pub(crate) enum Walk {
     Done(LinearComb, u32),
     // Document 01's number of the refusal.
     Refused(u8),
 }
 
 // What a walk does at a term.
-pub enum Node {
+pub(crate) enum Node {
     // Walks the arguments, the first with the first coefficient and all others with the second.
     Args(Number, Number),
     // Walks one factor of a product in its place.
@@ -273,7 +273,7 @@ fn add_entry(entries: &mut [u8], s: LinearComb, visits: u32, key: usize, value: 
 }
 
 // Adds coeff times the term of record `id`. One call is one visit, counted before it is made.
-pub fn add_term(
+pub(crate) fn add_term(
     book: &[u8],
     entries: &mut [u8],
     id: usize,

@@ -31,13 +31,13 @@ pub enum Verdict {
 }
 
 // The records of an operation's three arguments, if it is such an operation.
-pub enum Three {
+pub(crate) enum Three {
     All(usize, usize, usize),
     NotThree,
 }
 
 // The records of s1, d1, s2 and d2, if both parts of a clause bound a term.
-pub enum Bounds {
+pub(crate) enum Bounds {
     Are(usize, usize, usize, usize),
     Neither,
 }
@@ -45,7 +45,7 @@ pub enum Bounds {
 // ---- shapes
 
 // The record of the only literal, if there is just one: `assert_clause_len(conclusion, 1)`, and `conclusion[0]`.
-pub fn only_literal(literals: &[u8]) -> Only
+pub(crate) fn only_literal(literals: &[u8]) -> Only
     ensures { λ r. ⌜ ((b : Bytes) →
         orElse (found b r) wrongLengthOfClause ≡ onlyLiteral (termsIn b (now (literals .entry)))) ⌝ }
 {
@@ -203,7 +203,7 @@ fn assert_less_eq(book: &[u8], a: usize, b: usize) -> u8
 }
 
 // s1 and s2 are one term, and so are d1 and d2.
-pub fn bounds_eq(s1: usize, d1: usize, s2: usize, d2: usize) -> u8
+pub(crate) fn bounds_eq(s1: usize, d1: usize, s2: usize, d2: usize) -> u8
     ensures { λ r. ⌜ ((b : Bytes) → r ≡ codeOf (boundsCase assertEq (pairOf b s1 d1, pairOf b s2 d2))) ⌝ }
 {
     let code = assert_eq(s1, s2);
@@ -238,7 +238,7 @@ fn bounds_less_eq(book: &[u8], s1: usize, d1: usize, s2: usize, d2: usize) -> u8
 }
 
 // Both parts, if each was found.
-pub fn both(p: Two, q: Two) -> Bounds
+pub(crate) fn both(p: Two, q: Two) -> Bounds
     ensures { λ r. ⌜ ((b : Bytes) → foundBounds b r ≡ both (foundTwo b p) (foundTwo b q)) ⌝ }
 {
     let Two::Both(s1, d1) = p else {
@@ -281,7 +281,7 @@ fn both_negated(book: &[u8], first: usize, second: usize) -> Bounds
 }
 
 // The five forms (or phi1 phi2): 0, or the number of the refusal.
-pub fn tautology_case(book: &[u8], first: usize, second: usize) -> u8
+pub(crate) fn tautology_case(book: &[u8], first: usize, second: usize) -> u8
     ensures { λ r. ⌜ r ≡ codeOf (tautologyCase (tree (now (book .entry)) first) (tree (now (book .entry)) second)) ⌝ }
 {
     // First case

@@ -33,7 +33,7 @@ use terms::term::operator;
 use terms::term::unary;
 
 // The records in c1 (x1 - x2) = c2 (y1 - y2).
-pub struct Scaled {
+pub(crate) struct Scaled {
     pub c1: usize,
     pub x1: usize,
     pub x2: usize,
@@ -43,13 +43,13 @@ pub struct Scaled {
 }
 
 // What a premise is, if it has that form.
-pub enum Premise {
+pub(crate) enum Premise {
     Is(Scaled),
     Neither,
 }
 
 // Whether two coefficients that are not 0 have one sign.
-pub enum Signs {
+pub(crate) enum Signs {
     Same(bool),
     // Document 01's number of the refusal.
     Refused(u8),

@@ -55,7 +55,7 @@ pub fn prepare(book: &[u8], work: &mut [u8]) -> BookRead
 // ---- the parts of the work area
 
 // Area j.
-pub fn area(work: &[u8], j: usize) -> &[u8]
+pub(crate) fn area(work: &[u8], j: usize) -> &[u8]
     requires { ⌜ Area j (now work) ⌝ }
     ensures { λ r. ⌜ now r ≡ areaOf j (now (work .entry)) ⌝ }
 {
@@ -65,7 +65,7 @@ pub fn area(work: &[u8], j: usize) -> &[u8]
 }
 
 // Empties area j of n entries.
-pub fn clear_in(work: &mut [u8], j: usize, n: usize)
+pub(crate) fn clear_in(work: &mut [u8], j: usize, n: usize)
     requires { ⌜ Area j (now work) × (n ≤ 4096) ⌝ }
     ensures { λ _. ⌜ now (work .exit) ≡ withArea j (blanked n (areaOf j (now (work .entry)))) (now (work .entry)) ⌝ }
 {
@@ -86,7 +86,7 @@ fn insert_in(work: &mut [u8], j: usize, n: usize, key: usize, value: Number) -> 
     insert(&mut work[start..end], n, key, value)
 }
 
-pub fn neg_in(work: &mut [u8], j: usize, s: LinearComb) -> LinearComb
+pub(crate) fn neg_in(work: &mut [u8], j: usize, s: LinearComb) -> LinearComb
     requires { ⌜ Area j (now work) × ((s .len ≤ 4096) × Proper (s .constant)) ⌝ }
     ensures { λ r. ⌜ (r ≡ negated s) × OnlyArea j (now (work .entry)) (now (work .exit)) ⌝ }
     ensures { λ r. ⌜ ((b : Bytes) → KeptSum b (areaOf j (now (work .entry))) s →
@@ -97,7 +97,7 @@ pub fn neg_in(work: &mut [u8], j: usize, s: LinearComb) -> LinearComb
     neg(&mut work[start..end], s)
 }
 
-pub fn mul_in(work: &mut [u8], j: usize, s: LinearComb, q: Number) -> Summed
+pub(crate) fn mul_in(work: &mut [u8], j: usize, s: LinearComb, q: Number) -> Summed
     requires { ⌜ Area j (now work) × ((s .len ≤ 4096) × (Proper (s .constant) × Proper q)) ⌝ }
     ensures { λ r. ⌜ OnlyArea j (now (work .entry)) (now (work .exit)) ⌝ }
     ensures { λ r. ⌜ ((b : Bytes) → KeptSum b (areaOf j (now (work .entry))) s → (l : ℕ) →
@@ -109,7 +109,14 @@ pub fn mul_in(work: &mut [u8], j: usize, s: LinearComb, q: Number) -> Summed
 }
 
 // The combination that a term is, in area j, which is empty before; `visits` were made before.
-pub fn from_term(book: &[u8], work: &mut [u8], j: usize, id: usize, visits: u32, limit: u32) -> Walk
+pub(crate) fn from_term(
+    book: &[u8],
+    work: &mut [u8],
+    j: usize,
+    id: usize,
+    visits: u32,
+    limit: u32,
+) -> Walk
     requires { ⌜ Area j (now work) × (Laid (now book) × ((id < count (now book)) × Held (now book) (areaOf j (now work)) [])) ⌝ }
     ensures { λ r. ⌜ OnlyArea j (now (work .entry)) (now (work .exit)) ⌝ }
     ensures { λ r. ⌜ Walks (now (book .entry)) (areaOf j (now (work .exit))) r
@@ -196,7 +203,7 @@ fn add_signed(
     Summed::Sum(LinearComb { len, constant })
 }
 
-pub fn add(work: &mut [u8], to: usize, a: LinearComb, from: usize, b: LinearComb) -> Summed
+pub(crate) fn add(work: &mut [u8], to: usize, a: LinearComb, from: usize, b: LinearComb) -> Summed
     requires { ⌜ Apart to from (now work) × (((a .len ≤ 2048) × (b .len ≤ 2048)) × (Proper (a .constant) × Proper (b .constant))) ⌝ }
     ensures { λ r. ⌜ OnlyArea to (now (work .entry)) (now (work .exit)) ⌝ }
     ensures { λ r. ⌜ ((bk : Bytes) → KeptSum bk (areaOf to (now (work .entry))) a → KeptSum bk (areaOf from (now (work .entry))) b → (l : ℕ) →
@@ -206,7 +213,7 @@ pub fn add(work: &mut [u8], to: usize, a: LinearComb, from: usize, b: LinearComb
     add_signed(work, to, a, from, b, false)
 }
 
-pub fn sub(work: &mut [u8], to: usize, a: LinearComb, from: usize, b: LinearComb) -> Summed
+pub(crate) fn sub(work: &mut [u8], to: usize, a: LinearComb, from: usize, b: LinearComb) -> Summed
     requires { ⌜ Apart to from (now work) × (((a .len ≤ 2048) × (b .len ≤ 2048)) × (Proper (a .constant) × Proper (b .constant))) ⌝ }
     ensures { λ r. ⌜ OnlyArea to (now (work .entry)) (now (work .exit)) ⌝ }
     ensures { λ r. ⌜ ((bk : Bytes) → KeptSum bk (areaOf to (now (work .entry))) a → KeptSum bk (areaOf from (now (work .entry))) b → (l : ℕ) →
@@ -219,7 +226,7 @@ pub fn sub(work: &mut [u8], to: usize, a: LinearComb, from: usize, b: LinearComb
 // ---- reading
 
 // Whether all atoms of the n entries of area j are Int.
-pub fn all_int(work: &[u8], j: usize, n: usize) -> bool
+pub(crate) fn all_int(work: &[u8], j: usize, n: usize) -> bool
     requires { ⌜ Area j (now work) × (n ≤ 4096) ⌝ }
     ensures { λ r. ⌜ ((b : Bytes) → SortsBelow (count b) b (now (work .entry)) → Kept b (areaOf j (now (work .entry))) n →
         r ≡ allInt (entriesOf b (areaOf j (now (work .entry))) n)) ⌝ }

@@ -91,7 +91,7 @@ module _ (l : Limits) where
 -- ---- an answer to a marking
 
 -- a record has 32 bytes
-tailBytes-length : (qs : List Rational) → length (tailBytes qs) ≡ 32 * length qs
+pub tailBytes-length : (qs : List Rational) → length (tailBytes qs) ≡ 32 * length qs
 unfolding tailBytes realRecord bytesOf
 tailBytes-length [] = refl
 tailBytes-length (q ∷ qs) = omega (arith, tailBytes-length qs)

@@ -111,7 +111,7 @@ module _ (q : Rational) where
   real-unused = (refl, refl)
 
   module _ (p : Proper q) where
-    real-of : realOf (realRecord q) ≡ q
+    pub real-of : realOf (realRecord q) ≡ q
     real-of =
         ap₂ (λ (n d : ℤ). record { num = n; den = d })
         (ap (signed 8) real-field1 ∙ part-back (q .num) (p .numerator))

@@ -2,5 +2,8 @@ pub mod Run
 pub mod Check
 pub mod Elaborate
 pub mod Demands
+pub mod StepParts
+pub mod Lent
+pub mod Again
 pub mod Cases
 pub mod Marked

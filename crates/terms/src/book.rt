@@ -84,7 +84,8 @@ pub fn argument(args: &[u8], k: usize, id: usize) -> usize
     65535
 }
 
-fn same_bytes(a: &[u8], b: &[u8]) -> bool
+// Whether two parts have the same bytes.
+pub fn same_bytes(a: &[u8], b: &[u8]) -> bool
     ensures { λ r. ⌜ r ≡ sameBytes (now (a .entry)) (now (b .entry)) ⌝ }
 {
     if a.len() != b.len() {

@@ -1,0 +1,385 @@
+-- Reading a run: what the functions of the code that read steps answer is what the definitions say.
+--     head-is, record-at       the records of a part, by place
+--     Right, right-begin .. right-on       walking over records, each of which must be right
+--     literal-code, no-literal       a Bool term, by the code of its sort
+--     other-rule, shape-counts       the shape of a step, by how many records it has of each mark
+--     step-tests, not-read       a step is read if all tests hold; otherwise it is refusal 7
+--     readPart, part-done .. part-wrong       the steps of a part are its first step and those of what follows
+--     not-whole, too-long       refusal 6
+--     ReadSoFar, read-begin .. read-less       the steps before a place are read, and the others are left
+use mathlib.Core.Path.{_≡_, refl, sym, ap, _∙_, subst}
+use mathlib.Core.Bool.{Bool, true, false, _&&_}
+use mathlib.Core.List.{List, [], _∷_}
+use Prim.Native.Nat.{ℕ, zero, suc, _+_, _*_, _-_, _/_, _%_, _≤_, _<_}
+use native.Mathlib.Numerals.{add-one}
+use native.Mathlib.Nat.{add-zero}
+use native.Mathlib.Omega.{arith}
+use borrow.Author.Tests.{eq-eqb, ne-eqb, le-leb, lt-leb, lt-ltb, le-ltb}
+use lib.Dec.{eqb, leb, ltb}
+use lib.ListN.{length, getD, take, drop, length-drop}
+use lib.Seq.{getD-drop}
+use Rattle.terms.specs.Bytes.{Bytes, le}
+use Rattle.terms.specs.Term.{sort, sameSort}
+use Rattle.terms.specs.Term.Sort.{bool}
+use Rattle.terms.specs.Book.{count, tree, SortsBelow}
+use Rattle.terms.proofs.Layouts.{all, Walk, walk-on, walk-fails, walk-end}
+use Rattle.terms.proofs.LittleEndian.{le-of-two}
+use Rattle.terms.proofs.Truths.{never}
+use Rattle.rules.specs.Refusal.{Result, _>>=_, assert}
+use Rattle.rules.specs.Refusal.Result.{ok, refused}
+use Rattle.rules.specs.Refusal.Refusal.{runRecord}
+use Rattle.rules.specs.LinearSteps.{codeOf}
+use Rattle.rules.proofs.RunParts.{drop-to-end}
+use Rattle.runs.specs.Run.{Step, Rec, rec, S, P, C, A, recs, leading, after, allRight, isEmpty, shapeOk}
+use Rattle.runs.specs.Run.{readStep, readSteps, readRun, maxRunRecords}
+use Rattle.runs.specs.StepParts.{afterIn, premisesIn, clauseIn, argsIn, nextIn, bytesIn, headIn, partsOk}
+use Rattle.runs.specs.StepParts.{readIn, isOk, stepFrom}
+use Rattle.runs.proofs.RunRecords.{length-recs, recAt, recs-cons, recs-leading, recs-after, Begins, begins-first, begins-next, begins-less, bytes-some}
+
+-- ---- the records of a part, by place
+
+-- a part that has a record starts with its head
+pub head-is : (p : Bytes) → 4 ≤ length p → recs p ≡ headIn p ∷ recs (drop 4 p)
+unfolding recs headIn
+head-is [] h = absurd (omega (arith, h))
+head-is (m ∷ []) h = absurd (omega (arith, h))
+head-is (m ∷ c ∷ []) h = absurd (omega (arith, h))
+head-is (m ∷ c ∷ x ∷ []) h = absurd (omega (arith, h))
+head-is (m ∷ c ∷ x ∷ y ∷ p) h =
+    ap (λ (n : ℕ). rec m c n ∷ recs p) (le-of-two (m ∷ c ∷ x ∷ y ∷ p) 2 x y (omega arith) refl refl)
+
+record-at : (p : Bytes) (k : ℕ) (d : Rec) → k < length p / 4 → recAt p k ≡ getD (recs p) k d
+record-at p k d h =
+    ap (λ (l : List Rec). getD l 0 d) (sym (recs-cons p k h)) ∙ getD-drop k (recs p) 0 d ∙ ap (λ i. getD (recs p) i d) (add-zero k)
+
+-- ---- each record is right
+
+abbrev pub isRight : (ℕ → Bool) → Rec → Bool
+isRight test r = eqb (r .byte) 0 && test (r .number)
+
+allRight-all : (test : ℕ → Bool) (l : List Rec) → all (isRight test) l ≡ allRight test l
+unfolding allRight
+allRight-all test [] = refl
+allRight-all test (r ∷ l) = ap (λ (b : Bool). isRight test r && b) (allRight-all test l)
+
+-- the walk over the m records of a part is at k
+pub record Right (test : ℕ → Bool) (part : Bytes) (m k : ℕ) : Type 0 where
+  pub walk : Walk (isRight test) (recs part) m k (allRight test (recs part))
+
+pub right-begin : (test : ℕ → Bool) (part : Bytes) → Right test part (length part / 4) 0
+right-begin test part =
+    record { walk = record { long = length-recs part; inside = omega arith; left = allRight-all test (recs part) } }
+
+module _ {test : ℕ → Bool} {part : Bytes} {m k : ℕ} (w : Right test part m k) where
+  pub right-end : m ≤ k → true ≡ allRight test (recs part)
+  right-end h = walk-end (w .walk) h
+
+  module _ (h : k < m) where
+    here : recAt part k ≡ getD (recs part) k (rec 0 0 0)
+    here = record-at part k (rec 0 0 0) (omega (arith, h, w .walk .long, length-recs part))
+
+    wrong : isRight test (recAt part k) ≡ false → false ≡ allRight test (recs part)
+    wrong e = walk-fails (w .walk) (recAt part k) (rec 0 0 0) h here e
+
+    pub byte-wrong : (getD part (4 * k + 1) 0 ≡ 0 → ⊥) → false ≡ allRight test (recs part)
+    byte-wrong e = wrong (rw (ne-eqb _ _ e))
+
+    -- n is its number
+    module _ (byte : getD part (4 * k + 1) 0 ≡ 0) {n : ℕ} (n-is : n ≡ le 2 part (4 * k + 2)) where
+      tested : (t : Bool) → test n ≡ t → isRight test (recAt part k) ≡ t
+      tested t e = rw (byte, ← n-is) e
+
+      pub number-wrong : test n ≡ false → false ≡ allRight test (recs part)
+      number-wrong e = wrong (tested false e)
+
+      pub right-on : test n ≡ true → Right test part m (k + 1)
+      right-on e = record { walk = walk-on (w .walk) (recAt part k) (rec 0 0 0) h here (tested true e) }
+
+-- of a part that is known by an equation
+pub right-in : (test : ℕ → Bool) (p q : Bytes) → p ≡ q → allRight test (recs p) ≡ allRight test (recs q)
+right-in test p q e = ap (λ (x : Bytes). allRight test (recs x)) e
+
+pub right-below :
+    (m n : ℕ) (p q : Bytes) → m ≡ n → p ≡ q → allRight (λ k. ltb k m) (recs p) ≡ allRight (λ k. ltb k n) (recs q)
+right-below m n p q n-is p-is = rw (n-is, p-is)
+
+-- ---- a Bool term
+
+abbrev pub isLiteral : Bytes → ℕ → Bool
+isLiteral b c = ltb c (count b) && sameSort (sort (tree b c)) bool
+
+-- c is a term of the book, and s the code of its sort
+pub literal-code :
+    (b w : Bytes) (n c s : ℕ) → c < n → s ≡ getD w c 0 → n ≡ count b → SortsBelow (count b) b w → eqb s 1 ≡ isLiteral b c
+literal-code b w n c s h s-is n-is sorts =
+    let inside : c < count b = omega (arith, h, n-is) in
+    rw (lt-ltb c (count b) inside, s-is, sorts .held c inside)
+
+pub no-literal : (b : Bytes) (n c : ℕ) → n ≤ c → n ≡ count b → false ≡ isLiteral b c
+no-literal b n c h n-is = rw (le-ltb c (count b) (omega (arith, h, n-is)))
+
+-- ---- the shape of a step
+
+isEmpty-recs : (p : Bytes) → isEmpty (recs p) ≡ eqb (length p / 4) 0
+isEmpty-recs p = go (recs p) ∙ ap (λ (n : ℕ). eqb n 0) (length-recs p)
+  where
+    go : (l : List Rec) → isEmpty l ≡ eqb (length l) 0
+    go [] = refl
+    go (r ∷ l) = sym (ne-eqb (suc (length l)) 0 (λ e. omega (arith, e)))
+
+module _ (rule : ℕ) (p c a : Bytes) where
+  pub other-rule : (rule ≡ 0 → ⊥) → true ≡ shapeOk rule (recs p) (recs c) (recs a)
+  other-rule h = rw (ne-eqb _ _ h)
+
+  module _ (h : rule ≡ 0) where
+    -- of an assume, by how many records there are
+    pub shape-counts :
+        (x : Bool) → x ≡ (eqb (length p / 4) 0 && (eqb (length c / 4) 1 && eqb (length a / 4) 0)) →
+        x ≡ shapeOk rule (recs p) (recs c) (recs a)
+    shape-counts x e = rw (h, isEmpty-recs p, length-recs c, isEmpty-recs a) e
+
+-- ---- a step is read where all tests hold; otherwise it is refusal 7
+
+-- t is what all tests on the way to x say
+record Judged {X : Type 0} (t : Bool) (x : Result X) : Type 0 where
+  is : isOk x ≡ t
+  seven : isOk x ≡ false → x ≡ refused runRecord
+
+module _ {X : Type 0} where
+  behind :
+      (t : Bool) {u : Bool} (f : Unit {0} → Result X) → Judged u (f tt) → Judged (t && u) (assert t runRecord >>= f)
+  unfolding assert _>>=_
+  behind true f j = j
+  behind false f j = record { is = refl; seven = λ e. refl }
+
+  last-behind : (t : Bool) (x : X) → Judged t (assert t runRecord >>= λ _. ok x)
+  unfolding assert _>>=_
+  last-behind true x = record { is = refl; seven = λ e. never (sym e) }
+  last-behind false x = record { is = refl; seven = λ e. refl }
+
+grouped : (a b c d : Bool) → (a && (b && (c && d))) ≡ ((a && (b && c)) && d)
+grouped true true c d = refl
+grouped true false c d = refl
+grouped false b c d = refl
+
+abbrev pub headOk : Rec → Bool
+headOk s = eqb (s .mark) S && (leb (s .byte) 8 && eqb (s .number) 0)
+
+abbrev pub shapeIn : Bytes → Bool
+shapeIn part = shapeOk (headIn part .byte) (recs (premisesIn part)) (recs (clauseIn part)) (recs (argsIn part))
+
+pub shape-is :
+    (part : Bytes) (rule : ℕ) (p c a : Bytes) (x : Bool) → rule ≡ getD part 1 0 → p ≡ premisesIn part →
+    c ≡ clauseIn part → a ≡ argsIn part → x ≡ shapeOk rule (recs p) (recs c) (recs a) → x ≡ shapeIn part
+unfolding headIn
+shape-is part rule p c a x rule-is p-is c-is a-is e = rw (← rule-is, ← p-is, ← c-is, ← a-is) e
+
+module _ (b : Bytes) (n : ℕ) (part : Bytes) where
+  judged : Judged (headOk (headIn part) && (partsOk b n part && shapeIn part)) (readIn b n part)
+  unfolding readIn readStep partsOk
+  judged =
+      let ps = allRight (λ p. ltb p n) (recs (premisesIn part)) in
+      let cs = allRight (isLiteral b) (recs (clauseIn part)) in
+      let as′ = allRight (λ a. ltb a (count b)) (recs (argsIn part)) in
+      subst (λ (t : Bool). Judged (headOk (headIn part) && t) (readIn b n part)) (grouped ps cs as′ (shapeIn part))
+      (behind (headOk (headIn part)) _ (behind ps _ (behind cs _ (behind as′ _ (last-behind (shapeIn part) _)))))
+
+  pub step-tests :
+      {x : Bool} → x ≡ (headOk (headIn part) && (partsOk b n part && shapeIn part)) → x ≡ isOk (readIn b n part)
+  step-tests e = e ∙ sym (judged .is)
+
+  pub not-read : isOk (readIn b n part) ≡ false → readIn b n part ≡ refused runRecord
+  not-read = judged .seven
+
+-- ---- the steps
+
+after-short : (m : ℕ) (l : List Rec) → length (after m l) ≤ length l
+unfolding after
+after-short m [] = omega arith
+after-short m (r ∷ l) = go (eqb (r .mark) m) (after-short m l)
+  where
+    go :
+        (t : Bool) → length (after m l) ≤ length l →
+        length {A = Rec} (elim t as (λ z. List Rec) [ true ↦ after m l | false ↦ r ∷ l ]) ≤ length (r ∷ l)
+    go true h = omega (arith, h)
+    go false h = omega arith
+
+-- what follows the first step
+abbrev nextRecs : List Rec → List Rec
+nextRecs l = after A (after C (after P l))
+
+next-short : (l : List Rec) → length (nextRecs l) ≤ length l
+next-short l = omega (arith, after-short A (after C (after P l)), after-short C (after P l), after-short P l)
+
+module _ (b : Bytes) where
+  abbrev followed : Result Step → Result (List Step) → Result (List Step)
+  followed x y = x >>= λ s. y >>= λ ss. ok (s ∷ ss)
+
+  first : ℕ → Rec → List Rec → Result Step
+  first n r l = readStep b n r (leading P l) (leading C (after P l)) (leading A (after C (after P l)))
+
+  none-left : (k n : ℕ) → readSteps k b n [] ≡ ok []
+  unfolding readSteps
+  none-left zero n = refl
+  none-left (suc k) n = refl
+
+  some-left :
+      (k n : ℕ) (r : Rec) (l : List Rec) →
+      readSteps (suc k) b n (r ∷ l) ≡ followed (first n r l) (readSteps k b (suc n) (nextRecs l))
+  unfolding readSteps first
+  some-left k n r l = refl
+
+  -- where enough steps are allowed, what is read does not depend on how many
+  enough : (k j n : ℕ) (l : List Rec) → length l ≤ k → length l ≤ j → readSteps k b n l ≡ readSteps j b n l
+  enough zero j n [] h g = none-left zero n ∙ sym (none-left j n)
+  enough (suc k) j n [] h g = none-left (suc k) n ∙ sym (none-left j n)
+  enough zero j n (r ∷ l) h g = absurd (omega (arith, h))
+  enough (suc k) zero n (r ∷ l) h g = absurd (omega (arith, g))
+  enough (suc k) (suc j) n (r ∷ l) h g =
+      let short = next-short l in
+      some-left k n r l
+      ∙ ap (followed (first n r l)) (enough k j (suc n) (nextRecs l) (omega (arith, short, h)) (omega (arith, short, g)))
+      ∙ sym (some-left j n r l)
+
+  -- all steps of a part, the first of them step n
+  unfoldable pub readPart : ℕ → Bytes → Result (List Step)
+  readPart n part = readSteps (length (recs part)) b n (recs part)
+
+  module _ (n : ℕ) (part : Bytes) where
+    pub part-done : length part ≡ 0 → readPart n part ≡ ok []
+    unfolding readPart recs
+    part-done h = go part h
+      where
+        go : (p : Bytes) → length p ≡ 0 → readPart n p ≡ ok []
+        go [] h = none-left 0 n
+        go (x ∷ p) h = absurd (omega (arith, h))
+
+    first-is : first n (headIn part) (recs (drop 4 part)) ≡ readIn b n part
+    unfolding first readIn premisesIn clauseIn argsIn
+    first-is =
+        let l = drop 4 part in
+        let c = afterIn P l in
+        let a = afterIn C c in
+        rw (recs-leading P l, recs-leading C c, recs-leading A a, recs-after C c, recs-after P l)
+
+    next-is : nextRecs (recs (drop 4 part)) ≡ recs (nextIn part)
+    unfolding nextIn
+    next-is = rw (recs-after, recs-after, recs-after)
+
+    pub part-first : 4 ≤ length part → readPart n part ≡ followed (readIn b n part) (readPart (suc n) (nextIn part))
+    unfolding readPart
+    part-first h =
+        let l = recs (drop 4 part) in
+        let next = recs (nextIn part) in
+        let short : length next ≤ length l = rw (← next-is) (next-short l) in
+        ap (λ (x : List Rec). readSteps (length x) b n x) (head-is part h)
+        ∙ some-left (length l) n (headIn part) l
+        ∙ ap (λ x. followed x (readSteps (length l) b (suc n) (nextRecs l))) first-is
+        ∙ ap (λ (x : List Rec). followed (readIn b n part) (readSteps (length l) b (suc n) x)) next-is
+        ∙ ap (followed (readIn b n part)) (enough (length l) (length next) (suc n) next short (omega arith))
+
+    -- the first is read, and the others are left; or it is not
+    pub part-read :
+        4 ≤ length part → isOk (readIn b n part) ≡ true →
+        codeOf (readPart n part) ≡ codeOf (readPart (suc n) (nextIn part))
+    unfolding _>>=_
+    part-read h e = ap codeOf (part-first h) ∙ go (readIn b n part) e (readPart (suc n) (nextIn part))
+      where
+        go : (x : Result Step) → isOk x ≡ true → (y : Result (List Step)) → codeOf (followed x y) ≡ codeOf y
+        go (ok s) e (ok ss) = refl
+        go (ok s) e (refused r) = refl
+        go (refused r) e y = never e
+
+    pub part-wrong : 4 ≤ length part → isOk (readIn b n part) ≡ false → codeOf (readPart n part) ≡ 7
+    unfolding _>>=_
+    part-wrong h e =
+        ap codeOf (part-first h)
+        ∙ ap (λ x. codeOf (followed x (readPart (suc n) (nextIn part)))) (not-read b n part e)
+
+-- ---- the run
+
+whole-after : (m : ℕ) (p : Bytes) → length p % 4 ≡ 0 → length (afterIn m p) % 4 ≡ 0
+unfolding afterIn
+whole-after m p h = omega (arith, h, length-drop (4 * length (leading m (recs p))) p)
+
+whole-next : (p : Bytes) → length p % 4 ≡ 0 → length (nextIn p) % 4 ≡ 0
+unfolding nextIn
+whole-next p h = whole-after A _ (whole-after C _ (whole-after P _ (omega (arith, h, length-drop 4 p))))
+
+module _ (b run : Bytes) where
+  size-wrong : (eqb (length run % 4) 0 && leb (length run / 4) maxRunRecords) ≡ false → 6 ≡ codeOf (readRun b run)
+  unfolding readRun assert _>>=_
+  size-wrong e = rw e
+
+  pub not-whole : (length run % 4 ≡ 0 → ⊥) → 6 ≡ codeOf (readRun b run)
+  not-whole h = size-wrong (rw (ne-eqb _ _ h))
+
+  pub too-long : length run % 4 ≡ 0 → 16384 < length run → 6 ≡ codeOf (readRun b run)
+  too-long h g = size-wrong (rw (eq-eqb _ _ h) (lt-leb (length run / 4) maxRunRecords (omega (arith, h, g))))
+
+  -- the steps before byte `at` are read, n of them
+  pub record ReadSoFar (at n : ℕ) : Type 0 where
+    pub begins : Begins run at n
+    pub few : n ≤ at
+    pub whole : length (drop at run) % 4 ≡ 0
+    pub left : codeOf (readRun b run) ≡ codeOf (readPart b n (drop at run))
+
+  pub read-begin : length run % 4 ≡ 0 → length run ≤ 16384 → ReadSoFar 0 0
+  unfolding readRun readPart assert _>>=_
+  read-begin h g =
+      record {
+        begins = begins-first run;
+        few = omega arith;
+        whole = h;
+        left =
+            rw (eq-eqb _ _ h, le-leb (length run / 4) maxRunRecords (omega (arith, g)))
+            (ap (λ (k : ℕ). codeOf (readSteps k b 0 (recs run))) (sym (length-recs run)));
+      }
+
+  -- the run from there on, as the code takes it
+  abbrev pub partFrom : ℕ → Bytes
+  partFrom at = take (length run - at) (drop at run)
+
+  module _ {at n : ℕ} (so : ReadSoFar at n) where
+    pub read-end : length run ≤ at → 0 ≡ codeOf (readRun b run)
+    read-end h = sym (so .left ∙ ap codeOf (part-done b n (drop at run) (omega (arith, h, length-drop at run))))
+
+    -- another step is there
+    module _ (h : at < length run) where
+      a-record : 4 ≤ length (drop at run)
+      a-record = omega (arith, so .whole, length-drop at run)
+
+      read-here :
+          (x t : Bool) → x ≡ isOk (readIn b n (partFrom at)) → x ≡ t →
+          isOk (readIn b n (drop at run)) ≡ t
+      read-here x t e f = ap (λ (p : Bytes). isOk (readIn b n p)) (sym (drop-to-end run at)) ∙ sym e ∙ f
+
+      -- x is whether the step can be read
+      pub read-wrong :
+          (x : Bool) → x ≡ isOk (readIn b n (partFrom at)) → x ≡ false → 7 ≡ codeOf (readRun b run)
+      read-wrong x x-is e = sym (so .left ∙ part-wrong b n (drop at run) a-record (read-here x false x-is e))
+
+      -- m is how many bytes it has
+      module _ (m : ℕ) (m-is : m ≡ bytesIn (partFrom at)) where
+        there : m ≡ bytesIn (drop at run)
+        there = m-is ∙ ap bytesIn (drop-to-end run at)
+
+        on : drop (at + m) run ≡ nextIn (drop at run)
+        unfolding stepFrom
+        on = rw there (begins-next (so .begins) .from ∙ rw add-one (ap nextIn (sym (so .begins .from))))
+
+        pub read-on :
+            (x : Bool) → x ≡ isOk (readIn b n (partFrom at)) → x ≡ true → ReadSoFar (at + m) (n + 1)
+        read-on x x-is e =
+            record {
+              begins = rw there (begins-next (so .begins));
+              few = omega (arith, so .few, there, bytes-some (drop at run) (omega (arith, a-record)));
+              whole = rw on (whole-next (drop at run) (so .whole));
+              left = rw (on, add-one) (so .left ∙ part-read b n (drop at run) a-record (read-here x true x-is e));
+            }
+
+        pub read-fits : at + m ≤ length run
+        read-fits = rw there (begins-next (so .begins) .within)
+
+        pub read-less : length run - (at + m) < length run - at
+        read-less = rw there (begins-less (so .begins) h)

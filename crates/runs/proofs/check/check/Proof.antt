@@ -1,0 +1,15 @@
+-- The marking is that of `opened`; the work area is then cleared from its first byte on.
+use borrow.Author.Needs.{needs}
+use Rattle.runs.proofs.EntryPoints.{cleared-zeros}
+use Rattle.runs.proofs.check.check.Statement.{statement}
+use Rattle.runs.proofs.check.check.Tie as tie
+
+returns : tie.Need-returns
+returns c =
+    let cleared = c .before .before in
+    let marked = cleared .before .before .before .before .opened in
+    (marked .ensures, cleared-zeros _ (cleared .clear-from .ensures) (marked .kept .1 .1 .1 .0))
+
+pub check-spec : {M : Type 1} → statement M
+check-spec =
+    tie.close (tie.spec (λ c κs. search needs) (λ c κs. search needs) (λ c. search needs) returns)

@@ -1,0 +1,56 @@
+-- Each return is a lemma of EntryPoints: refusal 1 by the tests, the book's refusal, or the run's code.
+use borrow.Author.Needs.{needs}
+use Rattle.runs.proofs.EntryPoints.{lent-short, lent-none, lent-much, lent-right}
+use Rattle.runs.proofs.EntryPoints.{opens-unfit, opens-ready, opens-run, opens-refused}
+use Rattle.runs.proofs.check.open.Statement.{statement}
+use Rattle.runs.proofs.check.open.Tie as tie
+
+returns : tie.Need-returns
+returns c =
+    let start = c .before .before .before .before in
+    opens-unfit _ _ _ _ (lent-short _ (start .args .limit) (c .if1 .taken))
+
+returns-2 : tie.Need-returns-2
+returns-2 c = opens-unfit _ _ _ _ (lent-none _ _ (c .before .if1 .left) (c .if2 .taken))
+
+returns-3 : tie.Need-returns-3
+returns-3 c =
+    opens-unfit _ _ _ _ (lent-much _ _ (c .before .before .if1 .left) (c .before .if2 .left) (c .if3 .taken))
+
+read-run-requires : tie.Need-read-run-requires
+read-run-requires c κs =
+    let read = c .before .before .before .before .before in
+    let size = read .before .before .before .before .if1 .left in
+    opens-ready size (read .prepare .ensures) (c .before .enum-told .given .1) .sorts
+
+returns-4 : tie.Need-returns-4
+returns-4 c =
+    let read = c .before .before .before .before .before .before in
+    let fit = read .before .before in
+    let size = fit .before .before .if1 .left in
+    opens-run _ _ _ _ (lent-right _ _ size (fit .before .if2 .left) (fit .if3 .left)) (read .prepare .ensures) size
+    (c .before .before .enum-told .given .1) (c .read-run .ensures)
+
+returns-5 : tie.Need-returns-5
+returns-5 c =
+    let read = c .before .before .before .before .before in
+    let fit = read .before .before in
+    let size = fit .before .before .if1 .left in
+    opens-refused _ _ _ _ (lent-right _ _ size (fit .before .if2 .left) (fit .if3 .left)) (read .prepare .ensures)
+    (c .before .c .given .1)
+
+pub open-spec : {M : Type 1} → statement M
+open-spec =
+    tie.close
+    (tie.spec
+    returns
+    returns-2
+    returns-3
+    (λ c κs. search needs)
+    (λ c. search needs)
+    read-run-requires
+    (λ c. search needs)
+    (λ c. search needs)
+    returns-4
+    (λ c. search needs)
+    returns-5)

@@ -1,0 +1,137 @@
+// Demand 3 on running code: a run is elaborated, its elaboration is marked again over book and tail, and both answers are compared.
+ghost use mathlib.Core.Path.{_≡_};
+ghost use mathlib.Core.Bool.{true, not};
+ghost use Prim.Native.Nat.{_+_, _≤_};
+ghost use lib.Dec.{T, leb};
+ghost use lib.ListN.{length};
+ghost use Rattle.rules.specs.Limits.{limited};
+ghost use Rattle.runs.specs.Check.{mark};
+ghost use Rattle.runs.specs.Elaborate.{Answer, area};
+ghost use Rattle.runs.specs.Demands.{Memory, answerTo, memoryAfter, isRefusal1to8, AllPremises};
+ghost use Rattle.runs.specs.Lent.{lent, elaboratedOf};
+ghost use Rattle.runs.specs.Again.{Second, second, joinedBook, answerAgain, agree, agreesAgain, secondAfter, MarkedAgain};
+use crate::check::clear_from;
+use crate::elaborate::Elaborated;
+use crate::elaborate::elaborate;
+use crate::elaborate::written;
+use crate::farkas::paste;
+use terms::book::same_bytes;
+use terms::bytes::room;
+
+pub struct Twice {
+    // The answer to the elaboration.
+    pub first: Elaborated,
+    // Whether its second marking agrees.
+    pub again: bool,
+}
+
+// Puts book and tail one behind the other, and zeros behind them; only zeros where there is no room. Whether there is.
+fn join(book: &[u8], tail: &[u8], joined: &mut [u8]) -> bool
+    ensures { λ r. ⌜ r ≡ leb (length (now (book .entry)) + length (now (tail .entry))) (length (now (joined .entry))) ⌝ }
+    ensures { λ _. ⌜ now (joined .exit) ≡ area (length (now (joined .entry)))
+        (joinedBook (length (now (joined .entry))) (now (book .entry)) (now (tail .entry))) ⌝ }
+{
+    let n = book.len();
+    let m = tail.len();
+    if room(joined, n, m) {
+        paste(joined, 0, book);
+        paste(joined, n, tail);
+        clear_from(joined, n + m);
+        return true;
+    }
+    clear_from(joined, 0);
+    false
+}
+
+// Whether the second marking accepts all, with the steps and visits of the first, and writes the same run and an empty tail.
+fn agree(first: Elaborated, second: Elaborated, run: &[u8], again: &[u8]) -> bool
+    ensures { λ r. ⌜ ((a c : Answer) → first ≡ elaboratedOf a → second ≡ elaboratedOf c → now (run .entry) ≡ a .run → now (again .entry) ≡ c .run →
+        r ≡ agree a c) ⌝ }
+{
+    let verdict = first.verdict;
+    if 1 <= verdict {
+        if verdict <= 8 {
+            return false;
+        }
+    }
+    if second.verdict != 0 {
+        return false;
+    }
+    if second.steps != first.steps {
+        return false;
+    }
+    if second.visits != first.visits {
+        return false;
+    }
+    if second.tail != 0 {
+        return false;
+    }
+    same_bytes(again, run)
+}
+
+// Marks again what `elaborate` answered and wrote.
+fn mark_again(
+    book: &[u8],
+    limit: u32,
+    work: &mut [u8],
+    outrun: &[u8],
+    outtail: &[u8],
+    first: Elaborated,
+    joined: &mut [u8],
+    againrun: &mut [u8],
+    againtail: &mut [u8],
+) -> bool
+    ensures { λ r. ⌜ ((m : Memory) → m .book ≡ now (book .entry) → length (m .work) ≡ length (now (work .entry)) →
+        first ≡ elaboratedOf (answerTo m limit) → now (outrun .entry) ≡ memoryAfter m limit .outRun → now (outtail .entry) ≡ memoryAfter m limit .outTail →
+        MarkedAgain m limit (second (now (joined .entry)) (now (againrun .entry)) (now (againtail .entry))) r
+        (now (work .exit)) (second (now (joined .exit)) (now (againrun .exit)) (now (againtail .exit)))) ⌝ }
+{
+    let run = written(outrun, first.run);
+    let tail = written(outtail, first.tail);
+    let fits = join(book, tail, joined);
+    let n = if fits { book.len() + tail.len() } else { 0 };
+    let again = elaborate(&joined[0..n], run, limit, work, againrun, againtail);
+    let agreed = agree(first, again, run, written(againrun, again.run));
+    if fits { agreed } else { false }
+}
+
+// Elaborates a run as `elaborate` does, joins book and tail, elaborates the written run over them, and says whether both agree. Under
+// demand 3's conditions it always says yes, where the second out areas are as large as the first and book and tail have room for 2,048 records.
+pub fn elaborate_again(
+    book: &[u8],
+    run: &[u8],
+    limit: u32,
+    work: &mut [u8],
+    outrun: &mut [u8],
+    outtail: &mut [u8],
+    joined: &mut [u8],
+    againrun: &mut [u8],
+    againtail: &mut [u8],
+) -> Twice
+    ensures { λ r. ⌜ r .first ≡ elaboratedOf (answerTo (lent (now (book .entry)) (now (run .entry)) (now (work .entry)) (now (outrun .entry)) (now (outtail .entry))) limit) ⌝ }
+    ensures { λ r. ⌜ r .again ≡ agreesAgain (lent (now (book .entry)) (now (run .entry)) (now (work .entry)) (now (outrun .entry)) (now (outtail .entry))) limit
+        (second (now (joined .entry)) (now (againrun .entry)) (now (againtail .entry))) ⌝ }
+    ensures { λ _. ⌜ lent (now (book .entry)) (now (run .entry)) (now (work .exit)) (now (outrun .exit)) (now (outtail .exit))
+        ≡ memoryAfter (lent (now (book .entry)) (now (run .entry)) (now (work .entry)) (now (outrun .entry)) (now (outtail .entry))) limit ⌝ }
+    ensures { λ _. ⌜ second (now (joined .exit)) (now (againrun .exit)) (now (againtail .exit))
+        ≡ secondAfter (lent (now (book .entry)) (now (run .entry)) (now (work .entry)) (now (outrun .entry)) (now (outtail .entry))) limit
+        (second (now (joined .entry)) (now (againrun .entry)) (now (againtail .entry))) ⌝ }
+    ensures { λ r. ⌜ (T (not (isRefusal1to8 (r .first .verdict))) →
+        AllPremises (mark (limited limit) (now (book .entry)) (now (run .entry)) .steps) →
+        65536 ≤ length (now (joined .entry)) → length (now (againrun .entry)) ≡ length (now (outrun .entry)) →
+        length (now (againtail .entry)) ≡ length (now (outtail .entry)) → r .again ≡ true) ⌝ }
+{
+    let first = elaborate(book, run, limit, work, outrun, outtail);
+    let again = mark_again(
+        book,
+        limit,
+        work,
+        outrun,
+        outtail,
+        first,
+        joined,
+        againrun,
+        againtail,
+    );
+    Twice { first, again }
+}

@@ -1,0 +1,182 @@
+// Marking a run with the trace on, and its elaboration.
+ghost use mathlib.Core.Path.{_≡_};
+ghost use lib.ListN.{length};
+ghost use Rattle.terms.specs.Bytes.{Bytes};
+ghost use Rattle.rules.specs.Refusal.Result.{ok};
+ghost use Rattle.rules.specs.Limits.{limited};
+ghost use Rattle.rules.specs.WorkArea.{Ready};
+ghost use Rattle.runs.specs.Run.{readRun};
+ghost use Rattle.runs.specs.Check.{Marking, checkSteps, check};
+ghost use Rattle.runs.specs.Elaborate.{elaborated, writtenPart};
+ghost use Rattle.runs.specs.Demands.{stepsOf, answerTo, memoryAfter, KnownState};
+ghost use Rattle.runs.specs.Lent.{lent, elaboratedOf, Elaborates, Closes};
+use crate::check::clear_from;
+use crate::check::open;
+use crate::farkas::Out;
+use crate::farkas::Stepped;
+use crate::farkas::elaborate_step;
+use crate::run::bytes;
+
+// A marking, and what of its elaboration is written.
+pub(crate) struct Elaborating {
+    pub verdict: u8,
+    pub steps: usize,
+    pub visits: u32,
+    pub out: Out,
+}
+
+// The answer: document 01's number of the refusal, or 0; how many steps were accepted; their visits; the bytes written to each out area.
+pub struct Elaborated {
+    pub verdict: u8,
+    pub steps: usize,
+    pub visits: u32,
+    pub run: usize,
+    pub tail: usize,
+}
+
+// ---- the steps in turn
+
+fn elaborate_steps(
+    book: &[u8],
+    run: &[u8],
+    limit: u32,
+    work: &mut [u8],
+    outrun: &mut [u8],
+    outtail: &mut [u8],
+) -> Elaborating
+    requires { ⌜ Ready (now book) (now work) × (readRun (now book) (now run) ≡ ok (stepsOf (now book) (now run))) ⌝ }
+    ensures { λ r. ⌜ Elaborates (now (book .entry)) (now (outrun .exit)) (now (outtail .exit)) r
+        (checkSteps (limited limit) (stepsOf (now (book .entry)) (now (run .entry))) (stepsOf (now (book .entry)) (now (run .entry))) 0) ⌝ }
+{
+    let mut at = 0;
+    let mut steps = 0;
+    let mut visits = 0;
+    let mut out = Out {
+        run: 0,
+        tail: 0,
+        full: false,
+    };
+    while at < run.len() {
+        let step = &run[at..];
+        match elaborate_step(book, work, run, step, visits, limit, outrun, outtail, out) {
+            Stepped::Refused(verdict) => {
+                return Elaborating {
+                    verdict,
+                    steps,
+                    visits,
+                    out,
+                };
+            }
+            Stepped::Accepted(n, longer) => {
+                visits = n;
+                out = longer;
+            }
+        }
+        at += bytes(step);
+        steps += 1;
+    }
+    Elaborating {
+        verdict: 0,
+        steps,
+        visits,
+        out,
+    }
+}
+
+fn opened(
+    book: &[u8],
+    run: &[u8],
+    limit: u32,
+    work: &mut [u8],
+    outrun: &mut [u8],
+    outtail: &mut [u8],
+) -> Elaborating
+    ensures { λ r. ⌜ Elaborates (now (book .entry)) (now (outrun .exit)) (now (outtail .exit)) r
+        (check (now (book .entry)) (now (run .entry)) limit (length (now (work .entry)))) ⌝ }
+{
+    let verdict = open(book, run, limit, work);
+    if verdict != 0 {
+        return Elaborating {
+            verdict,
+            steps: 0,
+            visits: 0,
+            out: Out {
+                run: 0,
+                tail: 0,
+                full: false,
+            },
+        };
+    }
+    elaborate_steps(book, run, limit, work, outrun, outtail)
+}
+
+// ---- the answer
+
+// Clears what lies behind the elaboration; refusal 8 where it is above an out area, 2,048 terms or 4,096 records.
+fn close(outrun: &mut [u8], outtail: &mut [u8], e: Elaborating) -> Elaborated
+    ensures { λ r. ⌜ ((b : Bytes) (m : Marking) → Elaborates b (now (outrun .entry)) (now (outtail .entry)) e m →
+        Closes r (now (outrun .entry)) (now (outtail .entry)) (now (outrun .exit)) (now (outtail .exit))
+        (elaborated b (length (now (outrun .entry))) (length (now (outtail .entry))) m)) ⌝ }
+{
+    let verdict = e.verdict;
+    let steps = e.steps;
+    let visits = e.visits;
+    let out = e.out;
+    let run = out.run;
+    let tail = out.tail;
+    let full = out.full;
+    if full {
+        clear_from(outrun, 0);
+        clear_from(outtail, 0);
+        return Elaborated {
+            verdict: 8,
+            steps,
+            visits,
+            run: 0,
+            tail: 0,
+        };
+    }
+    clear_from(outrun, run);
+    clear_from(outtail, tail);
+    Elaborated {
+        verdict,
+        steps,
+        visits,
+        run,
+        tail,
+    }
+}
+
+// Marks a run over a book, under a limit of visits, and writes the elaboration of its accepted steps: their run to the one out area, the
+// records that the book lacks to the other. The work area is zeros afterwards, and so is what is not written of the out areas.
+pub fn elaborate(
+    book: &[u8],
+    run: &[u8],
+    limit: u32,
+    work: &mut [u8],
+    outrun: &mut [u8],
+    outtail: &mut [u8],
+) -> Elaborated
+    ensures { λ r. ⌜ r ≡ elaboratedOf (answerTo (lent (now (book .entry)) (now (run .entry)) (now (work .entry)) (now (outrun .entry)) (now (outtail .entry))) limit) ⌝ }
+    ensures { λ _. ⌜ lent (now (book .entry)) (now (run .entry)) (now (work .exit)) (now (outrun .exit)) (now (outtail .exit))
+        ≡ memoryAfter (lent (now (book .entry)) (now (run .entry)) (now (work .entry)) (now (outrun .entry)) (now (outtail .entry))) limit ⌝ }
+    ensures { λ _. ⌜ KnownState (lent (now (book .entry)) (now (run .entry)) (now (work .entry)) (now (outrun .entry)) (now (outtail .entry)))
+        (lent (now (book .entry)) (now (run .entry)) (now (work .exit)) (now (outrun .exit)) (now (outtail .exit)))
+        (answerTo (lent (now (book .entry)) (now (run .entry)) (now (work .entry)) (now (outrun .entry)) (now (outtail .entry))) limit) ⌝ }
+{
+    let e = opened(book, run, limit, work, outrun, outtail);
+    clear_from(work, 0);
+    close(outrun, outtail, e)
+}
+
+// The written part of the out run, given its byte count; the empty part where that is above the area or not a multiple of 4.
+pub fn written(outrun: &[u8], bytes: usize) -> &[u8]
+    ensures { λ r. ⌜ now r ≡ writtenPart (now (outrun .entry)) bytes ⌝ }
+{
+    if bytes <= outrun.len() {
+        if bytes % 4 == 0 {
+            return &outrun[0..bytes];
+        }
+    }
+    &outrun[0..0]
+}
