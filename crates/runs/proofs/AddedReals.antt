@@ -7,24 +7,26 @@ use mathlib.Core.Path.{_≡_, refl, sym, ap, ap₂, subst, _∙_}
 use mathlib.Core.Bool.{Bool, true, false, _&&_}
 use mathlib.Core.List.{List, [], _∷_, _++_, append-assoc, append-nil}
 use mathlib.Core.Option.{Option, some, none}
-use Prim.Native.Nat.{ℕ, zero, suc, _+_, _*_, _-_, _/_, _%_, _≤_, _<_}
+use Prim.Native.Nat.{ℕ, _+_, _*_, _-_, _/_, _%_, _≤_, _<_}
 use native.Mathlib.Nat.{sub-zero}
 use native.Mathlib.Omega.{arith}
 use borrow.Author.Tests.{lt-ltb, le-ltb}
-use lib.Dec.{leb, ltb}
+use lib.Dec.{leb}
 use lib.ListN.{length, take, length-append, length-take}
 use lib.Seq.{paste}
 use Rattle.terms.specs.Rational.{Rational, Proper}
 use Rattle.terms.specs.Bytes.{Bytes, bytesOf}
-use Rattle.terms.specs.Book.{count, tree}
+use Rattle.terms.specs.Book.{count}
 use Rattle.runs.specs.Run.{A}
-use Rattle.runs.specs.Elaborate.{Written, written, realRecord, isReal, findReal, placeIn, recordBytes, withTail}
+use Rattle.runs.specs.Elaborate.{Written, written, realRecord, findReal, placeIn, recordBytes, withTail}
 use Rattle.runs.specs.Elaborate.{addReal, tailBytes}
 use Rattle.runs.specs.Demands.{Every, end, also}
 use Rattle.runs.specs.Lent.{placeOr, Stored, Holds, Writes, withArg, withConstant}
 use Rattle.runs.specs.declared.farkas.Out.{Out}
 use Rattle.runs.proofs.Everywhere.{every-append}
 use Rattle.runs.proofs.RealRecord.{length-real}
+use Rattle.runs.proofs.ElaboratedSteps.{found-real}
+use Rattle.runs.proofs.WrittenSteps.{real-grows}
 use Rattle.runs.proofs.OutAreas.{Fit, fit-of, fits-of, unfit, Longer, holds-stored, stored-holds}
 use Rattle.runs.proofs.OutAreas.{fronts-same, writes-then, writes-as, writes-full}
 use Rattle.runs.proofs.OutAreas.{both-le, not-both, put-length, put-front, put-before, writes-run, unwritten-run}
@@ -173,31 +175,12 @@ front-places k n t h = omega (arith, h, length-take n t)
 
 -- ---- an inferred number
 
--- a record that was found is among those that were looked at
-found-below : (k : ℕ) (b : Bytes) (q : Rational) (i j : ℕ) → findReal k b q i ≡ some j → j < i + k
-unfolding findReal
-found-below zero b q i j e = let z : _≡_ {A = ℕ} 0 1 = cc in absurd (omega arith)
-found-below (suc k) b q i j e = go (isReal q (tree b i)) e (found-below k b q (suc i) j)
-  where
-    go :
-        (t : Bool) → _≡_ {A = Option ℕ} (elim t [ true ↦ some i | false ↦ findReal k b q (suc i) ]) (some j) →
-        (findReal k b q (suc i) ≡ some j → j < suc i + k) → j < i + suc k
-    go true e rest = let h : i ≡ j = cc in omega (arith, h)
-    go false e rest = omega (arith, rest e)
-
 -- the tail that has q, and the tail that lacks it
 tail-same : (t : List Rational) (q : Rational) → placeIn t q < length t → withTail t q ≡ t
 tail-same t q h = rw (lt-ltb _ _ h, withTail)
 
 tail-more : (t : List Rational) (q : Rational) → length t ≤ placeIn t q → withTail t q ≡ t ++ q ∷ []
 tail-more t q h = rw (le-ltb _ _ h, withTail)
-
-tail-longer : (t : List Rational) (q : Rational) → length t ≤ length (withTail t q)
-tail-longer t q = go (ltb (placeIn t q) (length t))
-  where
-    go : (c : Bool) → length t ≤ length {A = Rational} (elim c as (λ z. List Rational) [ true ↦ t | false ↦ t ++ q ∷ [] ])
-    go true = omega arith
-    go false = omega (arith, length-snoc t q)
 
 module _ (b : Bytes) (q : Rational) where
   found : Option ℕ
@@ -215,11 +198,12 @@ module _ (b : Bytes) (q : Rational) where
   added-is x e w = ap (λ y. added y w) e
 
   real-longer : (w : Written) → Longer w (addReal b w q)
-  real-longer w = subst (Longer w) (sym (added-is found refl w)) (go found)
-    where
-      go : (x : Option ℕ) → Longer w (added x w)
-      go (some i) = arg-longer i w
-      go none = record { run = arg-longer (count b + placeIn (w .tail) q) w .run; tail = tail-longer (w .tail) q }
+  real-longer w =
+      let grown = real-grows b w q in
+      record {
+        run = omega (arith, ap length (grown .run []) ∙ length-append (w .run) _);
+        tail = omega (arith, ap length (grown .tail) ∙ length-append (w .tail) _);
+      }
 
   pub real-full :
       (o t : Bytes) (out : Out) → out .full ≡ true → Writes b o t out o t out (λ w. addReal b w q)
@@ -240,7 +224,7 @@ module _ (b : Bytes) (q : Rational) where
     not-in-book l = go (findReal (count b) b q 0) refl looked
       where
         go : (x : Option ℕ) → findReal (count b) b q 0 ≡ x → i ≡ placeOr x (count b) → x ≡ none
-        go (some j) f e = absurd (omega (arith, l, counted, e, found-below (count b) b q 0 j f))
+        go (some j) f e = absurd (omega (arith, l, counted, e, found-real (count b) b q 0 j f .0))
         go none f e = refl
 
     pub real-in-book :

@@ -1,9 +1,8 @@
 -- One step of a run, checked: the rule by the byte of its S record, whose literals, arguments and premises are parts of
 -- the run.
 --     premises-are       what the rule `poly_simp_rel` looks up, where the step names one premise
---     judged-assume .. judged-relation       the verdict by each rule
+--     visits-traced, judged-assume .. judged-relation       the verdict by each rule
 --     rule-eight       the rule where the byte is none of 0 to 7
---     clause-found       the literals are in the book, and few
 use mathlib.Core.Path.{_≡_, refl, sym, ap, _∙_}
 use mathlib.Core.List.{List, [], _∷_}
 use Prim.Native.Nat.{ℕ, suc, _/_, _≤_, _<_}
@@ -15,7 +14,7 @@ use Rattle.rules.specs.Refusal.Result.{ok, refused}
 use Rattle.rules.specs.Limits.{Limits, limited}
 use Rattle.rules.specs.LinearArithmetic.{Clause, Progress, laRwEq, laDisequality, laTotality, laTautology}
 use Rattle.rules.specs.LinearArithmetic.{laGeneric, laGenericPartial}
-use Rattle.rules.specs.LinearSteps.{numbersIn, termsIn, verdictOf, after, visitsOf, Inside}
+use Rattle.rules.specs.LinearSteps.{numbersIn, termsIn, verdictOf, after, visitsOf}
 use Rattle.rules.specs.Polynomial.{polySimp, polySimpRel}
 use Rattle.rules.specs.PolynomialRel.{PremisesAre}
 use Rattle.rules.specs.declared.linear_shapes.Verdict.{Verdict}
@@ -26,8 +25,7 @@ use Rattle.runs.specs.Check.{still, moved, traced, clausesOf, checkStep}
 use Rattle.runs.specs.Demands.{stepsOf}
 use Rattle.runs.specs.Lent.{visitsAfter}
 use Rattle.runs.specs.StepParts.{premisesIn, clauseIn, argsIn, headIn, stepIn, stepFrom, StandsIn}
-use Rattle.runs.proofs.Standing.{stands-steps, stands-rule, stands-clause, stands-few}
-use Rattle.runs.proofs.Standing.{stands-premises, stands-named}
+use Rattle.runs.proofs.Standing.{stands-steps, stands-rule, stands-premises, stands-named}
 
 -- ---- the premises of a step
 
@@ -79,7 +77,7 @@ unfolding _>>=_
 visits-moved (ok n) = refl
 visits-moved (refused x) = refl
 
-visits-traced : (r : Result Progress) → visitsAfter (traced r) ≡ visitsOf r
+pub visits-traced : (r : Result Progress) → visitsAfter (traced r) ≡ visitsOf r
 unfolding _>>=_
 visits-traced (ok p) = refl
 visits-traced (refused x) = refl
@@ -178,9 +176,3 @@ rule-eight s {found} rule h =
     let low = h .0 .0 .0 .0 in
     let past : 4 ≤ found = omega (arith, low .0 .0 .0 .1, low .0 .0 .1, low .0 .1, low .1) in
     omega (arith, rule, stands-rule s, past, h .0 .0 .0 .1, h .0 .0 .1, h .0 .1, h .1)
-
--- ---- what the other rules ask of the literals
-
-pub clause-found :
-    {b run part : Bytes} → StandsIn b run part → {cs : Bytes} → cs ≡ clauseIn part → Inside b cs × (length cs ≤ 16384)
-clause-found s clause = rw clause (stands-clause s, stands-few s)

@@ -3,32 +3,25 @@
 --     other-stepped       the other rules infer nothing, so what is written is the step
 use mathlib.Core.Path.{_≡_, sym, subst, _∙_}
 use mathlib.Core.List.{List, []}
-use Prim.Native.Nat.{ℕ, _≤_}
+use Prim.Native.Nat.{ℕ}
 use borrow.Author.Tests.{ne-eqb}
-use lib.ListN.{length, getD}
+use lib.ListN.{getD}
 use Rattle.terms.specs.Bytes.{Bytes}
 use Rattle.rules.specs.Limits.{limited}
 use Rattle.rules.specs.LinearArithmetic.{laGenericPartial}
-use Rattle.rules.specs.LinearSteps.{termsIn, Inside, verdictOf}
+use Rattle.rules.specs.LinearSteps.{termsIn, verdictOf}
 use Rattle.rules.specs.declared.linear_shapes.Verdict.{Verdict}
 use Rattle.rules.proofs.Yields.{weaker}
 use Rattle.runs.specs.Run.{Step}
 use Rattle.runs.specs.Check.{traced, checkStep}
 use Rattle.runs.specs.Elaborate.{addReals}
-use Rattle.runs.specs.StepParts.{headIn, clauseIn, argsIn, stepIn, StandsIn}
+use Rattle.runs.specs.StepParts.{headIn, clauseIn, argsIn, stepIn}
 use Rattle.runs.specs.Lent.{visitsAfter, Holds, Writes, withStep, judgedAs, SteppedIs, SteppedLeft}
 use Rattle.runs.specs.declared.farkas.Out.{Out}
 use Rattle.runs.specs.declared.farkas.Stepped.{Stepped}
 use Rattle.runs.proofs.OutAreas.{fronts-then}
-use Rattle.runs.proofs.Standing.{stands-clause, stands-few}
 use Rattle.runs.proofs.SecondMarking.{infers-nothing}
 use Rattle.runs.proofs.TracedFold.{judged-stepped}
-
--- what `bounded_farkas` asks of the literals
-pub literals-ready :
-    {b run part : Bytes} → StandsIn b run part → (literals : Bytes) → literals ≡ clauseIn part →
-    Inside b literals × (length literals ≤ 16384)
-literals-ready stands literals e = rw e (stands-clause stands, stands-few stands)
 
 -- x is the byte of the rule
 module _ (b part : Bytes) (run : List Step) (x : ℕ) (x-is : x ≡ getD part 1 0) (l v : ℕ) where

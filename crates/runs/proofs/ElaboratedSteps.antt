@@ -102,7 +102,7 @@ module _ (b : Bytes) where
 
 -- ---- the constant of a number is a term of the longer book
 
-found-real :
+pub found-real :
     (k : ℕ) (b : Bytes) (q : Rational) (i j : ℕ) → findReal k b q i ≡ some j → (j < i + k) × (isReal q (tree b j) ≡ true)
 unfolding findReal
 found-real zero b q i j e = let z : _≡_ {A = ℕ} 0 1 = cc in absurd (omega arith)

@@ -3,29 +3,30 @@
 use mathlib.Core.Path.{_≡_, refl, sym, _∙_, ap, subst}
 use mathlib.Core.Bool.{Bool, true, false, _&&_}
 use mathlib.Core.List.{List, [], _∷_, _++_, append-assoc, append-nil}
-use Prim.Native.Nat.{ℕ, suc, _+_, _*_, _-_, _/_, _%_, _≤_}
+use Prim.Native.Nat.{ℕ, suc, _+_, _-_, _/_, _%_, _≤_}
 use native.Mathlib.Omega.{arith}
-use borrow.Author.Tests.{leb-true, le-leb, eq-eqb, eqb-true, eqb-false, ne-eqb}
+use borrow.Author.Tests.{le-leb, eq-eqb, eqb-false, ne-eqb}
 use lib.Dec.{T, eqb, leb}
 use lib.ListN.{length, length-append, take, replicate}
+use lib.Seq.{take-append-seam}
 use Rattle.terms.specs.Rational.{Rational}
 use Rattle.terms.specs.Bytes.{Bytes}
 use Rattle.terms.specs.Term.{if_then_else_}
 use Rattle.terms.specs.Smtlib.{Assignment, holds}
-use Rattle.terms.specs.Book.{count, maxRecords}
-use Rattle.terms.proofs.Truths.{both}
+use Rattle.terms.specs.Book.{count}
 use Rattle.terms.proofs.Accepted.{accepted-count}
 use Rattle.terms.proofs.BookTerms.{OfBook, book-closed}
 use Rattle.rules.specs.Refusal.Result.{ok}
 use Rattle.rules.specs.Limits.{Limits, limited}
 use Rattle.rules.proofs.Inferred.{Reals}
-use Rattle.rules.proofs.Yields.{Yields, at-ok, guarded, by-answer}
+use Rattle.rules.proofs.Yields.{at-ok}
 use Rattle.runs.specs.Run.{Step, readRun, maxRunRecords}
 use Rattle.runs.specs.Check.{Marking, marking, checkSteps, mark}
 use Rattle.runs.specs.Elaborate.{Written, written, Answer, answer, addReals, addSteps, fits, elaborate}
 use Rattle.runs.specs.Elaborate.{tailBytes, area, writtenPart, elaboratedRule, stepBytes}
 use Rattle.runs.specs.Demands.{Every, end, also, AllPremises, Meets, Demand3, Elaboration, clauses}
-use Rattle.runs.proofs.WrittenRuns.{plainBytes, runBytes, AllWritable, run-read-back, read-writable}
+use Rattle.runs.proofs.OutAreas.{Fit, fit-of, fits-of}
+use Rattle.runs.proofs.WrittenRuns.{plainBytes, runBytes, AllWritable, whole-run, run-read-back, read-writable}
 use Rattle.runs.proofs.WrittenSteps.{reals, elaboratedSteps, steps-grow}
 use Rattle.runs.proofs.SecondMarking.{AllElaborate, finished, first, NoSurplus, untraced, marked-again}
 use Rattle.runs.proofs.RunTerms.{StepOf, run-of-book, run-ordered}
@@ -112,23 +113,13 @@ untraced-written b (e ∷ es) (also h hs) w =
 
 -- ---- the written part of the out run
 
-take-written : (r z : Bytes) → take (length r) (r ++ z) ≡ r
-take-written [] z = refl
-take-written (x ∷ r) z = ap (λ t. x ∷ t) (take-written r z)
-
-part-written : (n : ℕ) (r : Bytes) → length r % 4 ≡ 0 → writtenPart (area n r) (length r) ≡ r
+pub part-written : (n : ℕ) (r : Bytes) → length r % 4 ≡ 0 → writtenPart (area n r) (length r) ≡ r
 unfolding writtenPart area
 part-written n r h =
     let z : Bytes = replicate (n - length r) 0 in
     let e : (leb (length r) (length (r ++ z)) && eqb (length r % 4) 0) ≡ true =
     rw (le-leb (length r) (length (r ++ z)) (omega (arith, length-append r z))) (eq-eqb (length r % 4) 0 h) in
-    ap (λ (t : Bool). elim t as (λ x. Bytes) [ true ↦ take (length r) (r ++ z) | false ↦ [] ]) e ∙ take-written r z
-
-whole-records : (b r : Bytes) → Yields (λ ss. length r % 4 ≡ 0) (readRun b r)
-unfolding readRun
-whole-records b r =
-    guarded _ _ λ e u.
-    by-answer _ λ ss f. eqb-true (length r % 4) 0 (both (eqb (length r % 4) 0) _ e .0)
+    ap (λ (t : Bool). elim t as (λ x. Bytes) [ true ↦ take (length r) (r ++ z) | false ↦ [] ]) e ∙ take-append-seam r z
 
 untraced-length : (es : List Step) → length (untraced es) ≡ length es
 untraced-length [] = refl
@@ -172,18 +163,8 @@ module _
   good : GoodTail book (w .tail)
   good = steps-good book (c .steps) (written [] []) (steps-storable limit (m .steps) (m .steps) 0 meets) (no-tail-good book)
 
-  record Fits : Type 0 where
-    runFits : length (w .run) ≤ outRun
-    tailRoom : count book + length (w .tail) ≤ maxRecords
-    runRoom : length (w .run) / 4 ≤ maxRunRecords
-
-  fitting : Fits
-  unfolding fits
-  fitting =
-      let x = both (leb (length (w .run)) outRun && leb (32 * length (w .tail)) outTail) _ (m .fit) in
-      let y = both (leb (length (w .run)) outRun) _ (x .0) in
-      let z = both (leb (count book + length (w .tail)) maxRecords) _ (x .1) in
-      record { runFits = leb-true _ _ (y .0); tailRoom = leb-true _ _ (z .0); runRoom = leb-true _ _ (z .1) }
+  fitting : Fit book outRun outTail w
+  fitting = fit-of (m .fit)
 
   counted : m .records ≡ count book
   counted = accepted-count book (m .records) (m .read)
@@ -194,7 +175,7 @@ module _
         storable = good .storable;
         lacks = subst (λ n. Every (Lacks book n) (w .tail)) (sym counted) (good .lacks);
         differ = good .differ;
-        room = omega (arith, counted, fitting .tailRoom);
+        room = omega (arith, counted, fitting .book);
       }
 
   run-is : w .run ≡ runBytes es
@@ -215,7 +196,7 @@ module _
       (at-ok (read-writable book run) (m .ran)) placed assumes-infer-nothing
 
   read-back : readRun b′ (runBytes es) ≡ ok es
-  read-back = run-read-back b′ es writable (subst (λ r. length r / 4 ≤ maxRunRecords) run-is (fitting .runRoom))
+  read-back = run-read-back b′ es writable (subst (λ r. length r / 4 ≤ maxRunRecords) run-is (fitting .records))
 
   no-surplus : Every (λ x. NoSurplus (x .0)) (c .steps)
   no-surplus = every-weaker (λ x p. p .noSurplus) (c .steps) premises
@@ -226,16 +207,15 @@ module _
   -- ---- its own elaboration
 
   fits-again : fits b′ outRun outTail (written (runBytes es) []) ≡ true
-  unfolding fits
   fits-again =
-      let fit = fitting in
       let tails = tail-count book (m .records) (m .read) (w .tail) tail-of in
-      rw (
-        le-leb (length (runBytes es)) outRun (subst (λ r. length r ≤ outRun) run-is (fit .runFits)),
-        le-leb 0 outTail (omega arith),
-        le-leb (count b′ + 0) maxRecords (omega (arith, tails, counted, fit .tailRoom)),
-        le-leb (length (runBytes es) / 4) maxRunRecords (subst (λ r. length r / 4 ≤ maxRunRecords) run-is (fit .runRoom)),
-      )
+      fits-of
+      record {
+        run = subst (λ r. length r ≤ outRun) run-is (fitting .run);
+        tail = omega arith;
+        book = omega (arith, tails, counted, fitting .book);
+        records = subst (λ r. length r / 4 ≤ maxRunRecords) run-is (fitting .records);
+      }
 
   written-again : addSteps b′ (written [] []) (untraced es) ≡ written (runBytes es) []
   written-again = untraced-written b′ es (none-six book (w .tail) (c .steps)) (written [] [])
@@ -268,7 +248,7 @@ module _
 
   shown : writtenPart (area outRun (w .run)) (length (w .run)) ≡ runBytes es
   shown =
-      part-written outRun (w .run) (subst (λ r. length r % 4 ≡ 0) (sym run-is) (at-ok (whole-records b′ (runBytes es)) read-back))
+      part-written outRun (w .run) (subst (λ r. length r % 4 ≡ 0) (sym run-is) (whole-run es))
       ∙ run-is
 
   true-clauses :

@@ -8,22 +8,20 @@
 --     elaborates-left       the answer and the memory of `elaborate`
 --     part-whole, part-long, part-broken       the written part of the out run
 use mathlib.Core.Path.{_≡_, refl, sym, ap, subst, _∙_}
-use mathlib.Core.Bool.{Bool, true, false, not}
+use mathlib.Core.Bool.{Bool, true, false}
 use mathlib.Core.List.{List, [], _++_, append-nil}
-use Prim.Native.Nat.{ℕ, _+_, _*_, _-_, _%_, _≤_, _<_}
+use Prim.Native.Nat.{ℕ, _+_, _-_, _%_, _≤_, _<_}
 use native.Mathlib.Nat.{sub-zero}
 use native.Mathlib.Omega.{arith}
 use borrow.Author.Fill.{fill-more}
-use borrow.Author.Tests.{eq-eqb, ne-eqb, le-leb, lt-leb, leb-true}
-use lib.Dec.{T, leb}
-use lib.ListN.{length, take, drop, set, replicate, length-drop, length-set, length-replicate}
+use borrow.Author.Tests.{eq-eqb, ne-eqb, le-leb, lt-leb}
+use lib.ListN.{length, take, drop, set, replicate, length-drop, length-set}
 use lib.ListN.{take-append-drop, drop-of-length-le}
-use lib.Seq.{length-take-le, take-set-le, drop-set-add}
+use lib.Seq.{take-set-le, drop-set-add}
 use Rattle.terms.specs.Bytes.{Bytes}
 use Rattle.terms.specs.Book.{readBook, BookDone}
 use Rattle.terms.specs.declared.book.BookRead.{BookRead}
 use Rattle.terms.specs.declared.book.BookRead.the-variants.{Records, RefusedAt}
-use Rattle.terms.proofs.Truths.{both, never}
 use Rattle.rules.specs.Refusal.{Result}
 use Rattle.rules.specs.Refusal.Result.{ok, refused}
 use Rattle.rules.specs.Limits.{limited}
@@ -33,18 +31,19 @@ use Rattle.rules.proofs.Prepared.{prepared}
 use Rattle.rules.proofs.Results.{code-none}
 use Rattle.runs.specs.Run.{Step, readRun}
 use Rattle.runs.specs.Check.{Marking, checkSteps, nothingMarked, markRun, mark, lentOk, check}
-use Rattle.runs.specs.Elaborate.{Written, written, tailBytes, addSteps, fits, Answer, answer, elaborated}
+use Rattle.runs.specs.Elaborate.{Written, written, tailBytes, addSteps, answer, elaborated}
 use Rattle.runs.specs.Elaborate.{elaborateUnder, elaborate, area, writtenPart}
-use Rattle.runs.specs.Demands.{Memory, zeros, answerTo, memoryAfter, KnownState, isRefusal1to8, stepsOf}
+use Rattle.runs.specs.Demands.{Memory, zeros, answerTo, memoryAfter, KnownState, stepsOf}
 use Rattle.runs.specs.Lent.{lent, markedOf, elaboratedOf, openCode, zeroedFrom, Stored, Elaborates, Closes}
 use Rattle.runs.specs.declared.check.Marked.{Marked}
 use Rattle.runs.specs.declared.farkas.Out.{Out}
 use Rattle.runs.specs.declared.elaborate.Elaborating.{Elaborating}
 use Rattle.runs.specs.declared.elaborate.Elaborated.{Elaborated}
-use Rattle.runs.proofs.Memory.{demand1}
-use Rattle.runs.proofs.Unrefused.{unrefused}
+use Rattle.runs.proofs.Memory.{tailBytes-length, demand1}
+use Rattle.runs.proofs.Unrefused.{BookEarly, book-early, answer-by}
+use Rattle.runs.proofs.Unrefused.BookEarly.{refuses-at}
 use Rattle.runs.proofs.Standing.{read-steps}
-use Rattle.runs.proofs.OutAreas.{holds-none}
+use Rattle.runs.proofs.OutAreas.{none-fits, holds-none, holds-stored, holds-unfit}
 
 -- ---- zeros from a byte on
 
@@ -133,22 +132,13 @@ pub opens-ready :
     {b w′ : Bytes} {r : BookRead} {n k : ℕ} → n ≡ 65536 → BookDone b (replicate n 0) w′ r → r ≡ Records k → Ready b w′
 opens-ready {b} {w′} {r} {k} size done e = prepared b w′ r k (rw size at done) e
 
-abbrev isRecords : BookRead → Bool
-isRecords (Records n) = true
-isRecords (RefusedAt c i) = false
-
 module _ (b run : Bytes) (limit n : ℕ) where
-  -- no book is refused by 0: refusals 1 to 8 would not arise then, so that the book was read
-  book-refused : lentOk n limit ≡ true → (i : ℕ) → readBook b ≡ RefusedAt 0 i → ⊥
-  book-refused right i e =
-      let w : Bytes = replicate n 0 in
-      let size : length w ≡ n = length-replicate n 0 in
-      let marked = mark-by b run limit (length w) (ap (λ k. lentOk k limit) size ∙ right) e in
-      let m : Memory = lent b run w [] [] in
-      let none = demand1 .nothingFits m limit (ap (λ (x : Marking). x .steps) marked) in
-      let free : answerTo m limit .verdict ≡ 0 = none ∙ ap (λ (x : Marking). x .verdict) marked in
-      let read = unrefused b run limit (length w) 0 0 (subst (λ v. T (not (isRefusal1to8 v))) (sym free) tt) in
-      never (ap isRecords (sym e ∙ read .read))
+  -- no book is refused by 0
+  book-refused : (i : ℕ) → readBook b ≡ RefusedAt 0 i → ⊥
+  book-refused i e = go (rw e at (book-early b))
+    where
+      go : BookEarly (RefusedAt 0 i) → ⊥
+      go (refuses-at early) = early
 
   -- what `open` answers, and what it leaves
   abbrev pub Opens : Bytes → ℕ → Type 0
@@ -165,7 +155,7 @@ module _ (b run : Bytes) (limit n : ℕ) where
     pub opens-refused : {c i : ℕ} → r ≡ RefusedAt c i → Opens w′ c
     opens-refused {i} e =
         let read = sym (done .is) ∙ e in
-        (sym (code-by b run limit n right read), λ z. absurd (book-refused right i (rw z at read)))
+        (sym (code-by b run limit n right read), λ z. absurd (book-refused i (rw z at read)))
 
   -- ---- the marking, by what `open` answered
 
@@ -211,7 +201,7 @@ module _ (b run : Bytes) (limit n : ℕ) where
         go : (t : Bool) → lentOk n limit ≡ t → (x : BookRead) → readBook b ≡ x →
             0 ≡ codeBy t x (readRun b run) → Opened
         go false e x f h = absurd (omega arith)
-        go true e (RefusedAt c i) f h = absurd (book-refused e i (rw (← h) at f))
+        go true e (RefusedAt c i) f h = absurd (book-refused i (rw (← h) at f))
         go true e (Records k) f h =
             let passed = code-none (readRun b run) h in
             let same : stepsOf b run ≡ passed .value = read-steps b run (passed .value) (passed .is) in
@@ -238,19 +228,6 @@ module _ (b run : Bytes) (limit n : ℕ) where
 abbrev writes : Bytes → Marking → Written
 writes b m = addSteps b (written [] []) (m .steps)
 
--- the answer by the test of refusal 8
-abbrev answerBy : Bytes → Marking → Bool → Answer
-answerBy b m x = elim x [
-  | true ↦ answer (m .verdict) (length (m .steps)) (m .visits) (writes b m .run) (tailBytes (writes b m .tail))
-  | false ↦ answer 8 (length (m .steps)) (m .visits) [] []
-]
-
-answer-by :
-    (b : Bytes) (m : Marking) (outRun outTail : ℕ) {x : Bool} → fits b outRun outTail (writes b m) ≡ x →
-    elaborated b outRun outTail m ≡ answerBy b m x
-unfolding elaborated
-answer-by b m outRun outTail e = ap (answerBy b m) e
-
 -- what stays in front of the zeros
 zeroed-area : (n : ℕ) (o : Bytes) {x : Bytes} → take n o ≡ x → n ≡ length x → zeroedFrom n o ≡ area (length o) x
 unfolding zeroedFrom area
@@ -258,29 +235,15 @@ zeroed-area n o e size = rw (e, size)
 
 -- what is written of the tail has as many bytes as are counted
 tail-size : {b o t : Bytes} {out : Out} {w : Written} → Stored b o t out w → out .tail ≡ length (tailBytes (w .tail))
-unfolding fits
-tail-size {b} {o} {t} {out} {w} s =
-    let n = 32 * length (w .tail) in
-    let areas = both (leb (length (w .run)) (length o)) (leb n (length t)) (both _ _ (s .room) .0) in
-    let room : out .tail ≤ length t = omega (arith, s .tailSize, leb-true n (length t) (areas .1)) in
-    sym (length-take-le (out .tail) t room) ∙ ap (λ (x : Bytes). length x) (s .tail)
+tail-size {w = w} s = s .tailSize ∙ sym (tailBytes-length (w .tail))
 
 module _ {b o t : Bytes} {e : Elaborating} {m : Marking} (h : Elaborates b o t e m) where
-  abbrev HoldsBy : Bool → Type 0
-  HoldsBy x = elim x [
-    | true ↦ fits b (length o) (length t) (writes b m) ≡ false
-    | false ↦ Stored b o t (e .out) (writes b m)
-  ]
-
-  holds-by : {x : Bool} → e .out .full ≡ x → HoldsBy x
-  holds-by same = subst HoldsBy same (h .holds)
-
   pub closes-full :
       {o′ t′ : Bytes} → e .out .full ≡ true → o′ ≡ zeroedFrom 0 o → t′ ≡ zeroedFrom 0 t →
       Closes (record { verdict = 8; steps = e .steps; visits = e .visits; run = 0; tail = 0 }) o t o′ t′
       (elaborated b (length o) (length t) m)
   closes-full full left left-tail =
-      rw (answer-by b m _ _ (holds-by full)) (record {
+      rw (answer-by b _ _ m (holds-unfit b o t (e .out) (writes b m) full (h .holds))) (record {
         answered = rw (h .steps, h .visits);
         run = left ∙ zeroed-area 0 _ refl refl;
         tail = left-tail ∙ zeroed-area 0 _ refl refl;
@@ -298,9 +261,9 @@ module _ {b o t : Bytes} {e : Elaborating} {m : Marking} (h : Elaborates b o t e
       })
       o t o′ t′ (elaborated b (length o) (length t) m)
   closes-whole whole left left-tail =
-      let s = holds-by whole in
+      let s = holds-stored b o t (e .out) (writes b m) whole (h .holds) in
       let size = tail-size s in
-      rw (answer-by b m _ _ (s .room)) (record {
+      rw (answer-by b _ _ m (s .room)) (record {
         answered = rw (h .verdict, h .steps, h .visits, s .runSize, size);
         run = left ∙ zeroed-area _ _ (s .run) (s .runSize);
         tail = left-tail ∙ zeroed-area _ _ (s .tail) size;
@@ -322,7 +285,7 @@ elaborated-is b run limit n o t = go (lentOk n limit)
           | false ↦ answer 1 0 0 [] []
         ])
     go true = refl
-    go false = answer-by b (nothingMarked 1) _ _ (holds-none b o t .room)
+    go false = answer-by b _ _ (nothingMarked 1) (none-fits b (length o) (length t))
 
 -- what `elaborate` answers, and what it leaves
 abbrev Left : Memory → ℕ → Elaborated → Memory → Type 0

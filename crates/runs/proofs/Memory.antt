@@ -10,11 +10,11 @@ use native.Mathlib.Omega.{arith}
 use native.Mathlib.Nat.{sub-zero}
 use lib.Dec.{T, eqb, leb, leb→le}
 use lib.ListN.{length, replicate, length-append, length-replicate}
-use borrow.Author.Tests.{leb-true, le-leb}
+use borrow.Author.Tests.{leb-true}
 use Rattle.terms.proofs.Truths.{both, never, T-true}
 use Rattle.terms.specs.Rational.{Rational}
 use Rattle.terms.specs.Bytes.{Bytes, bytesOf}
-use Rattle.terms.specs.Book.{count, maxRecords, readBook}
+use Rattle.terms.specs.Book.{readBook}
 use Rattle.terms.specs.declared.book.BookRead.{BookRead}
 use Rattle.terms.specs.declared.book.BookRead.the-variants.{Records, RefusedAt}
 use Rattle.rules.specs.Refusal.{Result, number}
@@ -31,6 +31,7 @@ use Rattle.runs.specs.Check.{markRun, mark, lentOk, check}
 use Rattle.runs.specs.Elaborate.{Written, Answer, answer, realRecord, tailBytes, written}
 use Rattle.runs.specs.Elaborate.{addSteps, fits, elaborated, elaborateUnder, elaborate, area}
 use Rattle.runs.specs.Demands.{Memory, KnownState, Demand1, answerTo, memoryAfter, isRefusal1to8}
+use Rattle.runs.proofs.OutAreas.{Fit, fit-of, none-fits}
 
 -- ---- a step is refused by 10 or later
 
@@ -130,16 +131,9 @@ module _ (outRun outTail : ℕ) where
   module _ (book : Bytes) where
     fits-areas : (w : Written) → fits book outRun outTail w ≡ true →
         (length (w .run) ≤ outRun) × (length (tailBytes (w .tail)) ≤ outTail)
-    unfolding fits
     fits-areas w e =
-        let n = 32 * length (w .tail) in
-        let areas = both (leb (length (w .run)) outRun) (leb n outTail) (both _ _ e .0) in
-        (leb-true _ _ (areas .0), omega (arith, tailBytes-length (w .tail), leb-true n outTail (areas .1)))
-
-    nothing-fits : fits book outRun outTail (written [] []) ≡ true
-    unfolding fits
-    nothing-fits =
-        rw (le-leb 0 outRun (omega arith), le-leb 0 outTail (omega arith), le-leb (count book + 0) maxRecords (omega arith))
+        let f : Fit book outRun outTail w = fit-of e in
+        (f .run, omega (arith, tailBytes-length (w .tail), f .tail))
 
     abbrev writes : Marking → Written
     writes m = addSteps book (written [] []) (m .steps)
@@ -175,7 +169,7 @@ module _ (outRun outTail : ℕ) where
             }
         at false e =
             nothing-answers m 8 (λ n. absurd (n refl)) λ n.
-            never (sym e ∙ ap (fits book outRun outTail) (no-steps-write m n) ∙ nothing-fits)
+            never (sym e ∙ ap (fits book outRun outTail) (no-steps-write m n) ∙ none-fits book outRun outTail)
 
   elaborate-answers : (book run : Bytes) (limit work : ℕ) →
       Answers outRun outTail (check book run limit work) (elaborate book run limit work outRun outTail)

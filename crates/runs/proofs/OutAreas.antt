@@ -1,7 +1,7 @@
 -- The out areas while a run is elaborated.
 --     fronts-same, fronts-then, grows-same, grows-then, writes-then       one write after another
 --     holds-back       a refused step is taken back by the counts
---     holds-none       before the first step
+--     none-fits, holds-none       before the first step
 --     holds-stored, stored-holds, holds-unfit, unfit-holds       `Holds` where the areas are not full, and where they are
 --     both-le, both-fits, not-both       the code's test
 --     Fit, fit-of, fits-of, unfit, unfit-longer       `fits` as inequalities; what is longer than what does not fit does not fit
@@ -169,12 +169,16 @@ holds-back b {o} {o′} {t} {t′} out w f e e′ h = go (out .full) refl
           proper = s .proper;
         }
 
+pub none-fits : (b : Bytes) (m n : ℕ) → fits b m n (written [] []) ≡ true
+none-fits b m n =
+    fits-of (record { run = omega arith; tail = omega arith; book = omega arith; records = omega arith })
+
 pub holds-none :
     (b o t : Bytes) → Holds b o t (record { run = 0; tail = 0; full = false }) (written [] [])
 unfolding tailBytes
 holds-none b o t =
     record {
-      room = fits-of (record { run = omega arith; tail = omega arith; book = omega arith; records = omega arith });
+      room = none-fits b (length o) (length t);
       run = refl;
       runSize = refl;
       whole = refl;

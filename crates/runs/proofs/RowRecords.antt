@@ -1,7 +1,8 @@
 -- Rows of records of one mark: how they are written, read and tested.
 --     numberBytes, marked       a row as bytes, and the records that it is read as (`recs-numbers`)
 --     Elsewhere, parted       a row is parted from what follows it, where that has another mark in front
---     all-right, numbers-back, terms-back       the tests of refusal 7 pass, and the row's content comes back
+--     all-right, right-numbers       the tests of refusal 7 pass, and what they say of the row's numbers
+--     numbers-back, terms-back       the row's content comes back
 --     every-term, in-book, literal       what the tests say of the terms of a row that is read
 use mathlib.Core.Path.{_≡_, refl, sym, _∙_, ap, subst}
 use mathlib.Core.Bool.{Bool, true, false, _&&_}
@@ -115,6 +116,16 @@ pub all-right :
 unfolding allRight marked
 all-right p m [] end = refl
 all-right p m (n ∷ ns) (also h hs) = rw (h, all-right p m ns hs)
+
+-- what follows from the test of a row's numbers holds of each
+pub right-numbers :
+    {p : ℕ → Bool} (Q : ℕ → Type 0) → ((i : ℕ) → p i ≡ true → Q i) → (rs : List Rec) → allRight p rs ≡ true →
+    Every Q (numbersOf rs)
+unfolding allRight numbersOf
+right-numbers Q f [] e = end
+right-numbers {p} Q f (r ∷ rs) e =
+    let x = both (eqb (r .byte) 0 && p (r .number)) (allRight p rs) e in
+    also (f (r .number) (both (eqb (r .byte) 0) (p (r .number)) (x .0) .1)) (right-numbers Q f rs (x .1))
 
 pub numbers-back : (m : ℕ) (ns : List ℕ) → numbersOf (marked m ns) ≡ ns
 unfolding numbersOf marked

@@ -1,25 +1,28 @@
 -- The records of a part of a run, and the parts of a step.
---     length-recs, recs-drop, recs-take, recAt, recs-cons       the records by place and from a place on
+--     length-recs, recs-drop, recs-take, recAt, recs-cons, head-is       the records by place and from a place on
 --     leading-has, leading-stops, leading-take, after-drop       the records in front with one mark
---     recs-leading, recs-after       the records of the part in front, and of the part that follows
+--     recs-leading, recs-after, cut       the records of the part in front, and of the part that follows
 --     numbers-of, terms-of       the numbers in a part's records, and the terms that they name
---     next-drop, bytes-within, bytes-some       where the next step starts
---     Begins, begins-first, begins-next, begins-less       going through a run step by step
+--     rowsIn, ownBytes, length-own, step-taken       the bytes of a step
+--     next-drop, bytes-within, bytes-least, next-shorter, whole-next       where the next step starts
+--     partFrom, Begins, begins-first, begins-behind, begins-next, begins-less       going through a run step by step
+--     Passed, passed-first, passed-next       where each step that is passed has some bytes
 use mathlib.Core.Path.{_≡_, refl, sym, ap, _∙_}
 use mathlib.Core.Bool.{Bool, true, false}
-use mathlib.Core.List.{List, [], _∷_}
-use Prim.Native.Nat.{ℕ, zero, suc, _+_, _*_, _-_, _/_, _≤_, _<_}
+use mathlib.Core.List.{List, [], _∷_, _++_, append-assoc}
+use Prim.Native.Nat.{ℕ, zero, suc, _+_, _*_, _-_, _/_, _%_, _≤_, _<_, min}
 use native.Mathlib.Numerals.{add-one}
 use native.Mathlib.Omega.{arith}
-use borrow.Author.Tests.{leb-true, leb-false}
-use lib.Dec.{eqb, leb}
-use lib.ListN.{length, getD, take, drop, length-drop, drop-of-length-le}
-use lib.Seq.{take-all, take-nil, drop-nil, drop-drop}
+use lib.Dec.{eqb}
+use lib.ListN.{length, getD, take, drop, length-append, length-take, length-drop, drop-of-length-le, take-append-drop}
+use lib.Seq.{take-all, take-nil, drop-nil, drop-drop, take-at, drop-at}
 use Rattle.terms.specs.Bytes.{Bytes, le}
 use Rattle.terms.proofs.LittleEndian.{le-cons, le-of-two}
 use Rattle.rules.specs.LinearSteps.{numbersIn, named, termsIn}
+use Rattle.rules.proofs.RunParts.{drop-to-end}
 use Rattle.runs.specs.Run.{Rec, rec, recs, leading, after, numbersOf, termsOf, P, C, A}
-use Rattle.runs.specs.StepParts.{leadingIn, afterIn, nextIn, bytesIn, stepFrom}
+use Rattle.runs.specs.StepParts.{leadingIn, afterIn, premisesIn, clauseIn, argsIn, nextIn, bytesIn, headIn}
+use Rattle.runs.specs.StepParts.{stepFrom}
 
 -- ---- by place
 
@@ -34,7 +37,7 @@ length-recs (m ∷ b ∷ x ∷ y ∷ p) = omega (arith, length-recs p)
 pub recs-drop : (p : Bytes) (k : ℕ) → recs (drop (4 * k) p) ≡ drop k (recs p)
 unfolding recs
 recs-drop p zero = refl
-recs-drop [] (suc k) = rw drop-nil
+recs-drop [] (suc k) = ap recs (drop-nil (4 * suc k))
 recs-drop (m ∷ []) (suc k) = ap recs (drop-of-length-le (m ∷ []) {i = 4 * suc k} (omega arith))
 recs-drop (m ∷ b ∷ []) (suc k) = ap recs (drop-of-length-le (m ∷ b ∷ []) {i = 4 * suc k} (omega arith))
 recs-drop (m ∷ b ∷ x ∷ []) (suc k) = ap recs (drop-of-length-le (m ∷ b ∷ x ∷ []) {i = 4 * suc k} (omega arith))
@@ -45,7 +48,7 @@ recs-drop (m ∷ b ∷ x ∷ y ∷ p) (suc k) =
 pub recs-take : (p : Bytes) (k : ℕ) → recs (take (4 * k) p) ≡ take k (recs p)
 unfolding recs
 recs-take p zero = refl
-recs-take [] (suc k) = rw take-nil
+recs-take [] (suc k) = ap recs (take-nil (4 * suc k))
 recs-take (m ∷ []) (suc k) = ap recs (take-all (4 * suc k) (m ∷ []) (omega arith))
 recs-take (m ∷ b ∷ []) (suc k) = ap recs (take-all (4 * suc k) (m ∷ b ∷ []) (omega arith))
 recs-take (m ∷ b ∷ x ∷ []) (suc k) = ap recs (take-all (4 * suc k) (m ∷ b ∷ x ∷ []) (omega arith))
@@ -71,6 +74,11 @@ recs-cons (m ∷ b ∷ x ∷ y ∷ p) (suc k) h =
     let byte : 4 * suc k + 1 ≡ suc (suc (suc (suc (4 * k + 1)))) = omega arith in
     let number : 4 * suc k + 2 ≡ suc (suc (suc (suc (4 * k + 2)))) = omega arith in
     rw (byte, number, mark, le-cons, le-cons, le-cons, le-cons) (recs-cons p k (omega arith))
+
+-- a part that has a record starts with its head
+pub head-is : (p : Bytes) → 4 ≤ length p → recs p ≡ headIn p ∷ recs (drop 4 p)
+unfolding headIn
+head-is p h = recs-cons p 0 (omega (arith, h)) ∙ ap (λ rs. recAt p 0 ∷ rs) (sym (recs-drop p 1))
 
 -- ---- the records in front that have a mark
 
@@ -121,6 +129,10 @@ pub recs-after : (m : ℕ) (part : Bytes) → recs (afterIn m part) ≡ after m 
 unfolding afterIn
 recs-after m part = recs-drop part (length (leading m (recs part))) ∙ after-drop m (recs part)
 
+pub cut : (m : ℕ) (part : Bytes) → leadingIn m part ++ afterIn m part ≡ part
+unfolding leadingIn afterIn
+cut m part = take-append-drop (4 * length (leading m (recs part))) part
+
 -- ---- what they name
 
 pub numbers-of : (part : Bytes) → numbersIn part ≡ numbersOf (recs part)
@@ -141,56 +153,59 @@ terms-of b part = ap (named b) (numbers-of part) ∙ terms-numbers b (recs part)
 
 -- ---- from step to step
 
--- a part that follows is what is left after some bytes
-record Follows (part left : Bytes) : Type 0 where
-  bytes : ℕ
-  some : 4 ≤ bytes
-  is : left ≡ drop bytes part
+-- a step's own bytes: its first record, and the rows behind it
+abbrev pub rowsIn : Bytes → Bytes
+rowsIn part = premisesIn part ++ (clauseIn part ++ argsIn part)
 
-follows-after : (m : ℕ) (part left : Bytes) → Follows part left → Follows part (afterIn m left)
-unfolding afterIn
-follows-after m part left f =
-    let more = 4 * length (leading m (recs left)) in
-    record {
-      bytes = f .bytes + more;
-      some = omega (arith, f .some);
-      is = ap (drop more) (f .is) ∙ drop-drop more (f .bytes) part;
-    }
+abbrev pub ownBytes : Bytes → Bytes
+ownBytes part = take 4 part ++ rowsIn part
 
-follows-next : (part : Bytes) → Follows part (nextIn part)
-unfolding nextIn
-follows-next part =
-    follows-after A _ _
-    (follows-after C _ _ (follows-after P _ _ (record { bytes = 4; some = omega arith; is = refl })))
+step-cut : (part : Bytes) → ownBytes part ++ nextIn part ≡ part
+unfolding premisesIn clauseIn argsIn nextIn
+step-cut part =
+    let p = drop 4 part in
+    let c = afterIn P p in
+    let a = afterIn C c in
+    simp append-assoc
+    (ap (λ l. take 4 part ++ (leadingIn P p ++ (leadingIn C c ++ l))) (cut A a)
+    ∙ ap (λ l. take 4 part ++ (leadingIn P p ++ l)) (cut C c)
+    ∙ ap (λ l. take 4 part ++ l) (cut P p)
+    ∙ take-append-drop 4 part)
 
-bytes-are : (part : Bytes) (f : Follows part (nextIn part)) → bytesIn part ≡ length part - (length part - f .bytes)
+pub length-own : (part : Bytes) → length (ownBytes part) ≡ bytesIn part
 unfolding bytesIn
-bytes-are part f = ap (λ n. length part - n) (ap length (f .is) ∙ length-drop (f .bytes) part)
+length-own part = omega (arith, ap length (step-cut part), length-append (ownBytes part) (nextIn part))
 
-drop-left : (part : Bytes) (n : ℕ) → drop (length part - (length part - n)) part ≡ drop n part
-drop-left part n = go (leb n (length part)) refl
-  where
-    go : (t : Bool) → leb n (length part) ≡ t → drop (length part - (length part - n)) part ≡ drop n part
-    go true e =
-        let le = leb-true n (length part) e in
-        let same : length part - (length part - n) ≡ n = omega (arith, le) in
-        ap (λ k. drop k part) same
-    go false e =
-        let lt = leb-false n (length part) e in
-        drop-of-length-le part {i = length part - (length part - n)} (omega (arith, lt))
-        ∙ sym (drop-of-length-le part {i = n} (omega (arith, lt)))
+pub step-taken : (part : Bytes) → take (bytesIn part) part ≡ ownBytes part
+step-taken part =
+    ap (take (bytesIn part)) (sym (step-cut part)) ∙ take-at (ownBytes part) (nextIn part) _ (length-own part)
 
 pub next-drop : (part : Bytes) → drop (bytesIn part) part ≡ nextIn part
 next-drop part =
-    let f = follows-next part in
-    ap (λ n. drop n part) (bytes-are part f) ∙ drop-left part (f .bytes) ∙ sym (f .is)
+    ap (drop (bytesIn part)) (sym (step-cut part)) ∙ drop-at (ownBytes part) (nextIn part) _ (length-own part)
 
 pub bytes-within : (part : Bytes) → bytesIn part ≤ length part
 unfolding bytesIn
 bytes-within part = omega arith
 
-pub bytes-some : (part : Bytes) → 0 < length part → 0 < bytesIn part
-bytes-some part h = let f = follows-next part in omega (arith, bytes-are part f, f .some)
+-- a record, where there is one
+pub bytes-least : (part : Bytes) → min 4 (length part) ≤ bytesIn part
+bytes-least part = omega (arith, length-own part, length-append (take 4 part) (rowsIn part), length-take 4 part)
+
+pub next-shorter : (part : Bytes) → length (nextIn part) ≤ length part
+next-shorter part = omega (arith, ap length (next-drop part), length-drop (bytesIn part) part)
+
+whole-after : (m : ℕ) (part : Bytes) → length part % 4 ≡ 0 → length (afterIn m part) % 4 ≡ 0
+unfolding afterIn
+whole-after m part h = omega (arith, h, length-drop (4 * length (leading m (recs part))) part)
+
+pub whole-next : (part : Bytes) → length part % 4 ≡ 0 → length (nextIn part) % 4 ≡ 0
+unfolding nextIn
+whole-next part h = whole-after A _ (whole-after C _ (whole-after P _ (omega (arith, h, length-drop 4 part))))
+
+-- a run from a byte on, as it is lent
+abbrev pub partFrom : Bytes → ℕ → Bytes
+partFrom run at = take (length run - at) (drop at run)
 
 -- step n of a run begins at byte `at`
 pub record Begins (run : Bytes) (at n : ℕ) : Type 0 where
@@ -201,18 +216,38 @@ pub begins-first : (run : Bytes) → Begins run 0 0
 unfolding stepFrom
 begins-first run = record { within = omega arith; from = refl }
 
-module _ {run : Bytes} {at n : ℕ} (begins : Begins run at n) where
-  pub begins-next : Begins run (at + bytesIn (drop at run)) (n + 1)
+-- m is how many bytes step n has
+module _ {run : Bytes} {at n : ℕ} (begins : Begins run at n) {m : ℕ} (size : m ≡ bytesIn (partFrom run at)) where
+  size-here : m ≡ bytesIn (drop at run)
+  size-here = size ∙ ap bytesIn (drop-to-end run at)
+
+  pub begins-behind : drop (at + m) run ≡ nextIn (drop at run)
+  begins-behind = rw size-here (sym (drop-drop (bytesIn (drop at run)) at run) ∙ next-drop (drop at run))
+
+  pub begins-next : Begins run (at + m) (n + 1)
   unfolding stepFrom
   begins-next =
       record {
-        within = omega (arith, begins .within, bytes-within (drop at run), length-drop at run);
-        from =
-            rw add-one
-            (sym (drop-drop (bytesIn (drop at run)) at run) ∙ next-drop (drop at run) ∙ ap nextIn (begins .from));
+        within = omega (arith, begins .within, size-here, bytes-within (drop at run), length-drop at run);
+        from = rw add-one (begins-behind ∙ ap nextIn (begins .from));
       }
 
-  pub begins-less : at < length run → length run - (at + bytesIn (drop at run)) < length run - at
+  pub begins-less : at < length run → length run - (at + m) < length run - at
   begins-less h =
       let left = length-drop at run in
-      omega (arith, left, bytes-some (drop at run) (omega (arith, left)))
+      omega (arith, left, size-here, bytes-least (drop at run))
+
+-- and no step before it is empty
+pub record Passed (run : Bytes) (at n : ℕ) : Type 0 where
+  pub begins : Begins run at n
+  pub few : n ≤ at
+
+pub passed-first : (run : Bytes) → Passed run 0 0
+passed-first run = record { begins = begins-first run; few = omega arith }
+
+pub passed-next :
+    {run : Bytes} {at n : ℕ} → Passed run at n → at < length run → {m : ℕ} → m ≡ bytesIn (partFrom run at) →
+    Passed run (at + m) (n + 1)
+passed-next passed h size =
+    let begins = passed .begins in
+    record { begins = begins-next begins size; few = omega (arith, passed .few, begins-less begins size h) }

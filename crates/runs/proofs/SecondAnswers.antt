@@ -1,42 +1,42 @@
 -- `elaborate_again`: what is elaborated is marked again over book and tail, and both answers are compared.
 --     has-room, joined-room, joined-none, end-room, end-none       book and tail one behind the other, and where they end
 --     agree-early .. agree-tail, agree-all       the comparison by its tests
---     whole-answer, part-is       what is written has whole records, so the written part of an out area is all of it
+--     whole-answer       what is written has whole records, so the written part of an out area is all of it
 --     Calls, marked-agreed, marked-none       the second marking
 --     agrees-again       under demand 3's conditions both answers agree, since book and tail have at most 2,048 records
 --     both-markings       the two markings together
-use mathlib.Core.Path.{_≡_, refl, sym, ap, subst, _∙_}
-use mathlib.Core.Bool.{Bool, true, false, _&&_, not}
-use mathlib.Core.List.{List, [], _∷_, _++_}
-use mathlib.Core.Option.{Option, some, none}
-use Prim.Native.Nat.{ℕ, _+_, _*_, _-_, _/_, _%_, _≤_, _<_}
-use native.Mathlib.Nat.{sub-zero}
+use mathlib.Core.Path.{_≡_, refl, sym, ap, ap₂, subst, _∙_}
+use mathlib.Core.Bool.{Bool, true, false, _&&_, not, and-false}
+use mathlib.Core.List.{[], _++_}
+use Prim.Native.Nat.{ℕ, _+_, _*_, _-_, _%_, _≤_, _<_}
+use native.Mathlib.Nat.{sub-zero, zero-add}
 use native.Mathlib.Omega.{arith}
-use borrow.Author.Tests.{leb-true, le-leb, lt-leb, eq-eqb, ne-eqb, eqb-true}
+use borrow.Author.Tests.{leb-true, le-leb, lt-leb, eq-eqb, ne-eqb}
 use lib.Dec.{T, eqb, leb}
-use lib.ListN.{length, take, drop, replicate, length-append, length-replicate}
-use lib.Seq.{paste, take-paste, length-paste, take-all, take-append-seam}
-use Rattle.terms.specs.Rational.{Rational}
-use Rattle.terms.specs.Bytes.{Bytes, bytesOf}
-use Rattle.terms.specs.Term.{Term, recordNumber}
-use Rattle.terms.specs.Book.{count, maxRecords, sizeOk, readRecords, readBook, sameBytes}
-use Rattle.terms.specs.declared.book.BookRead.{BookRead}
-use Rattle.terms.specs.declared.book.BookRead.the-variants.{Records, RefusedAt}
-use Rattle.terms.proofs.Truths.{both, T-true}
+use lib.ListN.{length, take, replicate, length-append, length-replicate}
+use lib.Seq.{paste, take-append-seam}
+use Rattle.terms.specs.Bytes.{Bytes}
+use Rattle.terms.specs.Book.{sameBytes}
+use Rattle.terms.proofs.Truths.{T-true}
+use Rattle.terms.proofs.Accepted.{accepted-count}
 use Rattle.terms.proofs.Records.{sameBytes-refl}
 use Rattle.rules.specs.Limits.{limited}
-use Rattle.runs.specs.Run.{Step, S, P, C, A}
 use Rattle.runs.specs.Check.{Marking, mark, lentOk, checkSteps}
-use Rattle.runs.specs.Elaborate.{Written, written, Answer, answer, findReal, placeIn, withTail, addReal, addReals}
-use Rattle.runs.specs.Elaborate.{addSteps, recordBytes, premiseBytes, termBytes, stepBytes, realRecord, tailBytes}
-use Rattle.runs.specs.Elaborate.{elaboratedRule, fits, elaborated, elaborateUnder, elaborate, area, writtenPart}
+use Rattle.runs.specs.Elaborate.{Written, written, Answer, answer}
+use Rattle.runs.specs.Elaborate.{addSteps}
+use Rattle.runs.specs.Elaborate.{fits, elaborated, elaborateUnder, elaborate, area, writtenPart}
 use Rattle.runs.specs.Demands.{Memory, answerTo, memoryAfter, zeros, isRefusal1to8, AllPremises}
 use Rattle.runs.specs.Lent.{zeroedFrom, elaboratedOf, lent}
 use Rattle.runs.specs.Again.{Second, joinedBook, elaboratedBook, answerAgain, agree, agreesAgain}
 use Rattle.runs.specs.Again.{secondAfter, MarkedAgain}
 use Rattle.runs.specs.declared.elaborate.Elaborated.{Elaborated}
-use Rattle.runs.proofs.Unrefused.{Marked, unrefused, answer-is}
-use Rattle.runs.proofs.Elaboration.{demand3}
+use Rattle.runs.proofs.Unrefused.{chosen, by-lent, Marked, unrefused, answer-is}
+use Rattle.runs.proofs.Elaboration.{part-written, demand3}
+use Rattle.runs.proofs.Memory.{tailBytes-length}
+use Rattle.runs.proofs.OutAreas.{Fit, fit-of, put-length, put-front}
+use Rattle.runs.proofs.TailBook.{read-length}
+use Rattle.runs.proofs.WrittenRuns.{whole-run}
+use Rattle.runs.proofs.WrittenSteps.{steps-grow}
 
 -- ---- book and tail one behind the other
 
@@ -48,13 +48,13 @@ module _ (book tail joined : Bytes) where
   abbrev Joined : Bool → Bytes → Type 0
   Joined r left = (r ≡ leb size (length joined)) × (left ≡ area (length joined) (joinedBook (length joined) book tail))
 
-  joined-book : leb size (length joined) ≡ true → joinedBook (length joined) book tail ≡ book ++ tail
-  unfolding joinedBook
-  joined-book e = ap (λ (t : Bool). elim t as (λ x. Bytes) [ true ↦ book ++ tail | false ↦ [] ]) e
+  -- by the test of the room
+  abbrev joinedBy : Bool → Bytes
+  joinedBy t = elim t [ true ↦ book ++ tail | false ↦ [] ]
 
-  joined-nothing : leb size (length joined) ≡ false → joinedBook (length joined) book tail ≡ []
+  joined-by : {t : Bool} → leb size (length joined) ≡ t → joinedBook (length joined) book tail ≡ joinedBy t
   unfolding joinedBook
-  joined-nothing e = ap (λ (t : Bool). elim t as (λ x. Bytes) [ true ↦ book ++ tail | false ↦ [] ]) e
+  joined-by e = ap joinedBy e
 
   pub has-room : {r : Bool} → r ≡ leb size (length joined) → r ≡ true → size ≤ length joined
   has-room r-is taken = leb-true size (length joined) (sym r-is ∙ taken)
@@ -68,23 +68,19 @@ module _ (book tail joined : Bytes) where
       let e : leb size (length joined) ≡ true = sym r-is ∙ taken in
       let h : size ≤ length joined = has-room r-is taken in
       let long : length one ≡ length joined =
-      ap length one-is ∙ length-paste joined 0 book (length book) (omega arith) (omega arith)
+      ap length one-is ∙ put-length joined 0 book (omega arith)
       in
       let long′ : length two ≡ length joined =
-      ap length two-is ∙ length-paste one (length book) tail (length tail) (omega (arith, long)) (omega arith) ∙ long
+      ap length two-is ∙ put-length one (length book) tail (omega (arith, long)) ∙ long
       in
       let front : take (length book) one ≡ book =
-      ap (take (length book)) one-is
-      ∙ ap (λ z. take (length book) (z ++ drop (0 + length book) joined)) (take-all (length book) book (omega arith))
-      ∙ take-append-seam book _
+      ap₂ take (sym (zero-add (length book))) one-is ∙ put-front joined 0 book (omega arith)
       in
       let both-are : take size two ≡ book ++ tail =
-      ap (take size) two-is ∙ take-paste one (length book) tail (length tail) (omega (arith, long)) (omega arith)
-      ∙ ap (λ z. z ++ take (length tail) tail) front
-      ∙ ap (λ z. book ++ z) (take-all (length tail) tail (omega arith))
+      ap (take size) two-is ∙ put-front one (length book) tail (omega (arith, long)) ∙ ap (λ z. z ++ tail) front
       in (
         sym e,
-        left-is ∙ rw (joined-book e, both-are, long′, length-append book tail),
+        left-is ∙ rw (joined-by e, both-are, long′, length-append book tail),
       )
 
   pub joined-none :
@@ -93,18 +89,18 @@ module _ (book tail joined : Bytes) where
   unfolding zeroedFrom area
   joined-none {r} r-is fails left left-is =
       let e : leb size (length joined) ≡ false = sym r-is ∙ fails in
-      (sym e, left-is ∙ rw (joined-nothing e))
+      (sym e, left-is ∙ rw (joined-by e))
 
   -- where the joined book ends
   pub end-room :
       {r : Bool} → r ≡ leb size (length joined) → r ≡ true → {end : ℕ} → end ≡ size →
       end ≡ length (joinedBook (length joined) book tail)
-  end-room r-is taken e = e ∙ sym (ap length (joined-book (sym r-is ∙ taken)) ∙ length-append book tail)
+  end-room r-is taken e = e ∙ sym (ap length (joined-by (sym r-is ∙ taken)) ∙ length-append book tail)
 
   pub end-none :
       {r : Bool} → r ≡ leb size (length joined) → r ≡ false → {end : ℕ} → end ≡ 0 →
       end ≡ length (joinedBook (length joined) book tail)
-  end-none r-is fails e = e ∙ sym (ap length (joined-nothing (sym r-is ∙ fails)))
+  end-none r-is fails e = e ∙ sym (ap length (joined-by (sym r-is ∙ fails)))
 
 -- what is written to an area is not longer than it
 pub area-holds : (n : ℕ) (b : Bytes) {end : ℕ} {left : Bytes} → end ≡ length b → left ≡ area n b → end ≤ length left
@@ -112,10 +108,6 @@ unfolding area
 area-holds n b e left-is = omega (arith, e, ap length left-is, length-append b (replicate (n - length b) 0))
 
 -- ---- the comparison
-
-and-false : (s : Bool) → (s && false) ≡ false
-and-false true = refl
-and-false false = refl
 
 -- a verdict that is none of refusals 1 to 8
 pub above-eight : (v : ℕ) → 8 < v → isRefusal1to8 v ≡ false
@@ -175,94 +167,22 @@ module _ (a c : Elaborated) (run again : Bytes) where
 
 -- ---- what is written has whole records
 
-record Whole (b : Bytes) : Type 0 where
-  size : length b % 4 ≡ 0
-
-whole-append : {b d : Bytes} → Whole b → Whole d → Whole (b ++ d)
-whole-append {b} {d} h k = record { size = omega (arith, length-append b d, h .size, k .size) }
-
-whole-none : Whole []
-whole-none = record { size = refl }
-
-whole-record : (m b n : ℕ) → Whole (recordBytes m b n)
-unfolding bytesOf
-whole-record m b n = record { size = refl }
-
-whole-premises : (ps : List ℕ) → Whole (premiseBytes ps)
-unfolding premiseBytes
-whole-premises [] = whole-none
-whole-premises (p ∷ ps) = whole-append (whole-record P 0 p) (whole-premises ps)
-
-whole-terms : (m : ℕ) (ts : List Term) → Whole (termBytes m ts)
-unfolding termBytes
-whole-terms m [] = whole-none
-whole-terms m (t ∷ ts) = whole-append (whole-record m 0 (recordNumber t)) (whole-terms m ts)
-
-whole-step : (s : Step) → Whole (stepBytes s)
-unfolding stepBytes
-whole-step s =
-    whole-append (whole-record S (elaboratedRule (s .rule)) 0)
-    (whole-append (whole-premises (s .premises))
-    (whole-append (whole-terms C (s .clause)) (whole-terms A (s .args))))
-
-module _ (book : Bytes) where
-  whole-real : (w : Written) (q : Rational) → Whole (w .run) → Whole (addReal book w q .run)
-  unfolding addReal
-  whole-real w q h = go (findReal (count book) book q 0)
-    where
-      go :
-          (o : Option ℕ) →
-          Whole
-          ((elim o as (λ x. Written) [
-            | some i ↦ written (w .run ++ recordBytes A 0 i) (w .tail)
-            | none ↦ written (w .run ++ recordBytes A 0 (count book + placeIn (w .tail) q)) (withTail (w .tail) q)
-          ]) .run)
-      go (some i) = whole-append h (whole-record A 0 i)
-      go none = whole-append h (whole-record A 0 (count book + placeIn (w .tail) q))
-
-  whole-reals : (w : Written) (qs : List Rational) → Whole (w .run) → Whole (addReals book w qs .run)
-  unfolding addReals
-  whole-reals w [] h = h
-  whole-reals w (q ∷ qs) h = whole-reals (addReal book w q) qs (whole-real w q h)
-
-  whole-steps : (w : Written) (ss : List (Step × List Rational)) → Whole (w .run) → Whole (addSteps book w ss .run)
-  unfolding addSteps
-  whole-steps w [] h = h
-  whole-steps w (s ∷ ss) h =
-      whole-steps _ ss
-      (whole-reals (written (w .run ++ stepBytes (s .0)) (w .tail)) (s .1) (whole-append h (whole-step (s .0))))
-
--- a record has 32 bytes
-tail-length : (qs : List Rational) → length (tailBytes qs) ≡ 32 * length qs
-unfolding tailBytes realRecord bytesOf
-tail-length [] = refl
-tail-length (q ∷ qs) = omega (arith, tail-length qs)
-
 record WholeAnswer (a : Answer) : Type 0 where
-  run : Whole (a .run)
-  tail : Whole (a .tail)
+  run : length (a .run) % 4 ≡ 0
+  tail : length (a .tail) % 4 ≡ 0
 
 nothing-whole : (v s n : ℕ) → WholeAnswer (answer v s n [] [])
-nothing-whole v s n = record { run = whole-none; tail = whole-none }
+nothing-whole v s n = record { run = refl; tail = refl }
 
 whole-elaborated : (book : Bytes) (r t : ℕ) (m : Marking) → WholeAnswer (elaborated book r t m)
 unfolding elaborated
-whole-elaborated book r t m = go (fits book r t w)
+whole-elaborated book r t m = go (fits book r t (addSteps book (written [] []) (m .steps)))
   where
-    w : Written
-    w = addSteps book (written [] []) (m .steps)
-
-    go :
-        (f : Bool) →
-        WholeAnswer
-        (elim f as (λ x. Answer) [
-          | true ↦ answer (m .verdict) (length (m .steps)) (m .visits) (w .run) (tailBytes (w .tail))
-          | false ↦ answer 8 (length (m .steps)) (m .visits) [] []
-        ])
+    go : (x : Bool) → WholeAnswer (chosen book r t m x)
     go true =
         record {
-          run = whole-steps book (written [] []) (m .steps) whole-none;
-          tail = record { size = omega (arith, tail-length (w .tail)) };
+          run = rw (steps-grow book (m .steps) (written [] []) .run []) (whole-run _);
+          tail = omega (arith, tailBytes-length (addSteps book (written [] []) (m .steps) .tail));
         }
     go false = nothing-whole 8 _ _
 
@@ -270,26 +190,9 @@ whole-answer : (book run : Bytes) (limit work r t : ℕ) → WholeAnswer (elabor
 unfolding elaborate elaborateUnder
 whole-answer book run limit work r t = go (lentOk work limit)
   where
-    go :
-        (f : Bool) →
-        WholeAnswer
-        (elim f as (λ x. Answer) [
-          | true ↦ elaborated book r t (mark (limited limit) book run)
-          | false ↦ answer 1 0 0 [] []
-        ])
+    go : (x : Bool) → WholeAnswer (by-lent book run limit work r t x)
     go true = whole-elaborated book r t (mark (limited limit) book run)
     go false = nothing-whole 1 0 0
-
--- the written part of an area is what was written
-part-is : (n : ℕ) (b : Bytes) → Whole b → writtenPart (area n b) (length b) ≡ b
-unfolding writtenPart area
-part-is n b h =
-    let z : Bytes = replicate (n - length b) 0 in
-    let e : (leb (length b) (length (b ++ z)) && eqb (length b % 4) 0) ≡ true =
-    rw (le-leb (length b) (length (b ++ z)) (omega (arith, length-append b z))) (eq-eqb (length b % 4) 0 (h .size))
-    in
-    ap (λ (t : Bool). elim t as (λ x. Bytes) [ true ↦ take (length b) (b ++ z) | false ↦ [] ]) e
-    ∙ take-append-seam b z
 
 -- ---- the second marking
 
@@ -343,10 +246,10 @@ module _
   run-written = calls .run-is ∙ rw (o-is, first-is)
 
   run-whole : calls .run ≡ x .run
-  run-whole = run-written ∙ part-is (length (m .outRun)) (x .run) (x-whole .run)
+  run-whole = run-written ∙ part-written (length (m .outRun)) (x .run) (x-whole .run)
 
   tail-whole : calls .tail ≡ x .tail
-  tail-whole = calls .tail-is ∙ rw (t-is, first-is) (part-is (length (m .outTail)) (x .tail) (x-whole .tail))
+  tail-whole = calls .tail-is ∙ rw (t-is, first-is) (part-written (length (m .outTail)) (x .tail) (x-whole .tail))
 
   joined-whole : joinedBook (length (s .joined)) book (calls .tail) ≡ elaboratedBook m limit s
   joined-whole =
@@ -384,7 +287,7 @@ module _
 
   again-whole : calls .again ≡ y .run
   again-whole =
-      calls .again-is ∙ rw (out-again, answer-again) (part-is (length (s .outRun)) (y .run) (y-whole .run))
+      calls .again-is ∙ rw (out-again, answer-again) (part-written (length (s .outRun)) (y .run) (y-whole .run))
 
   -- the answer r, where book and tail have room, and where they don't
   marked : (r : Bool) → r ≡ agreesAgain m limit s → MarkedAgain m limit s r w s′
@@ -409,28 +312,6 @@ module _
 
 -- ---- demand 3
 
--- a book that was read has whole records
-book-length : (b : Bytes) (n : ℕ) → readBook b ≡ Records n → length b ≡ 32 * count b
-unfolding readBook
-book-length b n e = go (sizeOk b) refl e
-  where
-    go :
-        (t : Bool) → sizeOk b ≡ t →
-        elim t as (λ x. BookRead) [ true ↦ readRecords (length b / 32) b 0 | false ↦ RefusedAt 2 0 ] ≡ Records n →
-        length b ≡ 32 * count b
-    go true p e =
-        let sized = both (eqb (length b % 32) 0) _ p in
-        omega (arith, eqb-true (length b % 32) 0 (sized .0), leb-true (length b / 32) maxRecords (sized .1))
-    go false p e = let z : _≡_ {A = ℕ} 0 1 = cc in absurd (omega arith)
-
--- the tail that fits, with its book
-fits-records :
-    (book : Bytes) (r t : ℕ) (w : Written) → fits book r t w ≡ true → count book + length (w .tail) ≤ maxRecords
-unfolding fits
-fits-records book r t w e =
-    let areas = leb (length (w .run)) r && leb (32 * length (w .tail)) t in
-    leb-true _ _ (both (leb (count book + length (w .tail)) maxRecords) _ (both areas _ e .1) .0)
-
 -- an answer agrees with itself, with an empty tail
 agrees-same :
     (a : Answer) → T (not (isRefusal1to8 (a .verdict))) →
@@ -454,9 +335,11 @@ module _ (m : Memory) (limit : ℕ) (s : Second) where
   room u =
       let w : Written = addSteps (m .book) (written [] []) (checkSteps (limited limit) (u .steps) (u .steps) 0 .steps) in
       let long : length (a .tail) ≡ 32 * length (w .tail) =
-      ap (λ (z : Answer). length (z .tail)) (answer-is u) ∙ tail-length (w .tail)
+      ap (λ (z : Answer). length (z .tail)) (answer-is u) ∙ tailBytes-length (w .tail)
       in
-      omega (arith, long, book-length (m .book) (u .records) (u .read), fits-records (m .book) _ _ w (u .fit))
+      let fit : Fit (m .book) (length (m .outRun)) (length (m .outTail)) w = fit-of (u .fit) in
+      let read = read-length (m .book) (u .records) (u .read) in
+      omega (arith, long, read, accepted-count (m .book) (u .records) (u .read), fit .book)
 
   pub agrees-again :
       T (not (isRefusal1to8 (a .verdict))) → AllPremises (mark (limited limit) (m .book) (m .run) .steps) →
@@ -472,7 +355,7 @@ module _ (m : Memory) (limit : ℕ) (s : Second) where
       demand3 (m .book) (m .run) limit (length (m .work)) (length (m .outRun)) (length (m .outTail)) free premises
       in
       let is : answerAgain m limit s ≡ answer 0 (a .steps) (a .visits) (a .run) [] =
-      rw (joined-book (m .book) (a .tail) (s .joined) fit, run, tail) (elaboration .again)
+      rw (joined-by (m .book) (a .tail) (s .joined) fit, run, tail) (elaboration .again)
       in
       rw (fit, is) (agrees-same a free)
 

@@ -4,19 +4,19 @@
 --     premises-found, clause-found, args-found, next-found       the parts of a step, one behind the other
 --     next-inside, bytes-found       `bytes`
 --     Reached, reached-begin, reached-inside, reached-again, reached-end       `step_at`, along the steps of `Begins`
-use mathlib.Core.Path.{_≡_, sym, ap, _∙_}
+use mathlib.Core.Path.{_≡_, ap, _∙_}
 use mathlib.Core.List.{_∷_}
 use Prim.Native.Nat.{ℕ, suc, _+_, _*_, _-_, _/_, _≤_, _<_}
 use native.Mathlib.Numerals.{add-one}
 use native.Mathlib.Omega.{arith}
 use borrow.Author.Tests.{eq-eqb, ne-eqb}
-use lib.ListN.{length, getD, take, drop, length-drop, length-take, drop-of-length-le}
+use lib.ListN.{length, getD, take, drop, length-take, drop-of-length-le}
 use Rattle.terms.specs.Bytes.{Bytes}
 use Rattle.rules.proofs.RunParts.{drop-to-end}
 use Rattle.runs.specs.Run.{recs, leading, P, C, A}
 use Rattle.runs.specs.StepParts.{leadingIn, afterIn, premisesIn, clauseIn, argsIn, nextIn, bytesIn, stepFrom}
 use Rattle.runs.proofs.RunRecords.{length-recs, recAt, recs-cons, leading-has, leading-stops, leading-take}
-use Rattle.runs.proofs.RunRecords.{next-drop, bytes-within, Begins, begins-first, begins-next}
+use Rattle.runs.proofs.RunRecords.{next-shorter, partFrom, Begins, begins-first, begins-next}
 
 -- ---- how many records in front have a mark
 
@@ -98,9 +98,7 @@ module _ (step p : Bytes) (p-is : p ≡ drop 4 step) where
 
 module _ (step r : Bytes) (r-is : r ≡ nextIn step) where
   pub next-inside : length r ≤ length step
-  next-inside =
-      let left = ap length (r-is ∙ sym (next-drop step)) in
-      omega (arith, left, length-drop (bytesIn step) step)
+  next-inside = rw r-is (next-shorter step)
 
   pub bytes-found : length step - length r ≡ bytesIn step
   unfolding bytesIn
@@ -119,18 +117,14 @@ module _ (run : Bytes) (k : ℕ) where
 
   module _ (at i : ℕ) (reached : Reached at i) where
     -- the n bytes of step i
-    module _ (n : ℕ) (n-is : n ≡ bytesIn (take (length run - at) (drop at run))) where
-      bytes-here : n ≡ bytesIn (drop at run)
-      bytes-here = n-is ∙ ap bytesIn (drop-to-end run at)
-
+    module _ (n : ℕ) (n-is : n ≡ bytesIn (partFrom run at)) where
       pub reached-inside : at + n ≤ length run
-      reached-inside =
-          omega (arith, bytes-here, reached .begins .within, bytes-within (drop at run), length-drop at run)
+      reached-inside = begins-next (reached .begins) n-is .within
 
       pub reached-again : i < k → Reached (at + n) (i + 1)
-      reached-again h = record { most = omega (arith, h); begins = rw bytes-here (begins-next (reached .begins)) }
+      reached-again h = record { most = omega (arith, h); begins = begins-next (reached .begins) n-is }
 
-    pub reached-end : k ≤ i → take (length run - at) (drop at run) ≡ stepFrom k run
+    pub reached-end : k ≤ i → partFrom run at ≡ stepFrom k run
     reached-end h =
         let same : i ≡ k = omega (arith, h, reached .most) in
         drop-to-end run at ∙ reached .begins .from ∙ ap (λ j. stepFrom j run) same

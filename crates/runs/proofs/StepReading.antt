@@ -1,5 +1,4 @@
 -- Reading a run: what the functions of the code that read steps answer is what the definitions say.
---     head-is, record-at       the records of a part, by place
 --     Right, right-begin .. right-on       walking over records, each of which must be right
 --     literal-code, no-literal       a Bool term, by the code of its sort
 --     other-rule, shape-counts       the shape of a step, by how many records it has of each mark
@@ -8,7 +7,7 @@
 --     not-whole, too-long       refusal 6
 --     ReadSoFar, read-begin .. read-less       the steps before a place are read, and the others are left
 use mathlib.Core.Path.{_≡_, refl, sym, ap, _∙_, subst}
-use mathlib.Core.Bool.{Bool, true, false, _&&_}
+use mathlib.Core.Bool.{Bool, true, false, _&&_, and-assoc}
 use mathlib.Core.List.{List, [], _∷_}
 use Prim.Native.Nat.{ℕ, zero, suc, _+_, _*_, _-_, _/_, _%_, _≤_, _<_}
 use native.Mathlib.Numerals.{add-one}
@@ -16,14 +15,11 @@ use native.Mathlib.Nat.{add-zero}
 use native.Mathlib.Omega.{arith}
 use borrow.Author.Tests.{eq-eqb, ne-eqb, le-leb, lt-leb, lt-ltb, le-ltb}
 use lib.Dec.{eqb, leb, ltb}
-use lib.ListN.{length, getD, take, drop, length-drop}
+use lib.ListN.{length, getD, drop, length-drop}
 use lib.Seq.{getD-drop}
 use Rattle.terms.specs.Bytes.{Bytes, le}
-use Rattle.terms.specs.Term.{sort, sameSort}
-use Rattle.terms.specs.Term.Sort.{bool}
-use Rattle.terms.specs.Book.{count, tree, SortsBelow}
+use Rattle.terms.specs.Book.{count, SortsBelow}
 use Rattle.terms.proofs.Layouts.{all, Walk, walk-on, walk-fails, walk-end}
-use Rattle.terms.proofs.LittleEndian.{le-of-two}
 use Rattle.terms.proofs.Truths.{never}
 use Rattle.rules.specs.Refusal.{Result, _>>=_, assert}
 use Rattle.rules.specs.Refusal.Result.{ok, refused}
@@ -33,24 +29,18 @@ use Rattle.rules.proofs.RunParts.{drop-to-end}
 use Rattle.runs.specs.Run.{Step, Rec, rec, S, P, C, A, recs, leading, after, allRight, isEmpty, shapeOk}
 use Rattle.runs.specs.Run.{readStep, readSteps, readRun, maxRunRecords}
 use Rattle.runs.specs.StepParts.{afterIn, premisesIn, clauseIn, argsIn, nextIn, bytesIn, headIn, partsOk}
-use Rattle.runs.specs.StepParts.{readIn, isOk, stepFrom}
-use Rattle.runs.proofs.RunRecords.{length-recs, recAt, recs-cons, recs-leading, recs-after, Begins, begins-first, begins-next, begins-less, bytes-some}
+use Rattle.runs.specs.StepParts.{readIn, isOk}
+use Rattle.runs.proofs.RunRecords.{length-recs, recAt, recs-cons, head-is, after-drop, recs-leading, recs-after}
+use Rattle.runs.proofs.RunRecords.{whole-next, partFrom, begins-behind, begins-next, begins-less}
+use Rattle.runs.proofs.RunRecords.{Passed, passed-first, passed-next}
+use Rattle.runs.proofs.RowRecords.{isLiteral}
 
--- ---- the records of a part, by place
-
--- a part that has a record starts with its head
-pub head-is : (p : Bytes) → 4 ≤ length p → recs p ≡ headIn p ∷ recs (drop 4 p)
-unfolding recs headIn
-head-is [] h = absurd (omega (arith, h))
-head-is (m ∷ []) h = absurd (omega (arith, h))
-head-is (m ∷ c ∷ []) h = absurd (omega (arith, h))
-head-is (m ∷ c ∷ x ∷ []) h = absurd (omega (arith, h))
-head-is (m ∷ c ∷ x ∷ y ∷ p) h =
-    ap (λ (n : ℕ). rec m c n ∷ recs p) (le-of-two (m ∷ c ∷ x ∷ y ∷ p) 2 x y (omega arith) refl refl)
-
+-- record k
 record-at : (p : Bytes) (k : ℕ) (d : Rec) → k < length p / 4 → recAt p k ≡ getD (recs p) k d
 record-at p k d h =
-    ap (λ (l : List Rec). getD l 0 d) (sym (recs-cons p k h)) ∙ getD-drop k (recs p) 0 d ∙ ap (λ i. getD (recs p) i d) (add-zero k)
+    ap (λ (l : List Rec). getD l 0 d) (sym (recs-cons p k h))
+    ∙ getD-drop k (recs p) 0 d
+    ∙ ap (λ i. getD (recs p) i d) (add-zero k)
 
 -- ---- each record is right
 
@@ -105,9 +95,6 @@ right-below m n p q n-is p-is = rw (n-is, p-is)
 
 -- ---- a Bool term
 
-abbrev pub isLiteral : Bytes → ℕ → Bool
-isLiteral b c = ltb c (count b) && sameSort (sort (tree b c)) bool
-
 -- c is a term of the book, and s the code of its sort
 pub literal-code :
     (b w : Bytes) (n c s : ℕ) → c < n → s ≡ getD w c 0 → n ≡ count b → SortsBelow (count b) b w → eqb s 1 ≡ isLiteral b c
@@ -158,9 +145,7 @@ module _ {X : Type 0} where
   last-behind false x = record { is = refl; seven = λ e. refl }
 
 grouped : (a b c d : Bool) → (a && (b && (c && d))) ≡ ((a && (b && c)) && d)
-grouped true true c d = refl
-grouped true false c d = refl
-grouped false b c d = refl
+grouped a b c d = sym (and-assoc a (b && c) d ∙ ap (λ x. a && x) (and-assoc b c d))
 
 abbrev pub headOk : Rec → Bool
 headOk s = eqb (s .mark) S && (leb (s .byte) 8 && eqb (s .number) 0)
@@ -194,15 +179,7 @@ module _ (b : Bytes) (n : ℕ) (part : Bytes) where
 -- ---- the steps
 
 after-short : (m : ℕ) (l : List Rec) → length (after m l) ≤ length l
-unfolding after
-after-short m [] = omega arith
-after-short m (r ∷ l) = go (eqb (r .mark) m) (after-short m l)
-  where
-    go :
-        (t : Bool) → length (after m l) ≤ length l →
-        length {A = Rec} (elim t as (λ z. List Rec) [ true ↦ after m l | false ↦ r ∷ l ]) ≤ length (r ∷ l)
-    go true h = omega (arith, h)
-    go false h = omega arith
+after-short m l = omega (arith, ap length (after-drop m l), length-drop (length (leading m l)) l)
 
 -- what follows the first step
 abbrev nextRecs : List Rec → List Rec
@@ -298,14 +275,6 @@ module _ (b : Bytes) where
 
 -- ---- the run
 
-whole-after : (m : ℕ) (p : Bytes) → length p % 4 ≡ 0 → length (afterIn m p) % 4 ≡ 0
-unfolding afterIn
-whole-after m p h = omega (arith, h, length-drop (4 * length (leading m (recs p))) p)
-
-whole-next : (p : Bytes) → length p % 4 ≡ 0 → length (nextIn p) % 4 ≡ 0
-unfolding nextIn
-whole-next p h = whole-after A _ (whole-after C _ (whole-after P _ (omega (arith, h, length-drop 4 p))))
-
 module _ (b run : Bytes) where
   size-wrong : (eqb (length run % 4) 0 && leb (length run / 4) maxRunRecords) ≡ false → 6 ≡ codeOf (readRun b run)
   unfolding readRun assert _>>=_
@@ -319,8 +288,7 @@ module _ (b run : Bytes) where
 
   -- the steps before byte `at` are read, n of them
   pub record ReadSoFar (at n : ℕ) : Type 0 where
-    pub begins : Begins run at n
-    pub few : n ≤ at
+    pub passed : Passed run at n
     pub whole : length (drop at run) % 4 ≡ 0
     pub left : codeOf (readRun b run) ≡ codeOf (readPart b n (drop at run))
 
@@ -328,17 +296,12 @@ module _ (b run : Bytes) where
   unfolding readRun readPart assert _>>=_
   read-begin h g =
       record {
-        begins = begins-first run;
-        few = omega arith;
+        passed = passed-first run;
         whole = h;
         left =
             rw (eq-eqb _ _ h, le-leb (length run / 4) maxRunRecords (omega (arith, g)))
             (ap (λ (k : ℕ). codeOf (readSteps k b 0 (recs run))) (sym (length-recs run)));
       }
-
-  -- the run from there on, as the code takes it
-  abbrev pub partFrom : ℕ → Bytes
-  partFrom at = take (length run - at) (drop at run)
 
   module _ {at n : ℕ} (so : ReadSoFar at n) where
     pub read-end : length run ≤ at → 0 ≡ codeOf (readRun b run)
@@ -350,36 +313,31 @@ module _ (b run : Bytes) where
       a-record = omega (arith, so .whole, length-drop at run)
 
       read-here :
-          (x t : Bool) → x ≡ isOk (readIn b n (partFrom at)) → x ≡ t →
+          (x t : Bool) → x ≡ isOk (readIn b n (partFrom run at)) → x ≡ t →
           isOk (readIn b n (drop at run)) ≡ t
       read-here x t e f = ap (λ (p : Bytes). isOk (readIn b n p)) (sym (drop-to-end run at)) ∙ sym e ∙ f
 
       -- x is whether the step can be read
       pub read-wrong :
-          (x : Bool) → x ≡ isOk (readIn b n (partFrom at)) → x ≡ false → 7 ≡ codeOf (readRun b run)
+          (x : Bool) → x ≡ isOk (readIn b n (partFrom run at)) → x ≡ false → 7 ≡ codeOf (readRun b run)
       read-wrong x x-is e = sym (so .left ∙ part-wrong b n (drop at run) a-record (read-here x false x-is e))
 
       -- m is how many bytes it has
-      module _ (m : ℕ) (m-is : m ≡ bytesIn (partFrom at)) where
-        there : m ≡ bytesIn (drop at run)
-        there = m-is ∙ ap bytesIn (drop-to-end run at)
-
+      module _ (m : ℕ) (m-is : m ≡ bytesIn (partFrom run at)) where
         on : drop (at + m) run ≡ nextIn (drop at run)
-        unfolding stepFrom
-        on = rw there (begins-next (so .begins) .from ∙ rw add-one (ap nextIn (sym (so .begins .from))))
+        on = begins-behind (so .passed .begins) m-is
 
         pub read-on :
-            (x : Bool) → x ≡ isOk (readIn b n (partFrom at)) → x ≡ true → ReadSoFar (at + m) (n + 1)
+            (x : Bool) → x ≡ isOk (readIn b n (partFrom run at)) → x ≡ true → ReadSoFar (at + m) (n + 1)
         read-on x x-is e =
             record {
-              begins = rw there (begins-next (so .begins));
-              few = omega (arith, so .few, there, bytes-some (drop at run) (omega (arith, a-record)));
+              passed = passed-next (so .passed) h m-is;
               whole = rw on (whole-next (drop at run) (so .whole));
               left = rw (on, add-one) (so .left ∙ part-read b n (drop at run) a-record (read-here x true x-is e));
             }
 
         pub read-fits : at + m ≤ length run
-        read-fits = rw there (begins-next (so .begins) .within)
+        read-fits = begins-next (so .passed .begins) m-is .within
 
         pub read-less : length run - (at + m) < length run - at
-        read-less = rw there (begins-less (so .begins) h)
+        read-less = begins-less (so .passed .begins) m-is h

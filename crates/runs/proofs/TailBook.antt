@@ -69,7 +69,7 @@ module _ (b : Bytes) (n : ℕ) (e : readBook b ≡ Records n) where
       go true p = refl
       go false p = cc
 
-  read-length : length b ≡ 32 * n
+  pub read-length : length b ≡ 32 * n
   read-length =
       let tests = both (eqb (length b % 32) 0) (leb (length b / 32) maxRecords) read-sized in
       let whole : length b % 32 ≡ 0 = eqb-true (length b % 32) 0 (tests .0) in

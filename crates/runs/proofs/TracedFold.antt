@@ -1,12 +1,11 @@
 -- `bounded_farkas` with the trace on: the loop of `la_generic_partial` (rules' PartialFold), where each number that is inferred
 -- is written as it is found. So behind what stood there the numbers of the loop's trace are written.
 --     add-reals-then       one number more
---     refused-as, judged-stepped       what a verdict says of a step that was checked
+--     judged-stepped       what a verdict says of a step that was checked
 --     TracedSoFar, traced-unread, traced-begin, traced-again, traced-refused, traced-done       the loop
 use mathlib.Core.Path.{_≡_, refl, sym, ap, subst, _∙_}
 use mathlib.Core.List.{List, [], _∷_, _++_}
 use Prim.Native.Nat.{ℕ, _+_, _≤_}
-use native.Mathlib.Omega.{arith}
 use lib.IntN.{pos}
 use lib.ListN.{length}
 use Rattle.terms.specs.Rational.{Rational, whole}
@@ -32,7 +31,9 @@ use Rattle.runs.specs.Lent.{visitsAfter, Holds, Writes, judgedAs, Steppe
 use Rattle.runs.specs.declared.farkas.Out.{Out}
 use Rattle.runs.specs.declared.farkas.Stepped.{Stepped}
 use Rattle.runs.specs.declared.farkas.Stepped.the-variants as stepped
-use Rattle.runs.proofs.OutAreas.{fronts-same, grows-same, writes-then}
+use Rattle.runs.proofs.OutAreas.{fronts-same, grows-same, writes-then, writes-as}
+use Rattle.runs.proofs.CheckedSteps.{visits-traced}
+use Rattle.runs.proofs.CheckLoops.{refused-as}
 
 -- ---- what is written
 
@@ -43,23 +44,7 @@ unfolding addReals
 add-reals-then b w [] q = refl
 add-reals-then b w (x ∷ qs) q = add-reals-then b (addReal b w x) qs q
 
--- the same, said otherwise
-writes-as :
-    {b o t o′ t′ : Bytes} {out r : Out} {f g : Written → Written} → ((w : Written) → f w ≡ g w) →
-    Writes b o t out o′ t′ r f → Writes b o t out o′ t′ r g
-writes-as {b} {o′ = o′} {t′ = t′} {r = r} same x =
-    record {
-      fronts = x .fronts;
-      grows = x .grows;
-      holds = λ w h. subst (Holds b o′ t′ r) (same w) (x .holds w h);
-    }
-
 -- ---- what a verdict says
-
-pub refused-as : (c : ℕ) (d : Result Accepted) → verdict.Refused c ≡ verdictOf (visitsAfter d) → Refuses c d
-unfolding _>>=_
-refused-as c (ok a) e = let z : _≡_ {A = ℕ} 0 1 = cc in absurd (omega arith)
-refused-as c (refused r) e = record { reason = r; is = refl; code = cc }
 
 -- where the step is accepted, its numbers are written
 pub judged-stepped :
@@ -72,11 +57,6 @@ judged-stepped b o t out w v r r-is (ok a) e (gives h) =
 judged-stepped b o t out w v r r-is (refused c) e refuses =
     subst (λ z. SteppedIs b o t z w (refused c)) (sym (r-is ∙ ap (λ z. judgedAs z out) e))
     record { reason = c; is = refl; code = refl }
-
-visits-traced : (d : Result Progress) → visitsOf d ≡ visitsAfter (traced d)
-unfolding _>>=_
-visits-traced (ok p) = refl
-visits-traced (refused r) = refl
 
 -- ---- the loop
 
@@ -97,7 +77,7 @@ Promised g v o t out w o′ t′ r =
 
 refused-traced :
     (c : ℕ) (d : Result Progress) → verdict.Refused c ≡ verdictOf (visitsOf d) → Refuses c (traced d)
-refused-traced c d e = refused-as c (traced d) (e ∙ ap verdictOf (visits-traced d))
+refused-traced c d e = refused-as c (traced d) (e ∙ ap verdictOf (sym (visits-traced d)))
 
 -- c is the number of what is read
 module _ (g : Given) (v c : ℕ) (c-is : (n : ℕ) → c ≡ codeOf (readArgs (limited n) (termsIn (g .book) (g .args)))) where
@@ -144,7 +124,7 @@ module _ {g : Given} {v : ℕ} {o t : Bytes} {out : Out} {w : Bytes} {p : by-val
     traced-done q e a a-is w″ clear s s-is =
         let ends = part-done (so .far) rested q e a a-is w″ clear in
         let said : a ≡ verdictOf (visitsAfter (traced (partialOf g v))) =
-        ends .0 ∙ ap verdictOf (visits-traced (partialOf g v))
+        ends .0 ∙ ap verdictOf (sym (visits-traced (partialOf g v)))
         in (
           record {
             fronts = so .writes .fronts;
@@ -167,12 +147,10 @@ module _ {g : Given} {v : ℕ} {o t : Bytes} {out : Out} {w : Bytes} {p : by-val
         record {
           far = part-again (so .far) rested q n k e;
           writes =
-              writes-as
-              (λ x.
+              writes-as (writes-then (so .writes) added) λ x h.
               sym
               (ap (addReals (g .book) x) (again-trace (so .far) rested q n k e)
-              ∙ add-reals-then (g .book) x (so .far .trace) n))
-              (writes-then (so .writes) added);
+              ∙ add-reals-then (g .book) x (so .far .trace) n);
           run-length = run-kept ∙ so .run-length;
           tail-length = tail-kept ∙ so .tail-length;
         }

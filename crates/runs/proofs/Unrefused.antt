@@ -42,7 +42,7 @@ data RecordEarly : RecordRead → Type 0 where
   sorted : {s : ℕ} → RecordEarly (Sorted s)
   refuses : {c : ℕ} → Early c → RecordEarly (Refused c)
 
-data BookEarly : BookRead → Type 0 where
+pub data BookEarly : BookRead → Type 0 where
   records : {n : ℕ} → BookEarly (Records n)
   refuses-at : {c i : ℕ} → Early c → BookEarly (RefusedAt c i)
 
@@ -76,7 +76,7 @@ unfolding readRecords
 records-early zero b i = records
 records-early (suc n) b i = next-early i (record-early b i) (records-early n b (i + 1))
 
-book-early : (b : Bytes) → BookEarly (readBook b)
+pub book-early : (b : Bytes) → BookEarly (readBook b)
 unfolding readBook
 book-early b = go (sizeOk b)
   where
@@ -157,7 +157,8 @@ module _ (book : Bytes) (outRun outTail : ℕ) where
       let w = addSteps book (written [] []) (m .steps) in
       answer (m .verdict) (length (m .steps)) (m .visits) (w .run) (tailBytes (w .tail))
 
-  abbrev chosen : Marking → Bool → Answer
+  -- the answer by the test of refusal 8
+  abbrev pub chosen : Marking → Bool → Answer
   chosen m b = elim b [ true ↦ answered m | false ↦ answer 8 (length (m .steps)) (m .visits) [] [] ]
 
   free-fits : (m : Marking) → Free (elaborated book outRun outTail m .verdict) → Fits m × Free (m .verdict)
@@ -169,9 +170,11 @@ module _ (book : Bytes) (outRun outTail : ℕ) where
       go true e h = (e, h)
       go false e h = absurd h
 
-  fits-answered : (m : Marking) → Fits m → elaborated book outRun outTail m ≡ answered m
+  pub answer-by :
+      (m : Marking) {x : Bool} → fits book outRun outTail (addSteps book (written [] []) (m .steps)) ≡ x →
+      elaborated book outRun outTail m ≡ chosen m x
   unfolding elaborated
-  fits-answered m e = ap (chosen m) e
+  answer-by m e = ap (chosen m) e
 
 -- ---- the entry point
 
@@ -185,7 +188,8 @@ pub record Marked (book run : Bytes) (limit work outRun outTail : ℕ) : Type 0 
   pub fit : fits book outRun outTail (addSteps book (written [] []) (checkSteps (limited limit) steps steps 0 .steps)) ≡ true
 
 module _ (book run : Bytes) (limit work outRun outTail : ℕ) where
-  abbrev by-lent : Bool → Answer
+  -- and by that of refusal 1
+  abbrev pub by-lent : Bool → Answer
   by-lent b = elim b [ true ↦ elaborateUnder (limited limit) book run outRun outTail | false ↦ answer 1 0 0 [] [] ]
 
   pub unrefused : T (not (isRefusal1to8 (elaborate book run limit work outRun outTail .verdict))) →
@@ -223,4 +227,4 @@ module _ {book run : Bytes} {limit work outRun outTail : ℕ} (m : Marked book r
   unfolding elaborate elaborateUnder
   answer-is =
       ap (by-lent book run limit work outRun outTail) (m .lent) ∙ ap (elaborated book outRun outTail) marked-is
-      ∙ fits-answered book outRun outTail (checkSteps (limited limit) (m .steps) (m .steps) 0) (m .fit)
+      ∙ answer-by book outRun outTail (checkSteps (limited limit) (m .steps) (m .steps) 0) (m .fit)

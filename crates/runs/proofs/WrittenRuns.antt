@@ -1,7 +1,8 @@
 -- What is written as a run reads back as the steps that were written (`run-read-back`), and every step of a
 -- run that is read is writable (`read-writable`). A step's bytes are its S record and the rows of P, C and A
 -- records; the marks differ and the next step opens with S, so the rows are parted again. Every number goes
--- into two bytes: a book has 2048 records at most, and a premise is below the number of steps.
+-- into two bytes: a book has 2048 records at most, and a premise is below the number of steps. What is written
+-- has whole records (`whole-step`, `whole-run`).
 use mathlib.Core.Path.{_≡_, refl, _∙_, ap, subst}
 use mathlib.Core.Bool.{Bool, true, false, not, _&&_, _||_}
 use mathlib.Core.List.{List, [], _∷_, _++_, append-assoc}
@@ -18,15 +19,14 @@ use Rattle.rules.specs.Refusal.{_>>=_, assert}
 use Rattle.rules.specs.Refusal.Result.{ok}
 use Rattle.rules.proofs.Yields.{Yields, and-then, guarded}
 use Rattle.rules.proofs.Yields.Yields.{gives, refuses}
-use Rattle.runs.specs.Run.{Step, Rec, S, P, C, A, rec, recs, allRight, isEmpty, shapeOk}
+use Rattle.runs.specs.Run.{Step, step, Rec, S, P, C, A, rec, recs, allRight, isEmpty, shapeOk}
 use Rattle.runs.specs.Run.{numbersOf, termsOf, readStep, readSteps, readRun, maxRunRecords}
-use Rattle.runs.specs.Elaborate.{recordBytes, premiseBytes, termBytes}
+use Rattle.runs.specs.Elaborate.{recordBytes, premiseBytes, termBytes, elaboratedRule, stepBytes}
 use Rattle.runs.specs.Demands.{Every}
-use Rattle.runs.proofs.RunTerms.{right-numbers}
 use Rattle.runs.proofs.RowRecords.{numberBytes, marked, recordNumbers, premises-are-numbers}
 use Rattle.runs.proofs.RowRecords.{terms-are-numbers, length-numberBytes, Small, recs-record}
 use Rattle.runs.proofs.RowRecords.{recs-numbers, Elsewhere, elsewhere-marked, parted}
-use Rattle.runs.proofs.RowRecords.{every-number, all-right, numbers-back, length-marked, InBook}
+use Rattle.runs.proofs.RowRecords.{every-number, all-right, right-numbers, numbers-back, length-marked, InBook}
 use Rattle.runs.proofs.RowRecords.{isLiteral, number-inside, tree-of-number, terms-back, every-term}
 use Rattle.runs.proofs.Everywhere.{every-weaker}
 use Rattle.runs.proofs.RowRecords.{Literal, length-terms, in-book, literal}
@@ -192,6 +192,12 @@ length-step : (s : Step) → length (plainBytes s) ≡ 4 * recordsOf s
 unfolding recordsOf bytesOf
 length-step s = simp (step-is-rows s, length-append, length-numberBytes) (omega arith)
 
+-- whole records
+pub whole-step : (s : Step) → length (stepBytes s) % 4 ≡ 0
+unfolding plainBytes stepBytes
+whole-step s =
+    omega (arith, length-step (step (elaboratedRule (s .rule)) (s .premises) (s .clause) (s .args)))
+
 -- as many whole records as steps, at least
 record Quarters (ss : List Step) : Type 0 where
   records : ℕ
@@ -206,6 +212,9 @@ run-quarters (s ∷ ss) =
     let n = recordsOf s + q .records in
     let sum = length-append (plainBytes s) (runBytes ss) in
     record { records = n; all = omega (arith, sum, length-step s, q .all); enough = omega (arith, q .enough) }
+
+pub whole-run : (ss : List Step) → length (runBytes ss) % 4 ≡ 0
+whole-run ss = omega (arith, run-quarters ss .all)
 
 pub run-read-back :
     (b : Bytes) (ss : List Step) → AllWritable b 0 ss → length (runBytes ss) / 4 ≤ maxRunRecords →

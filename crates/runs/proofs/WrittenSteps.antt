@@ -151,7 +151,7 @@ module _ (b : Bytes) where
             ∙ append-assoc (w .run) (f (x .tail ++ u)) (g (x .tail ++ u));
       }
 
-  real-grows : (w : Written) (q : Rational) → Grows w (addReal b w q) (λ t. recordBytes A 0 (placeOf t q))
+  pub real-grows : (w : Written) (q : Rational) → Grows w (addReal b w q) (λ t. recordBytes A 0 (placeOf t q))
   unfolding addReal placeOf
   real-grows w q =
       let h = one-more (findReal (count b) b q 0) w q in

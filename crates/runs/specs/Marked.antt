@@ -817,8 +817,16 @@ cases =
     ∷ integerRecord (pos 1) ∷ [])
     (stepRecords 5 [] (3 ∷ 5 ∷ 9 ∷ []) (10 ∷ 10 ∷ 10 ∷ []) ∷ []) usual
     (answers 0 1 6 (stepRecords 5 [] (3 ∷ 5 ∷ 9 ∷ []) (10 ∷ 10 ∷ 10 ∷ []) ∷ []) [])
-    -- strengthening by the greatest common divisor: rule 5, (not (<= (- 1) x)) (not (<= (- 1) (+ x y))) (<=
-    -- (- 2) (* 2 x)) (not (<= y 1)), arguments 1 1 1 1
+    -- the Alethe specification's example, x for (f a) and y for (f b): rule 5, (not (> x y)) (not (= x y)),
+    -- arguments 1 (- 1)
+    ∷ marked
+    (atomRecord 2 0 0 ∷ atomRecord 2 1 0 ∷ operationRecord GreaterThan (0 ∷ 1 ∷ [])
+    ∷ operationRecord Not (2 ∷ []) ∷ operationRecord Equals (0 ∷ 1 ∷ []) ∷ operationRecord Not (4 ∷ [])
+    ∷ integerRecord (pos 1) ∷ operationRecord Sub (6 ∷ []) ∷ [])
+    (stepRecords 5 [] (3 ∷ 5 ∷ []) (6 ∷ 7 ∷ []) ∷ []) usual
+    (answers 0 1 4 (stepRecords 5 [] (3 ∷ 5 ∷ []) (6 ∷ 7 ∷ []) ∷ []) [])
+    -- strengthening by the greatest common divisor, the example in the Rust's `strengthen`: rule 5, (not (<=
+    -- (- 1) x)) (not (<= (- 1) (+ x y))) (<= (- 2) (* 2 x)) (not (<= y 1)), arguments 1 1 1 1
     ∷ marked
     (integerRecord (pos 1) ∷ operationRecord Sub (0 ∷ []) ∷ atomRecord 2 0 0
     ∷ operationRecord LessEq (1 ∷ 2 ∷ []) ∷ operationRecord Not (3 ∷ []) ∷ atomRecord 2 1 0

@@ -2,7 +2,8 @@
 use borrow.Author.Needs.{needs}
 use Rattle.runs.proofs.CheckedSteps.{judged-assume, judged-rw-eq, judged-disequality, judged-totality}
 use Rattle.runs.proofs.CheckedSteps.{judged-tautology, judged-generic, judged-farkas, judged-simp}
-use Rattle.runs.proofs.CheckedSteps.{rule-eight, clause-found}
+use Rattle.runs.proofs.Standing.{stands-literals}
+use Rattle.runs.proofs.CheckedSteps.{rule-eight}
 use Rattle.runs.proofs.check.check_step.Statement.{statement}
 use Rattle.runs.proofs.check.check_step.Tie as tie
 
@@ -12,25 +13,25 @@ la-tautology-requires : tie.Need-la-tautology-requires
 la-tautology-requires c κs =
     let literals = c .before .before .before in
     let start = literals .before .before .before .before .before in
-    (start .pre .0, clause-found (start .pre .1) (literals .clause .ensures) .0)
+    (start .pre .0, stands-literals (start .pre .1) (literals .clause .ensures) .0)
 
 la-generic-requires : tie.Need-la-generic-requires
 la-generic-requires c κs =
     let literals = c .before .before .before .before in
     let start = literals .before .before .before .before .before in
-    (start .pre .0, clause-found (start .pre .1) (literals .clause .ensures))
+    (start .pre .0, stands-literals (start .pre .1) (literals .clause .ensures))
 
 bounded-farkas-requires : tie.Need-bounded-farkas-requires
 bounded-farkas-requires c κs =
     let literals = c .before .before .before .before in
     let start = literals .before .before .before .before .before in
-    (start .pre .0, clause-found (start .pre .1) (literals .clause .ensures))
+    (start .pre .0, stands-literals (start .pre .1) (literals .clause .ensures))
 
 poly-simp-requires : tie.Need-poly-simp-requires
 poly-simp-requires c κs =
     let literals = c .before .before .before in
     let start = literals .before .before .before .before .before in
-    (start .pre .0, clause-found (start .pre .1) (literals .clause .ensures) .0)
+    (start .pre .0, stands-literals (start .pre .1) (literals .clause .ensures) .0)
 
 check-poly-simp-rel-requires : tie.Need-check-poly-simp-rel-requires
 check-poly-simp-rel-requires c κs =

@@ -52,7 +52,7 @@ add-at c =
 add-steps : tie.Need-add-steps Inv-loop μ-loop
 add-steps c =
     let far = inside c .before .loop .inv in
-    omega (arith, far .few)
+    omega (arith, far .passed .few)
 
 loop-less : tie.Need-loop-less Inv-loop μ-loop
 loop-less c = marked-less (inside c .before .loop .inv) (inside c .loop-test .taken) (c .bytes .ensures)

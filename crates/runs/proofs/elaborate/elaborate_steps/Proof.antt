@@ -2,10 +2,11 @@
 -- that are left. The measure is how many bytes are left; it falls, since each step has some.
 use mathlib.Core.Path.{_∙_, ap}
 use Prim.Native.Nat.{_-_}
+use native.Mathlib.Omega.{arith}
 use borrow.Author.Needs.{needs}
 use lib.ListN.{length}
-use Rattle.runs.proofs.ElaborateLoops.{Given, Going, Turned, going-begin, going-within, going-stands, going-end}
-use Rattle.runs.proofs.ElaborateLoops.{going-refused, going-fits, going-less, going-counts, going-again}
+use Rattle.runs.proofs.CheckLoops.{marked-stands, marked-within, marked-less}
+use Rattle.runs.proofs.ElaborateLoops.{Given, Going, Turned, going-begin, going-end, going-refused, going-again}
 use Rattle.runs.proofs.elaborate.elaborate_steps.Statement.{statement}
 use Rattle.runs.proofs.elaborate.elaborate_steps.Tie as tie
 
@@ -36,12 +37,12 @@ given c =
     }
 
 sub-step : tie.Need-sub-step Inv-loop μ-loop
-sub-step c = going-within (c .before .loop .inv)
+sub-step c = c .before .loop .inv .marked .passed .begins .within
 
 elaborate-step-requires : tie.Need-elaborate-step-requires Inv-loop μ-loop
 elaborate-step-requires c κs =
     let inside = c .before .before .before .before in
-    going-stands (inside .before .loop .inv) (inside .loop-test .taken)
+    marked-stands (inside .before .loop .inv .marked) (inside .loop-test .taken)
 
 -- one turn
 abbrev inside : tie.After-elaborate-step Inv-loop μ-loop → tie.In-loop Inv-loop μ-loop
@@ -67,7 +68,7 @@ abbrev stopped : tie.After-known-told Inv-loop μ-loop → tie.After-elaborate-s
 stopped c = c .before .before .before .before .before .before .before .before .before
 
 same-length : tie.Need-same-length Inv-loop μ-loop
-same-length c = ap length (turned (stopped c) .kept ∙ inside (stopped c) .before .loop .inv .kept)
+same-length c = ap length (turned (stopped c) .kept ∙ inside (stopped c) .before .loop .inv .marked .same)
 
 same-length-2 : tie.Need-same-length-2 Inv-loop μ-loop
 same-length-2 c = turned (stopped c) .runLength ∙ inside (stopped c) .before .loop .inv .runLength
@@ -83,21 +84,28 @@ abbrev went : tie.After-bytes Inv-loop μ-loop → tie.After-elaborate-step Inv-
 went c = c .before .before .before .before .before .before .before .before .before .before
 
 add-at : tie.Need-add-at Inv-loop μ-loop
-add-at c = going-fits (inside (went c) .before .loop .inv) (turned (went c)) _ (c .bytes .ensures)
+add-at c =
+    let turn = inside (went c) in
+    omega (arith, marked-within (turn .before .loop .inv .marked) (turn .loop-test .taken) (c .bytes .ensures))
 
 add-steps : tie.Need-add-steps Inv-loop μ-loop
-add-steps c = going-counts (inside (went c) .before .loop .inv) (turned (went c)) _ (c .bytes .ensures)
+add-steps c =
+    let turn = inside (went c) in
+    let far = turn .before .loop .inv .marked in
+    omega (arith, far .passed .few, marked-within far (turn .loop-test .taken) (c .bytes .ensures))
 
 loop-less : tie.Need-loop-less Inv-loop μ-loop
-loop-less c = going-less (inside (went c) .before .loop .inv) (turned (went c)) _ (c .bytes .ensures)
+loop-less c =
+    let turn = inside (went c) in
+    marked-less (turn .before .loop .inv .marked) (turn .loop-test .taken) (c .bytes .ensures)
 
 loop-again : tie.Need-loop-again Inv-loop μ-loop
 loop-again c =
-    going-again (inside (went c) .before .loop .inv) (turned (went c)) _ (c .bytes .ensures) _ _
+    going-again (inside (went c) .before .loop .inv) (turned (went c)) (c .bytes .ensures) _ _
     (c .before .before .n .given .1)
 
 same-length-4 : tie.Need-same-length-4 Inv-loop μ-loop
-same-length-4 c = ap length (c .before .loop .inv .kept)
+same-length-4 c = ap length (c .before .loop .inv .marked .same)
 
 same-length-5 : tie.Need-same-length-5 Inv-loop μ-loop
 same-length-5 c = c .before .loop .inv .runLength

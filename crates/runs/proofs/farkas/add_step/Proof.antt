@@ -1,13 +1,13 @@
 -- The step's bytes go behind what is written, or the areas are full (CopiedSteps).
-use mathlib.Core.Path.{_∙_, sym, ap}
+use mathlib.Core.Path.{ap}
 use Prim.Native.Nat.{_+_, _≤_}
 use native.Mathlib.Nat.{sub-zero}
 use native.Mathlib.Omega.{arith}
 use borrow.Author.Needs.{needs}
 use lib.ListN.{length, take, length-take}
-use Rattle.runs.proofs.RunRecords.{bytes-within}
-use Rattle.runs.proofs.CopiedSteps.{Octets, right, length-copied, bytes-record, goes-into}
-use Rattle.runs.proofs.CopiedSteps.{add-nothing, add-copied, add-full}
+use Rattle.runs.proofs.RunRecords.{bytes-within, bytes-least}
+use Rattle.runs.proofs.OutAreas.{both-le}
+use Rattle.runs.proofs.CopiedSteps.{Octets, add-nothing, add-copied, add-full}
 use Rattle.runs.proofs.farkas.add_step.Statement.{statement}
 use Rattle.runs.proofs.farkas.add_step.Tie as tie
 
@@ -27,7 +27,7 @@ room :
     (let start = c .before .before .before .before .before .before .before in
     let end = start .args .out .run + c .before .before .before .bytes .result in
     (end ≤ length (start .args .outrun .now)) × (end ≤ 16384))
-room c = goes-into (c .before .goes-in .ensures) (c .if2 .taken)
+room c = both-le _ _ _ (c .before .goes-in .ensures) (c .if2 .taken)
 
 abbrev taken : tie.After-elaborated-rule → tie.Then2
 taken c = c .before .before .before .before .before .before .before
@@ -49,7 +49,8 @@ slice-write-outrun c =
       arith,
       room (taken c),
       sized .bytes .ensures,
-      bytes-record (start .args .step .now) (start .pre),
+      bytes-least (start .args .step .now),
+      start .pre,
       c .before .before .before .before .paste .kept .0,
     )
 
@@ -59,8 +60,8 @@ returns-2 c b t run stands =
     let sized = went .before .before in
     let free = sized .before in
     let start = free .before .before .before in
-    add-copied (start .args .outrun .now) t (start .args .out) stands (octets free) (start .pre)
-    (sized .bytes .ensures) (free .if1 .left) (room (taken c) .0) (room (taken c) .1)
+    add-copied stands (octets free) (start .args .outrun .now) t (start .args .out) (free .if1 .left)
+    (sized .bytes .ensures) (went .goes-in .ensures) (taken c .if2 .taken)
     (ap (λ k. take k (start .args .step .now)) (sub-zero (sized .bytes .result)))
     (c .before .before .before .before .paste .ensures) (c .elaborated-rule .ensures) (c .before .byte .ensures)
 
@@ -69,8 +70,8 @@ returns-3 c b t run stands =
     let went = c .before in
     let sized = went .before .before in
     let free = sized .before in
-    add-full b _ t _ _ (sized .bytes .ensures ∙ sym (length-copied (right stands) (octets free) b))
-    (free .if1 .left) (went .goes-in .ensures) (c .if2 .left)
+    add-full stands (octets free) _ t _ (free .if1 .left) (sized .bytes .ensures) (went .goes-in .ensures)
+    (c .if2 .left)
 
 pub add-step-spec : {M : Type 1} → statement M
 add-step-spec =

@@ -1,7 +1,7 @@
 -- The laws are those of ElaboratedStep, for rule 6 and for the others.
 use borrow.Author.Needs.{needs}
-use Rattle.runs.proofs.Standing.{stands-record}
-use Rattle.runs.proofs.ElaboratedStep.{literals-ready, six-stepped, other-stepped}
+use Rattle.runs.proofs.Standing.{stands-record, stands-literals}
+use Rattle.runs.proofs.ElaboratedStep.{six-stepped, other-stepped}
 use Rattle.runs.proofs.farkas.elaborate_step.Statement.{statement}
 use Rattle.runs.proofs.farkas.elaborate_step.Tie as tie
 
@@ -18,7 +18,7 @@ start c = added c .before .before .before .before .before .before .before .befor
 bounded-farkas-requires : tie.Need-bounded-farkas-requires
 bounded-farkas-requires c κs =
     let pre = start (c .before .before .before .before .before .before) .pre in
-    (pre .0, literals-ready (pre .1) _ (c .before .before .before .clause .ensures))
+    (pre .0, stands-literals (pre .1) (c .before .before .before .clause .ensures))
 
 returns : tie.Need-returns
 returns c =

@@ -2,7 +2,8 @@
 use mathlib.Core.Path.{_≡_, sym, _∙_}
 use Prim.Native.Nat.{_-_}
 use borrow.Author.Needs.{needs}
-use Rattle.runs.proofs.StepReading.{Right, right-begin, right-on, right-end, byte-wrong, number-wrong, isLiteral}
+use Rattle.runs.proofs.RowRecords.{isLiteral}
+use Rattle.runs.proofs.StepReading.{Right, right-begin, right-on, right-end, byte-wrong, number-wrong}
 use Rattle.runs.proofs.run.all_literals.Statement.{statement}
 use Rattle.runs.proofs.run.all_literals.Tie as tie
 

@@ -1,0 +1,32 @@
+-- The marking is that of `check`. Its count of steps goes into 32 bits (`marked-fits` of AnswerBounds), so its numbers are
+-- shown as they are.
+use mathlib.Core.Path.{ap, _∙_}
+use borrow.Author.Needs.{needs}
+use Rattle.runs.specs.declared.check.Marked.{Marked}
+use Rattle.yirtabun.specs.Answers.{shown}
+use Rattle.yirtabun.proofs.AnswerBounds.{marked-fits}
+use Rattle.yirtabun.proofs.AnswerBytes.{ofMarked}
+use Rattle.yirtabun.proofs.yirtabun_check.Statement.{statement}
+use Rattle.yirtabun.proofs.yirtabun_check.Tie as tie
+
+cast-steps : tie.Need-cast-show-marked
+cast-steps c = marked-fits _ _ _ _ (c .before .before .before .before .check .ensures .0)
+
+returns : tie.Need-returns
+returns c =
+    let shows = c .before .before in
+    let marks = shows .before .before .before .before .before .before .check .ensures in
+    let answer = shows .show-marked .ensures ∙ ap (shown _) (ap ofMarked (marks .0)) in
+    (ap (λ (r : Marked). r .verdict) (marks .0), (marks .1, answer))
+
+pub yirtabun-check-spec : {M : Type 1} → statement M
+yirtabun-check-spec =
+    tie.close
+    (tie.spec
+    (λ c κs. search needs)
+    (λ c. search needs)
+    cast-steps
+    (λ c κs. search needs)
+    (λ c. search needs)
+    (λ c. search needs)
+    returns)
