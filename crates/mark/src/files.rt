@@ -111,8 +111,8 @@ fn temporary_name(i: usize, name: &mut [u8]) -> usize
     0
 }
 
-// Makes a new file of the bytes beside the one that argument i names, and puts its name at the start of a buffer. Answers the name's length; 0
-// where that fails, and then no file is left.
+// Makes a new file of the bytes beside the one that argument i names, and puts its name at the start of a buffer.
+// Answers the name's length; 0 where that fails, and then no file is left.
 pub fn write_beside(i: usize, what: &[u8], text: &[u8], name: &mut [u8]) -> usize
     ensures { λ r. ⌜ Counts r (now (name .exit)) ⌝ }
 {

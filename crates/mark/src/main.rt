@@ -1,5 +1,5 @@
-// `mark BOOK` lists the records of a book file. `mark BOOK RUN [LIMIT]` marks a run over it. `mark --elaborate BOOK RUN LIMIT OUT_RUN OUT_TAIL`
-// writes the elaboration of its accepted steps and marks it again.
+// `mark BOOK` lists the records of a book file. `mark BOOK RUN [LIMIT]` marks a run over it. `mark --elaborate BOOK RUN
+// LIMIT OUT_RUN OUT_TAIL` writes the elaboration of its accepted steps and marks it again.
 mod elaboration;
 mod files;
 mod listing;

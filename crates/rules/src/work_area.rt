@@ -26,7 +26,7 @@ use crate::linear_comb::mul;
 use crate::linear_comb::neg;
 use terms::book::BookRead;
 use terms::book::byte;
-use terms::book::read_book;
+use terms::index::read_book_indexed;
 use terms::number::Checked;
 use terms::number::Number;
 
@@ -45,11 +45,11 @@ fn clear_all(work: &mut [u8])
 
 // Reads a book: the work area then holds the sorts of its records, and is 0 elsewhere.
 pub fn prepare(book: &[u8], work: &mut [u8]) -> BookRead
-    requires { ⌜ 2048 ≤ length (now work) ⌝ }
+    requires { ⌜ 8192 ≤ length (now work) ⌝ }
     ensures { λ r. ⌜ BookDone (now (book .entry)) (replicate (length (now (work .entry))) 0) (now (work .exit)) r ⌝ }
 {
     clear_all(work);
-    read_book(book, work)
+    read_book_indexed(book, work)
 }
 
 // ---- the parts of the work area

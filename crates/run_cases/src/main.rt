@@ -1,5 +1,6 @@
-// Replays the runs of the file `cases` (tools/run_cases.py makes it and says what it holds): each is marked, elaborated, and its elaboration is
-// marked again, in memory full of other bytes. Every answer, and every byte that is left, is compared with what the file says.
+// Replays the runs of the file `cases` (tools/run_cases.py makes it and says what it holds): each is marked,
+// elaborated, and its elaboration is marked again, in memory full of other bytes. Every answer, and every byte that is
+// left, is compared with what the file says.
 ghost use Prim.Native.Nat.{_≤_};
 ghost use lib.ListN.{length};
 use libc::STDOUT_FILENO;
@@ -15,7 +16,8 @@ const HEAD: usize = 48;
 
 const MOST: usize = 70000;
 
-// What the file says of a run: the limit and the lengths of the lent areas; the answer; whether its second marking agrees.
+// What the file says of a run: the limit and the lengths of the lent areas; the answer; whether its second marking
+// agrees.
 struct Case {
     limit: u32,
     work: usize,

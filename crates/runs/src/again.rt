@@ -1,4 +1,5 @@
-// Demand 3 on running code: a run is elaborated, its elaboration is marked again over book and tail, and both answers are compared.
+// Demand 3 on running code: a run is elaborated, its elaboration is marked again over book and tail, and both answers
+// are compared.
 ghost use mathlib.Core.Path.{_≡_};
 ghost use mathlib.Core.Bool.{true, not};
 ghost use Prim.Native.Nat.{_+_, _≤_};
@@ -9,7 +10,8 @@ ghost use Rattle.runs.specs.Check.{mark};
 ghost use Rattle.runs.specs.Elaborate.{Answer, area};
 ghost use Rattle.runs.specs.Demands.{Memory, answerTo, memoryAfter, isRefusal1to8, AllPremises};
 ghost use Rattle.runs.specs.Lent.{lent, elaboratedOf};
-ghost use Rattle.runs.specs.Again.{Second, second, joinedBook, answerAgain, agree, agreesAgain, secondAfter, MarkedAgain};
+ghost use Rattle.runs.specs.Again.{Second, second, joinedBook, answerAgain, agree, agreesAgain, secondAfter};
+ghost use Rattle.runs.specs.Again.{MarkedAgain};
 use crate::check::clear_from;
 use crate::elaborate::Elaborated;
 use crate::elaborate::elaborate;
@@ -27,7 +29,8 @@ pub struct Twice {
 
 // Puts book and tail one behind the other, and zeros behind them; only zeros where there is no room. Whether there is.
 fn join(book: &[u8], tail: &[u8], joined: &mut [u8]) -> bool
-    ensures { λ r. ⌜ r ≡ leb (length (now (book .entry)) + length (now (tail .entry))) (length (now (joined .entry))) ⌝ }
+    ensures { λ r. ⌜ r ≡ leb (length (now (book .entry)) + length (now (tail .entry)))
+        (length (now (joined .entry))) ⌝ }
     ensures { λ _. ⌜ now (joined .exit) ≡ area (length (now (joined .entry)))
         (joinedBook (length (now (joined .entry))) (now (book .entry)) (now (tail .entry))) ⌝ }
 {
@@ -43,9 +46,11 @@ fn join(book: &[u8], tail: &[u8], joined: &mut [u8]) -> bool
     false
 }
 
-// Whether the second marking accepts all, with the steps and visits of the first, and writes the same run and an empty tail.
+// Whether the second marking accepts all, with the steps and visits of the first, and writes the same run and an empty
+// tail.
 fn agree(first: Elaborated, second: Elaborated, run: &[u8], again: &[u8]) -> bool
-    ensures { λ r. ⌜ ((a c : Answer) → first ≡ elaboratedOf a → second ≡ elaboratedOf c → now (run .entry) ≡ a .run → now (again .entry) ≡ c .run →
+    ensures { λ r. ⌜ ((a c : Answer) → first ≡ elaboratedOf a → second ≡ elaboratedOf c → now (run .entry) ≡ a .run →
+        now (again .entry) ≡ c .run →
         r ≡ agree a c) ⌝ }
 {
     let verdict = first.verdict;
@@ -82,7 +87,8 @@ fn mark_again(
     againtail: &mut [u8],
 ) -> bool
     ensures { λ r. ⌜ ((m : Memory) → m .book ≡ now (book .entry) → length (m .work) ≡ length (now (work .entry)) →
-        first ≡ elaboratedOf (answerTo m limit) → now (outrun .entry) ≡ memoryAfter m limit .outRun → now (outtail .entry) ≡ memoryAfter m limit .outTail →
+        first ≡ elaboratedOf (answerTo m limit) → now (outrun .entry) ≡ memoryAfter m limit .outRun →
+        now (outtail .entry) ≡ memoryAfter m limit .outTail →
         MarkedAgain m limit (second (now (joined .entry)) (now (againrun .entry)) (now (againtail .entry))) r
         (now (work .exit)) (second (now (joined .exit)) (now (againrun .exit)) (now (againtail .exit)))) ⌝ }
 {
@@ -95,8 +101,9 @@ fn mark_again(
     if fits { agreed } else { false }
 }
 
-// Elaborates a run as `elaborate` does, joins book and tail, elaborates the written run over them, and says whether both agree. Under
-// demand 3's conditions it always says yes, where the second out areas are as large as the first and book and tail have room for 2,048 records.
+// Elaborates a run as `elaborate` does, joins book and tail, elaborates the written run over them, and says whether
+// both agree. Under demand 3's conditions it always says yes, where the second out areas are as large as the first and
+// book and tail have room for 2,048 records.
 pub fn elaborate_again(
     book: &[u8],
     run: &[u8],
@@ -108,13 +115,18 @@ pub fn elaborate_again(
     againrun: &mut [u8],
     againtail: &mut [u8],
 ) -> Twice
-    ensures { λ r. ⌜ r .first ≡ elaboratedOf (answerTo (lent (now (book .entry)) (now (run .entry)) (now (work .entry)) (now (outrun .entry)) (now (outtail .entry))) limit) ⌝ }
-    ensures { λ r. ⌜ r .again ≡ agreesAgain (lent (now (book .entry)) (now (run .entry)) (now (work .entry)) (now (outrun .entry)) (now (outtail .entry))) limit
+    ensures { λ r. ⌜ r .first ≡ elaboratedOf (answerTo (lent (now (book .entry)) (now (run .entry))
+        (now (work .entry)) (now (outrun .entry)) (now (outtail .entry))) limit) ⌝ }
+    ensures { λ r. ⌜ r .again ≡ agreesAgain (lent (now (book .entry)) (now (run .entry)) (now (work .entry))
+        (now (outrun .entry)) (now (outtail .entry))) limit
         (second (now (joined .entry)) (now (againrun .entry)) (now (againtail .entry))) ⌝ }
-    ensures { λ _. ⌜ lent (now (book .entry)) (now (run .entry)) (now (work .exit)) (now (outrun .exit)) (now (outtail .exit))
-        ≡ memoryAfter (lent (now (book .entry)) (now (run .entry)) (now (work .entry)) (now (outrun .entry)) (now (outtail .entry))) limit ⌝ }
+    ensures { λ _. ⌜ lent (now (book .entry)) (now (run .entry)) (now (work .exit)) (now (outrun .exit))
+        (now (outtail .exit))
+        ≡ memoryAfter (lent (now (book .entry)) (now (run .entry)) (now (work .entry)) (now (outrun .entry))
+        (now (outtail .entry))) limit ⌝ }
     ensures { λ _. ⌜ second (now (joined .exit)) (now (againrun .exit)) (now (againtail .exit))
-        ≡ secondAfter (lent (now (book .entry)) (now (run .entry)) (now (work .entry)) (now (outrun .entry)) (now (outtail .entry))) limit
+        ≡ secondAfter (lent (now (book .entry)) (now (run .entry)) (now (work .entry)) (now (outrun .entry))
+        (now (outtail .entry))) limit
         (second (now (joined .entry)) (now (againrun .entry)) (now (againtail .entry))) ⌝ }
     ensures { λ r. ⌜ (T (not (isRefusal1to8 (r .first .verdict))) →
         AllPremises (mark (limited limit) (now (book .entry)) (now (run .entry)) .steps) →

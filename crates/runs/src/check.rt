@@ -1,5 +1,5 @@
-// Marking (document 01's word for checking) a run with the trace off: the steps are checked in turn up to the first that is refused.
-// Refusals 1 to 7 come first, in document 01's order.
+// Marking (document 01's word for checking) a run with the trace off: the steps are checked in turn up to the first
+// that is refused. Refusals 1 to 7 come first, in document 01's order.
 ghost use mathlib.Core.Path.{_≡_};
 ghost use Prim.Native.Nat.{ℕ};
 ghost use lib.ListN.{length};
@@ -45,7 +45,8 @@ pub struct Marked {
 fn check_poly_simp_rel(book: &[u8], run: &[u8], step: &[u8], visits: u32) -> Verdict
     requires { ⌜ StandsIn (now book) (now run) (now step) ⌝ }
     requires { ⌜ stepIn (now book) (now step) .rule ≡ 8 ⌝ }
-    ensures { λ r. ⌜ ((l : ℕ) → r ≡ verdictOf (visitsAfter (checkStep (limited l) (stepsOf (now (book .entry)) (now (run .entry)))
+    ensures { λ r. ⌜ ((l : ℕ) → r ≡ verdictOf (visitsAfter (checkStep (limited l) (stepsOf (now (book .entry))
+        (now (run .entry)))
         (stepIn (now (book .entry)) (now (step .entry))) visits))) ⌝ }
 {
     let named = premises(step);
@@ -62,7 +63,8 @@ pub(crate) fn check_step(
     limit: u32,
 ) -> Verdict
     requires { ⌜ Ready (now book) (now work) × StandsIn (now book) (now run) (now step) ⌝ }
-    ensures { λ r. ⌜ r ≡ verdictOf (visitsAfter (checkStep (limited limit) (stepsOf (now (book .entry)) (now (run .entry)))
+    ensures { λ r. ⌜ r ≡ verdictOf (visitsAfter (checkStep (limited limit) (stepsOf (now (book .entry))
+        (now (run .entry)))
         (stepIn (now (book .entry)) (now (step .entry))) visits)) ⌝ }
     ensures { λ _. ⌜ now (work .exit) ≡ now (work .entry) ⌝ }
 {

@@ -25,7 +25,8 @@ pub(crate) struct Elaborating {
     pub out: Out,
 }
 
-// The answer: document 01's number of the refusal, or 0; how many steps were accepted; their visits; the bytes written to each out area.
+// The answer: document 01's number of the refusal, or 0; how many steps were accepted; their visits; the bytes written
+// to each out area.
 pub struct Elaborated {
     pub verdict: u8,
     pub steps: usize,
@@ -46,7 +47,8 @@ fn elaborate_steps(
 ) -> Elaborating
     requires { ⌜ Ready (now book) (now work) × (readRun (now book) (now run) ≡ ok (stepsOf (now book) (now run))) ⌝ }
     ensures { λ r. ⌜ Elaborates (now (book .entry)) (now (outrun .exit)) (now (outtail .exit)) r
-        (checkSteps (limited limit) (stepsOf (now (book .entry)) (now (run .entry))) (stepsOf (now (book .entry)) (now (run .entry))) 0) ⌝ }
+        (checkSteps (limited limit) (stepsOf (now (book .entry)) (now (run .entry))) (stepsOf (now (book .entry))
+        (now (run .entry))) 0) ⌝ }
 {
     let mut at = 0;
     let mut steps = 0;
@@ -147,8 +149,9 @@ fn close(outrun: &mut [u8], outtail: &mut [u8], e: Elaborating) -> Elaborated
     }
 }
 
-// Marks a run over a book, under a limit of visits, and writes the elaboration of its accepted steps: their run to the one out area, the
-// records that the book lacks to the other. The work area is zeros afterwards, and so is what is not written of the out areas.
+// Marks a run over a book, under a limit of visits, and writes the elaboration of its accepted steps: their run to the
+// one out area, the records that the book lacks to the other. The work area is zeros afterwards, and so is what is not
+// written of the out areas.
 pub fn elaborate(
     book: &[u8],
     run: &[u8],
@@ -157,19 +160,25 @@ pub fn elaborate(
     outrun: &mut [u8],
     outtail: &mut [u8],
 ) -> Elaborated
-    ensures { λ r. ⌜ r ≡ elaboratedOf (answerTo (lent (now (book .entry)) (now (run .entry)) (now (work .entry)) (now (outrun .entry)) (now (outtail .entry))) limit) ⌝ }
-    ensures { λ _. ⌜ lent (now (book .entry)) (now (run .entry)) (now (work .exit)) (now (outrun .exit)) (now (outtail .exit))
-        ≡ memoryAfter (lent (now (book .entry)) (now (run .entry)) (now (work .entry)) (now (outrun .entry)) (now (outtail .entry))) limit ⌝ }
-    ensures { λ _. ⌜ KnownState (lent (now (book .entry)) (now (run .entry)) (now (work .entry)) (now (outrun .entry)) (now (outtail .entry)))
+    ensures { λ r. ⌜ r ≡ elaboratedOf (answerTo (lent (now (book .entry)) (now (run .entry)) (now (work .entry))
+        (now (outrun .entry)) (now (outtail .entry))) limit) ⌝ }
+    ensures { λ _. ⌜ lent (now (book .entry)) (now (run .entry)) (now (work .exit)) (now (outrun .exit))
+        (now (outtail .exit))
+        ≡ memoryAfter (lent (now (book .entry)) (now (run .entry)) (now (work .entry)) (now (outrun .entry))
+        (now (outtail .entry))) limit ⌝ }
+    ensures { λ _. ⌜ KnownState (lent (now (book .entry)) (now (run .entry)) (now (work .entry)) (now (outrun .entry))
+        (now (outtail .entry)))
         (lent (now (book .entry)) (now (run .entry)) (now (work .exit)) (now (outrun .exit)) (now (outtail .exit)))
-        (answerTo (lent (now (book .entry)) (now (run .entry)) (now (work .entry)) (now (outrun .entry)) (now (outtail .entry))) limit) ⌝ }
+        (answerTo (lent (now (book .entry)) (now (run .entry)) (now (work .entry)) (now (outrun .entry))
+        (now (outtail .entry))) limit) ⌝ }
 {
     let e = opened(book, run, limit, work, outrun, outtail);
     clear_from(work, 0);
     close(outrun, outtail, e)
 }
 
-// The written part of the out run, given its byte count; the empty part where that is above the area or not a multiple of 4.
+// The written part of the out run, given its byte count; the empty part where that is above the area or not a multiple
+// of 4.
 pub fn written(outrun: &[u8], bytes: usize) -> &[u8]
     ensures { λ r. ⌜ now r ≡ writtenPart (now (outrun .entry)) bytes ⌝ }
 {

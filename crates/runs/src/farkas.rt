@@ -1,6 +1,6 @@
-// The elaborator, src/elaborator/local/farkas.rs: an accepted step is written to the out run, rule 6 as 5, with the numbers that it infers
-// as further arguments. They are written as they are found; a step that is refused is taken back by the counts, and what it wrote is
-// cleared at the end with all that lies behind the counts.
+// The elaborator, src/elaborator/local/farkas.rs: an accepted step is written to the out run, rule 6 as 5, with the
+// numbers that it infers as further arguments. They are written as they are found; a step that is refused is taken back
+// by the counts, and what it wrote is cleared at the end with all that lies behind the counts.
 ghost use mathlib.Core.Path.{_≡_};
 ghost use mathlib.Core.Bool.{false, _&&_};
 ghost use mathlib.Core.List.{List};
@@ -76,7 +76,8 @@ fn is_real(book: &[u8], id: usize, q: Number) -> bool
 
 // The record of the real constant q in the book; the number of records where there is none.
 fn find_real(book: &[u8], q: Number) -> usize
-    ensures { λ r. ⌜ r ≡ placeOr (findReal (count (now (book .entry))) (now (book .entry)) q 0) (count (now (book .entry))) ⌝ }
+    ensures { λ r. ⌜ r ≡ placeOr (findReal (count (now (book .entry))) (now (book .entry)) q 0) (count
+        (now (book .entry))) ⌝ }
 {
     let n = count(book);
     let mut id = 0;
@@ -154,7 +155,8 @@ fn goes_in(area: &[u8], at: usize, n: usize, most: usize) -> bool
 // Puts bytes at `at`, where there is room for them.
 pub fn paste(area: &mut [u8], at: usize, part: &[u8])
     requires { ⌜ at + length (now part) ≤ length (now area) ⌝ }
-    ensures { λ _. ⌜ now (area .exit) ≡ paste (now (area .entry)) at (now (part .entry)) (length (now (part .entry))) ⌝ }
+    ensures { λ _. ⌜ now (area .exit) ≡ paste (now (area .entry)) at (now (part .entry))
+        (length (now (part .entry))) ⌝ }
 {
     let mut k = 0;
     while k < part.len() {
@@ -192,7 +194,8 @@ fn add_arg(outrun: &mut [u8], out: Out, n: usize) -> Out
 // A constant behind those of the tail.
 fn add_constant(book: &[u8], outtail: &mut [u8], out: Out, q: Number) -> Out
     requires { ⌜ Proper q ⌝ }
-    ensures { λ r. ⌜ ((o : Bytes) → Writes (now (book .entry)) o (now (outtail .entry)) out o (now (outtail .exit)) r (withConstant q)) ⌝ }
+    ensures { λ r. ⌜ ((o : Bytes) → Writes (now (book .entry)) o (now (outtail .entry)) out o (now (outtail .exit)) r
+        (withConstant q)) ⌝ }
 {
     let run = out.run;
     let at = out.tail;
@@ -219,7 +222,8 @@ fn add_constant(book: &[u8], outtail: &mut [u8], out: Out, q: Number) -> Out
 
 // The place of q in the tail that is written; 0 where nothing is.
 fn place_of(outtail: &[u8], out: Out, q: Number) -> usize
-    ensures { λ r. ⌜ ((b o : Bytes) (w : Written) → out .full ≡ false → Holds b o (now (outtail .entry)) out w → r ≡ placeIn (w .tail) q) ⌝ }
+    ensures { λ r. ⌜ ((b o : Bytes) (w : Written) → out .full ≡ false → Holds b o (now (outtail .entry)) out w → r ≡
+        placeIn (w .tail) q) ⌝ }
     ensures { λ r. ⌜ r ≤ length (now (outtail .entry)) / 32 ⌝ }
 {
     let n = out.tail;
@@ -313,7 +317,8 @@ fn bounded_farkas(
     out: Out,
 ) -> Stepped
     requires { ⌜ Ready (now book) (now work) × (Inside (now book) (now literals) × (length (now literals) ≤ 16384)) ⌝ }
-    ensures { λ r. ⌜ SteppedLeft (now (book .entry)) (now (outrun .entry)) (now (outtail .entry)) out (now (outrun .exit)) (now (outtail .exit))
+    ensures { λ r. ⌜ SteppedLeft (now (book .entry)) (now (outrun .entry)) (now (outtail .entry)) out
+        (now (outrun .exit)) (now (outtail .exit))
         r (λ w. w) (traced (laGenericPartial (limited limit) (termsIn (now (book .entry)) (now (literals .entry)))
         (termsIn (now (book .entry)) (now (args .entry))) visits)) ⌝ }
     ensures { λ _. ⌜ now (work .exit) ≡ now (work .entry) ⌝ }
@@ -362,9 +367,11 @@ pub fn elaborate_step(
     out: Out,
 ) -> Stepped
     requires { ⌜ Ready (now book) (now work) × StandsIn (now book) (now run) (now step) ⌝ }
-    ensures { λ r. ⌜ SteppedLeft (now (book .entry)) (now (outrun .entry)) (now (outtail .entry)) out (now (outrun .exit)) (now (outtail .exit))
+    ensures { λ r. ⌜ SteppedLeft (now (book .entry)) (now (outrun .entry)) (now (outtail .entry)) out
+        (now (outrun .exit)) (now (outtail .exit))
         r (withStep (stepIn (now (book .entry)) (now (step .entry))))
-        (checkStep (limited limit) (stepsOf (now (book .entry)) (now (run .entry))) (stepIn (now (book .entry)) (now (step .entry))) visits) ⌝ }
+        (checkStep (limited limit) (stepsOf (now (book .entry)) (now (run .entry))) (stepIn (now (book .entry))
+        (now (step .entry))) visits) ⌝ }
     ensures { λ _. ⌜ now (work .exit) ≡ now (work .entry) ⌝ }
 {
     let longer = add_step(outrun, out, step);

@@ -1,5 +1,6 @@
-// A run (document 01's word): 4-byte records, a mark, a byte and a 16-bit number. S opens a step, its byte the rule; then P, the number
-// of an earlier step, C, a Bool term, and A, a term, in that order. A step is handed on as the part of the run that starts with its S.
+// A run (document 01's word): 4-byte records, a mark, a byte and a 16-bit number. S opens a step, its byte the rule;
+// then P, the number of an earlier step, C, a Bool term, and A, a term, in that order. A step is handed on as the part
+// of the run that starts with its S.
 ghost use mathlib.Core.Path.{_≡_};
 ghost use mathlib.Core.Bool.{_&&_};
 ghost use Prim.Native.Nat.{_+_, _≤_};
@@ -144,7 +145,8 @@ fn is_literal(sorts: &[u8], n: usize, c: usize) -> bool
 // Whether each record's byte is 0 and its number that of a Bool term.
 fn all_literals(book: &[u8], sorts: &[u8], part: &[u8]) -> bool
     requires { ⌜ SortsBelow (count (now book)) (now book) (now sorts) ⌝ }
-    ensures { λ r. ⌜ r ≡ allRight (λ c. ltb c (count (now (book .entry))) && sameSort (sort (tree (now (book .entry)) c)) bool)
+    ensures { λ r. ⌜ r ≡ allRight (λ c. ltb c (count (now (book .entry))) && sameSort (sort (tree (now (book .entry))
+        c)) bool)
         (recs (now (part .entry))) ⌝ }
 {
     let n = count(book);

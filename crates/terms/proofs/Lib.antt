@@ -23,6 +23,7 @@ pub mod SortRules
 pub mod SortCodes
 pub mod RecordSorts
 pub mod BookReading
+pub mod RecordChains
 pub mod RecordReadings
 pub mod Children
 pub mod Findings

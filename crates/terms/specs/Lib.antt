@@ -4,6 +4,7 @@ pub mod Bytes
 pub mod Operator
 pub mod Term
 pub mod Book
+pub mod RecordIndex
 pub mod Sorting
 pub mod Readers
 pub mod Smtlib

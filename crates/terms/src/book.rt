@@ -115,9 +115,10 @@ fn stands(book: &[u8], n: usize, r: &[u8]) -> bool
     false
 }
 
-// Refusal 3, 4 or 5 of a record, or its sort, given the sorts of the records before it.
-fn read_record(book: &[u8], id: usize, sorts: &[u8]) -> RecordRead
-    requires { ⌜ SortsBelow id (now book) (now sorts) ⌝ }
+// Refusal 3, 4 or 5 of a record, or its sort, given the sorts of the records before it and whether one of them has its
+// bytes.
+pub(crate) fn record_read(book: &[u8], id: usize, sorts: &[u8], again: bool) -> RecordRead
+    requires { ⌜ SortsBelow id (now book) (now sorts) × (again ≡ stands id (now book) (recordOf (now book) id)) ⌝ }
     ensures { λ r. ⌜ r ≡ recordRead (now (book .entry)) id ⌝ }
 {
     let r = record(book, id);
@@ -125,12 +126,21 @@ fn read_record(book: &[u8], id: usize, sorts: &[u8]) -> RecordRead
         let Sorting::Of(s) = sort_of(r, id, sorts) else {
             return RecordRead::Refused(4);
         };
-        if stands(book, id, r) {
+        if again {
             return RecordRead::Refused(5);
         }
         return RecordRead::Sorted(s);
     }
     RecordRead::Refused(3)
+}
+
+// The same, by a comparison with each record before it.
+fn read_record(book: &[u8], id: usize, sorts: &[u8]) -> RecordRead
+    requires { ⌜ SortsBelow id (now book) (now sorts) ⌝ }
+    ensures { λ r. ⌜ r ≡ recordRead (now (book .entry)) id ⌝ }
+{
+    let again = stands(book, id, record(book, id));
+    record_read(book, id, sorts, again)
 }
 
 // Reads a book by refusals 2 to 5, in document 01's order. The sort of each record that is read is left in a byte of

@@ -1,8 +1,9 @@
-// The checker for programs in C and Rust: the entry points of layer 3 under plain names, with numbers and byte slices alone. A slice is a
-// pointer and a length. Each function takes any bytes, any lengths and any limit; the slices of one call must not overlap.
+// The checker for programs in C and Rust: the entry points of layer 3 under plain names, with numbers and byte slices
+// alone. A slice is a pointer and a length. Each function takes any bytes, any lengths and any limit; the slices of one
+// call must not overlap.
 //
-// The answer is the verdict; the other numbers, four bytes each with the lowest first, are put into a slice that the caller lends. A slice that is
-// too short for them takes as many bytes as it has, a longer one gets zeros behind them.
+// The answer is the verdict; the other numbers, four bytes each with the lowest first, are put into a slice that the
+// caller lends. A slice that is too short for them takes as many bytes as it has, a longer one gets zeros behind them.
 ghost use mathlib.Core.Path.{_≡_};
 ghost use mathlib.Core.List.{[], _∷_};
 ghost use lib.ListN.{length};
@@ -30,7 +31,8 @@ fn show(text: &[u8], answer: &mut [u8])
 
 // Puts the numbers of a marking into a slice: 12 bytes.
 fn show_marked(verdict: u32, steps: u32, visits: u32, answer: &mut [u8])
-    ensures { λ _. ⌜ now (answer .exit) ≡ shown (length (now (answer .entry))) (numberBytes (verdict ∷ steps ∷ visits ∷ [])) ⌝ }
+    ensures { λ _. ⌜ now (answer .exit) ≡ shown (length (now (answer .entry))) (numberBytes (verdict ∷ steps ∷ visits
+        ∷ [])) ⌝ }
 {
     let mut text = [0u8; 12];
     write_u32(&mut text, 0, verdict);
@@ -53,7 +55,8 @@ fn show_elaborated(verdict: u32, steps: u32, visits: u32, run: u32, tail: u32, a
     show(&text, answer);
 }
 
-// Marks a run over a book, under a limit of visits. The answer has 12 bytes: verdict, accepted steps, visits. The work area is zeros afterwards.
+// Marks a run over a book, under a limit of visits. The answer has 12 bytes: verdict, accepted steps, visits. The work
+// area is zeros afterwards.
 #[no_mangle]
 pub extern "C" fn yirtabun_check(
     book: &[u8],
@@ -65,7 +68,8 @@ pub extern "C" fn yirtabun_check(
     ensures { λ r. ⌜ r ≡ check (now (book .entry)) (now (run .entry)) limit (length (now (work .entry))) .verdict ⌝ }
     ensures { λ _. ⌜ now (work .exit) ≡ zeros (now (work .entry)) ⌝ }
     ensures { λ _. ⌜ now (answer .exit) ≡ shown (length (now (answer .entry)))
-        (numberBytes (markedNumbers (check (now (book .entry)) (now (run .entry)) limit (length (now (work .entry)))))) ⌝ }
+        (numberBytes (markedNumbers (check (now (book .entry)) (now (run .entry)) limit
+        (length (now (work .entry)))))) ⌝ }
 {
     let m = check(book, run, limit, work);
     let verdict = m.verdict as u32;
@@ -73,8 +77,9 @@ pub extern "C" fn yirtabun_check(
     verdict
 }
 
-// Marks a run and elaborates its accepted steps. The answer has 20 bytes: verdict, accepted steps, visits, bytes written to the out run and to the
-// out tail. The work area is zeros afterwards; each out area has what is written, and then zeros.
+// Marks a run and elaborates its accepted steps. The answer has 20 bytes: verdict, accepted steps, visits, bytes
+// written to the out run and to the out tail. The work area is zeros afterwards; each out area has what is written, and
+// then zeros.
 #[no_mangle]
 pub extern "C" fn yirtabun_elaborate(
     book: &[u8],
@@ -85,11 +90,15 @@ pub extern "C" fn yirtabun_elaborate(
     outtail: &mut [u8],
     answer: &mut [u8],
 ) -> u32
-    ensures { λ r. ⌜ r ≡ answerTo (lent (now (book .entry)) (now (run .entry)) (now (work .entry)) (now (outrun .entry)) (now (outtail .entry))) limit .verdict ⌝ }
-    ensures { λ _. ⌜ lent (now (book .entry)) (now (run .entry)) (now (work .exit)) (now (outrun .exit)) (now (outtail .exit))
-        ≡ memoryAfter (lent (now (book .entry)) (now (run .entry)) (now (work .entry)) (now (outrun .entry)) (now (outtail .entry))) limit ⌝ }
+    ensures { λ r. ⌜ r ≡ answerTo (lent (now (book .entry)) (now (run .entry)) (now (work .entry))
+        (now (outrun .entry)) (now (outtail .entry))) limit .verdict ⌝ }
+    ensures { λ _. ⌜ lent (now (book .entry)) (now (run .entry)) (now (work .exit)) (now (outrun .exit))
+        (now (outtail .exit))
+        ≡ memoryAfter (lent (now (book .entry)) (now (run .entry)) (now (work .entry)) (now (outrun .entry))
+        (now (outtail .entry))) limit ⌝ }
     ensures { λ _. ⌜ now (answer .exit) ≡ shown (length (now (answer .entry))) (numberBytes (elaboratedNumbers
-        (answerTo (lent (now (book .entry)) (now (run .entry)) (now (work .entry)) (now (outrun .entry)) (now (outtail .entry))) limit))) ⌝ }
+        (answerTo (lent (now (book .entry)) (now (run .entry)) (now (work .entry)) (now (outrun .entry))
+        (now (outtail .entry))) limit))) ⌝ }
 {
     let e = elaborate(book, run, limit, work, outrun, outtail);
     let verdict = e.verdict as u32;
@@ -104,7 +113,8 @@ pub extern "C" fn yirtabun_elaborate(
     verdict
 }
 
-// How many bytes of the out run are written, given the byte count of the answer; 0 where the count is above the area or not a multiple of 4.
+// How many bytes of the out run are written, given the byte count of the answer; 0 where the count is above the area or
+// not a multiple of 4.
 #[no_mangle]
 pub extern "C" fn yirtabun_written(outrun: &[u8], bytes: usize) -> usize
     ensures { λ r. ⌜ r ≡ length (writtenPart (now (outrun .entry)) bytes) ⌝ }

@@ -1,54 +1,15 @@
--- The layout is tested first, then the sorts, then whether the record stands twice, as in the definition (`BookReading`).
-use mathlib.Core.Path.{_≡_}
-use mathlib.Core.Bool.{Bool, true, false, cond}
+-- The record's bytes are compared with those of each earlier record.
+use mathlib.Core.Path.{_∙_, ap}
 use borrow.Author.Needs.{needs}
-use Rattle.terms.specs.Book.{recordRead}
-use Rattle.terms.specs.declared.book.RecordRead.the-variants.{Sorted, Refused}
-use Rattle.terms.proofs.BookReading.{Judged, judged, refused-layout, refused-sort, sorted-once}
+use Rattle.terms.specs.Book.{stands}
 use Rattle.terms.proofs.book.read_record.Statement.{statement}
 use Rattle.terms.proofs.book.read_record.Tie as tie
 
-abbrev start : tie.After-sort-of → tie.Start
-start c = c .before .before .before .before .before .before
-
-judge : (c : tie.After-sort-of) → Judged (start c .args .book .now) (start c .args .id) (c .sort-of .result)
-judge c =
-    let layout = c .before .before in
-    judged _ _ _ (layout .before .«record» .ensures) _ (layout .layout-ok .ensures)
-    _ (start c .pre) (c .before .if1 .taken) _ (c .sort-of .ensures)
-
-abbrev sorted : tie.After-stands → tie.After-sort-of
-sorted c = c .before .before .before .before
-
-stood : (c : tie.After-stands) (t : Bool) → c .stands .result ≡ t → cond t (Refused 5) (Sorted (c .before .before .s .given .0 .0)) ≡ recordRead (start (sorted c) .args .book .now) (start (sorted c) .args .id)
-stood c t h =
-    sorted-once _ _ _ (judge (sorted c)) _ (c .before .before .s .given .1)
-    _ (sorted c .before .before .before .«record» .ensures) _ (c .stands .ensures) t h
-
-returns : tie.Need-returns
-returns c = refused-sort _ _ _ (judge (c .before .before)) (c .enum-told .given .1)
-
-returns-2 : tie.Need-returns-2
-returns-2 c = stood (c .before) true (c .if2 .taken)
-
-returns-3 : tie.Need-returns-3
-returns-3 c = stood (c .before) false (c .if2 .left)
-
-returns-4 : tie.Need-returns-4
-returns-4 c =
-    refused-layout _ _ _ (c .before .before .«record» .ensures) _ (c .before .layout-ok .ensures) (c .if1 .left)
+record-read-requires : tie.Need-record-read-requires
+record-read-requires c κs =
+    let start = c .before .before .before .before in
+    (start .pre, c .stands .ensures ∙ ap (stands _ _) (c .before .«record» .ensures))
 
 pub read-record-spec : {M : Type 1} → statement M
 read-record-spec =
-    tie.close
-    (tie.spec
-    (λ c κs. search needs)
-    (λ c κs. search needs)
-    (λ c κs. search needs)
-    (λ c. search needs)
-    (λ c. search needs)
-    returns
-    (λ c κs. search needs)
-    returns-2
-    returns-3
-    returns-4)
+    tie.close (tie.spec (λ c κs. search needs) (λ c κs. search needs) record-read-requires (λ c. search needs))

@@ -1,0 +1,482 @@
+-- The index of records, by its chains.
+--   Hashing: the loop over a record's bytes computes the number of its chain.
+--   Searching: the loop along a chain. Every equal record is still ahead on it, so at its end there is none.
+--   entered-all: once a record is entered, the index holds one record more, and the bytes beside it are the same.
+--   Emptying: the loop that empties the index.
+--   Indexing: the loop over the records, which is `Reading` of BookReading with the index beside the sorts.
+--   left-cleared: once the index is emptied, the book is read as `BookDone` says.
+use mathlib.Core.Path.{_≡_, refl, sym, _∙_, ap}
+use mathlib.Core.Bool.{Bool, true, false}
+use mathlib.Core.Logic.{_≢_, _⊎_, ⊎-elim, inl, inr}
+use mathlib.Core.List.{[], _∷_}
+use Prim.Native.Nat.{ℕ, zero, suc, _+_, _*_, _-_, _/_, _%_, _≤_, _<_}
+use native.Mathlib.Numerals.{add-one}
+use native.Mathlib.Omega.{arith}
+use borrow.Author.Tests.{eqb-true, eqb-false, ltb-true, ltb-false}
+use lib.Dec.{eqb, ltb}
+use lib.ListN.{length, getD, set, drop, replicate, length-set, length-replicate, getD-replicate, drop-of-length-le}
+use lib.ListN.{List·getD-eq-default}
+use lib.Seq.{drop-cons, ext-getD, getD-set-same, getD-set-other}
+use Rattle.terms.specs.Bytes.{Bytes, digits, put}
+use Rattle.terms.specs.Book.{recordOf, sameBytes, stands, recordRead, recordsRead, putSorts, SortsBelow, BookDone}
+use Rattle.terms.specs.RecordIndex.{hashFrom, chain, headOf, linkOf, On, Indexed, Unused, Beside, BookLeft}
+use Rattle.terms.specs.RecordIndex.On.{here, later}
+use Rattle.terms.specs.declared.book.BookRead.{BookRead}
+use Rattle.terms.specs.declared.book.BookRead.the-variants.{Records, RefusedAt}
+use Rattle.terms.specs.declared.book.RecordRead.{RecordRead}
+use Rattle.terms.specs.declared.book.RecordRead.the-variants.{Sorted, Refused}
+use Rattle.terms.proofs.LittleEndian.{le-inside, le-agree, le-put-elsewhere, byte-put-elsewhere, length-put}
+use Rattle.terms.proofs.LittleEndian.{read-after-write-small}
+use Rattle.terms.proofs.Records.{sameBytes-true, stands-found}
+use Rattle.terms.proofs.BookReading.{Reading, length-putSorts, reading-none, reading-more, reading-refused}
+use Rattle.terms.proofs.BookReading.{reading-done, refused-whole, refused-count}
+
+-- ---- the hash
+
+-- h is the hash of the first k bytes
+pub record Hashing (r : Bytes) (h k : ℕ) : Type 0 where
+  pub small : h < 65536
+  pub is : hashFrom 0 r ≡ hashFrom h (drop k r)
+
+pub hashing-none : (r : Bytes) → Hashing r 0 0
+hashing-none r = record { small = omega arith; is = refl }
+
+hash-next :
+    (r : Bytes) (h k : ℕ) → k < length r →
+    hashFrom h (drop k r) ≡ hashFrom ((40503 * h + getD r k 0) % 65536) (drop (k + 1) r)
+unfolding hashFrom
+hash-next r h k short = rw (drop-cons r k 0 short, add-one, hashFrom)
+
+hash-below : (r : Bytes) (h : ℕ) → h < 65536 → hashFrom h r < 65536
+unfolding hashFrom
+hash-below [] h small = small
+hash-below (x ∷ r) h small = hash-below r ((40503 * h + x) % 65536) (omega arith)
+
+pub chain-below : (r : Bytes) → chain r < 1024
+unfolding chain
+chain-below r = omega (arith, hash-below r 0 (omega arith))
+
+module _ (r : Bytes) (h k : ℕ) (hashing : Hashing r h k) where
+  pub hashing-next : k < length r → (x : ℕ) → x ≡ getD r k 0 → Hashing r ((40503 * h + x) % 65536) (k + 1)
+  hashing-next short x is = rw is (record { small = omega arith; is = hashing .is ∙ hash-next r h k short })
+
+  pub hashing-end : length r ≤ k → (h / 64 ≡ chain r) × (h / 64 < 1024)
+  unfolding chain hashFrom
+  hashing-end end =
+      let all : hashFrom 0 r ≡ h = hashing .is ∙ ap (hashFrom h) (drop-of-length-le r end) in
+      (ap (λ (x : ℕ). x / 64) (sym all), omega (arith, hashing .small))
+
+-- ---- the search
+
+stands-nowhere :
+    (b r : Bytes) (n : ℕ) → ((j : ℕ) → j < n → sameBytes (recordOf b j) r ≡ false) → stands n b r ≡ false
+unfolding stands
+stands-nowhere b r zero none = refl
+stands-nowhere b r (suc n) none =
+    let before : stands n b r ≡ false = stands-nowhere b r n (λ j h. none j (omega arith)) in
+    rw (before, stands) (none n (omega arith))
+
+-- k is next on the chain, and each of the first n records that has the bytes r is still ahead
+pub record Searching (n : ℕ) (b w r : Bytes) (k : ℕ) : Type 0 where
+  pub below : k ≤ n
+  pub ahead : (j : ℕ) → j < n → sameBytes (recordOf b j) r ≡ true → On w j k
+
+pub compared :
+    (b r x : Bytes) (k : ℕ) (t u : Bool) → x ≡ recordOf b k → t ≡ sameBytes x r → t ≡ u → sameBytes (recordOf b k) r ≡ u
+compared b r x k t u is same h = rw (← is) (sym same ∙ h)
+
+none-ahead : (w : Bytes) (j : ℕ) → On w j 0 → ⊥
+none-ahead w j (here l e) = omega arith
+none-ahead w j (later l m e o) = omega arith
+
+not-here :
+    (b w r : Bytes) (j k : ℕ) → sameBytes (recordOf b (k - 1)) r ≡ false → sameBytes (recordOf b j) r ≡ true →
+    On w j k → On w j (linkOf w (k - 1))
+not-here b w r j k differ same (here l e) =
+    let at : k - 1 ≡ j = omega arith in
+    let differs : sameBytes (recordOf b j) r ≡ false = rw at at differ in
+    let both : _≡_ {A = ℕ} 0 1 = cc in
+    absurd (omega arith)
+not-here b w r j k differ same (later l m e o) = let at : k - 1 ≡ m = omega arith in rw at o
+
+module _ (n : ℕ) (b w : Bytes) (indexed : Indexed n b w) (r : Bytes) where
+  pub searching-first : (c k : ℕ) → c ≡ chain r → k ≡ headOf w c → Searching n b w r k
+  searching-first c k chained first =
+      let is : k ≡ headOf w (chain r) = first ∙ ap (headOf w) chained in
+      record {
+        below = rw is (indexed .heads (chain r) (chain-below r));
+        ahead = λ j h same. rw (is, ← sameBytes-true (recordOf b j) r same) (indexed .on j h);
+      }
+
+  module _ (k : ℕ) (searching : Searching n b w r k) where
+    pub link-falls : 0 < k → linkOf w (k - 1) < k
+    link-falls more = omega (arith, searching .below, indexed .links (k - 1) (omega (arith, searching .below)))
+
+    pub searching-next :
+        0 < k → sameBytes (recordOf b (k - 1)) r ≡ false → (l : ℕ) → l ≡ linkOf w (k - 1) → Searching n b w r l
+    searching-next more differ l is =
+        record {
+          below = omega (arith, is, link-falls more, searching .below);
+          ahead = λ j h same. rw is (not-here b w r j k differ same (searching .ahead j h same));
+        }
+
+    pub searching-found : 0 < k → sameBytes (recordOf b (k - 1)) r ≡ true → true ≡ stands n b r
+    searching-found more same = sym (stands-found b r n (k - 1) (omega (arith, searching .below)) same)
+
+    pub searching-end : k ≤ 0 → false ≡ stands n b r
+    searching-end end = sym (stands-nowhere b r n (λ j h. go j h (sameBytes (recordOf b j) r) refl))
+      where
+        none : k ≡ 0
+        none = omega arith
+
+        go : (j : ℕ) → j < n → (t : Bool) → sameBytes (recordOf b j) r ≡ t → t ≡ false
+        go j h true same = absurd (none-ahead w j (rw none at (searching .ahead j h same)))
+        go j h false same = refl
+
+-- ---- what changes the index and what does not
+
+beside-same : (w : Bytes) → Beside w w
+beside-same w = record { long = refl; same = λ j h. refl }
+
+-- a chain of numbers up to n stays where the links below n do
+chain-kept :
+    (n : ℕ) (w v : Bytes) → ((m : ℕ) → m < n → linkOf w m ≤ m) → ((m : ℕ) → m < n → linkOf v m ≡ linkOf w m) →
+    (j k : ℕ) → k ≤ n → On w j k → On v j k
+chain-kept n w v falls agree j k h (here l e) = here k e
+chain-kept n w v falls agree j k h (later l m e o) =
+    let less : m < n = omega arith in
+    later k m e (rw (agree m less) (chain-kept n w v falls agree j (linkOf w m) (omega (arith, falls m less)) o))
+
+-- the index looks at its own bytes alone
+pub indexed-elsewhere :
+    (n : ℕ) (b w v : Bytes) → length v ≡ length w →
+    ((j : ℕ) → 2048 ≤ j → j < 8192 → getD v j 0 ≡ getD w j 0) → Indexed n b w → Indexed n b v
+indexed-elsewhere n b w v long same indexed =
+    record {
+      room = rw long (indexed .room);
+      few = indexed .few;
+      heads = λ c h. rw (head c h) (indexed .heads c h);
+      links = λ m h. rw (link m h) (indexed .links m h);
+      on =
+          λ j h.
+          let below = chain-below (recordOf b j) in
+          rw (head (chain (recordOf b j)) below)
+          (chain-kept n w v (indexed .links) link j _ (indexed .heads _ below) (indexed .on j h));
+    }
+  where
+    head : (c : ℕ) → c < 1024 → headOf v c ≡ headOf w c
+    head c h = le-agree 2 v w (2048 + 2 * c) long (λ j p q. same j (omega arith) (omega arith))
+
+    link : (m : ℕ) → m < n → linkOf v m ≡ linkOf w m
+    link m h = le-agree 2 v w (4096 + 2 * m) long (λ j p q. same j (omega arith) (omega (arith, indexed .few)))
+
+pub indexed-none : (b w : Bytes) → 8192 ≤ length w → Unused w → Indexed 0 b w
+unfolding digits
+indexed-none b w room unused =
+    record {
+      room = room;
+      few = omega arith;
+      heads =
+          λ c h.
+          omega (
+            arith,
+            le-inside 2 w (2048 + 2 * c) (omega arith),
+            unused .zero (2048 + 2 * c) (omega arith) (omega arith),
+            unused .zero (2048 + 2 * c + 1) (omega arith) (omega arith),
+          );
+      links = λ m h. absurd (omega arith);
+      on = λ j h. absurd (omega arith);
+    }
+
+-- record i is entered at the front of chain c
+module _ (i : ℕ) (b w : Bytes) (indexed : Indexed i b w) (more : i < 2048) (c : ℕ) (is : c ≡ chain (recordOf b i)) (below : c < 1024) where
+  abbrev linked : Bytes
+  linked = put 2 (headOf w c) w (4096 + 2 * i)
+
+  abbrev pub entered : Bytes
+  entered = put 2 (i + 1) linked (2048 + 2 * c)
+
+  long : length entered ≡ length w
+  long = length-put 2 (i + 1) linked (2048 + 2 * c) ∙ length-put 2 (headOf w c) w (4096 + 2 * i)
+
+  link-kept : (m : ℕ) → m < i → linkOf entered m ≡ linkOf w m
+  link-kept m h =
+      le-put-elsewhere 2 2 (i + 1) linked (2048 + 2 * c) (4096 + 2 * m) (inr (omega arith))
+      ∙ le-put-elsewhere 2 2 (headOf w c) w (4096 + 2 * i) (4096 + 2 * m) (inl (omega arith))
+
+  link-new : linkOf entered i ≡ headOf w c
+  link-new =
+      let small : headOf w c < 65536 = omega (arith, indexed .heads c below) in
+      le-put-elsewhere 2 2 (i + 1) linked (2048 + 2 * c) (4096 + 2 * i) (inr (omega arith))
+      ∙ read-after-write-small 2 (headOf w c) w (4096 + 2 * i) (omega (arith, indexed .room)) small
+
+  head-kept : (g : ℕ) → g < 1024 → g ≢ c → headOf entered g ≡ headOf w g
+  head-kept g h other =
+      le-put-elsewhere 2 2 (i + 1) linked (2048 + 2 * c) (2048 + 2 * g) (apart (ltb g c) refl)
+      ∙ le-put-elsewhere 2 2 (headOf w c) w (4096 + 2 * i) (2048 + 2 * g) (inl (omega arith))
+    where
+      apart :
+          (t : Bool) → ltb g c ≡ t → (2048 + 2 * g + 2 ≤ 2048 + 2 * c) ⊎ (2048 + 2 * c + 2 ≤ 2048 + 2 * g)
+      apart true e = inl (omega (arith, ltb-true g c e))
+      apart false e = inr (omega (arith, ltb-false g c e))
+
+  head-new : headOf entered c ≡ i + 1
+  head-new =
+      let small : i + 1 < 65536 = omega arith in
+      read-after-write-small 2 (i + 1) linked (2048 + 2 * c)
+      (omega (arith, indexed .room, length-put 2 (headOf w c) w (4096 + 2 * i))) small
+
+  kept : (j k : ℕ) → k ≤ i → On w j k → On entered j k
+  kept = chain-kept i w entered (indexed .links) link-kept
+
+  -- from the front of chain c, all that was on it is behind the new record
+  behind : (j : ℕ) → On w j (headOf w c) → On entered j (headOf entered c)
+  behind j o = later _ i head-new (rw link-new (kept j (headOf w c) (indexed .heads c below) o))
+
+  on-chain : (j g : ℕ) → g < 1024 → On w j (headOf w g) → On entered j (headOf entered g)
+  on-chain j g h o = go (eqb g c) refl
+    where
+      go : (t : Bool) → eqb g c ≡ t → On entered j (headOf entered g)
+      go true e = rw (eqb-true g c e) (behind j (rw (eqb-true g c e) at o))
+      go false e = rw (head-kept g h (eqb-false g c e)) (kept j (headOf w g) (indexed .heads g h) o)
+
+  pub indexed-more : Indexed (i + 1) b entered
+  indexed-more = record { room = rw long (indexed .room); few = omega arith; heads = heads; links = links; on = on }
+    where
+      heads : (g : ℕ) → g < 1024 → headOf entered g ≤ i + 1
+      heads g h = go (eqb g c) refl
+        where
+          go : (t : Bool) → eqb g c ≡ t → headOf entered g ≤ i + 1
+          go true e = rw (eqb-true g c e, head-new) (omega arith)
+          go false e = rw (head-kept g h (eqb-false g c e)) (omega (arith, indexed .heads g h))
+
+      links : (m : ℕ) → m < i + 1 → linkOf entered m ≤ m
+      links m h = go (eqb m i) refl
+        where
+          go : (t : Bool) → eqb m i ≡ t → linkOf entered m ≤ m
+          go true e = rw (eqb-true m i e, link-new) (indexed .heads c below)
+          go false e =
+              let other : m ≢ i = eqb-false m i e in
+              let less : m < i = omega arith in
+              rw (link-kept m less) (indexed .links m less)
+
+      on : (j : ℕ) → j < i + 1 → On entered j (headOf entered (chain (recordOf b j)))
+      on j h = go (eqb j i) refl
+        where
+          go : (t : Bool) → eqb j i ≡ t → On entered j (headOf entered (chain (recordOf b j)))
+          go true e = rw (eqb-true j i e, ← is) (here _ head-new)
+          go false e =
+              let other : j ≢ i = eqb-false j i e in
+              on-chain j _ (chain-below (recordOf b j)) (indexed .on j (omega arith))
+
+  pub entered-beside : Beside entered w
+  entered-beside =
+      record {
+        long = long;
+        same =
+            λ j beside.
+            byte-put-elsewhere 2 (i + 1) linked (2048 + 2 * c) j (apart j _ (omega arith) (omega arith) beside)
+            ∙ byte-put-elsewhere 2 (headOf w c) w (4096 + 2 * i) j (apart j _ (omega arith) (omega arith) beside);
+      }
+    where
+      apart : (j p : ℕ) → 2048 ≤ p → p + 2 ≤ 8192 → (j < 2048) ⊎ (8192 ≤ j) → (j < p) ⊎ (p + 2 ≤ j)
+      apart j p from to = ⊎-elim (λ h. inl (omega arith)) (λ h. inr (omega arith))
+
+pub entered-all :
+    (i : ℕ) (b w : Bytes) → Indexed i b w × (i < 2048) → (r : Bytes) → r ≡ recordOf b i →
+    (c : ℕ) → (c ≡ chain r) × (c < 1024) → (k : ℕ) → k ≡ headOf w c →
+    (v v′ : Bytes) → v ≡ put 2 k w (4096 + 2 * i) → v′ ≡ put 2 (i + 1) v (2048 + 2 * c) →
+    Indexed (i + 1) b v′ × Beside v′ w
+entered-all i b w start r is c chained k first v v′ linked entered =
+    let here : c ≡ chain (recordOf b i) = chained .0 ∙ ap chain is in
+    rw (entered, linked, first) (
+      indexed-more i b w (start .0) (start .1) c here (chained .1),
+      entered-beside i b w (start .0) (start .1) c here (chained .1),
+    )
+
+-- ---- emptying the index
+
+-- the bytes of the index before k are 0
+pub record Emptying (w₀ w : Bytes) (k : ℕ) : Type 0 where
+  pub from : 2048 ≤ k
+  pub inside : k ≤ 8192
+  pub zero : (j : ℕ) → 2048 ≤ j → j < k → getD w j 0 ≡ 0
+  pub beside : Beside w w₀
+
+pub emptying-none : (w : Bytes) → Emptying w w 2048
+emptying-none w =
+    record {
+      from = omega arith;
+      inside = omega arith;
+      zero = λ j p q. absurd (omega arith);
+      beside = beside-same w;
+    }
+
+module _ (w₀ w : Bytes) (k : ℕ) (emptying : Emptying w₀ w k) where
+  pub emptying-next : 8192 ≤ length w₀ → k < 8192 → Emptying w₀ (set w k 0) (k + 1)
+  emptying-next room h =
+      record {
+        from = omega (arith, emptying .from);
+        inside = omega arith;
+        zero = λ j p q. go j p q (eqb j k) refl;
+        beside =
+            record {
+              long = length-set w k 0 ∙ emptying .beside .long;
+              same =
+                  λ j apart.
+                  getD-set-other w k j 0 0 (λ e. ⊎-elim (λ p. omega (arith, emptying .from)) (λ p. omega arith) apart)
+                  ∙ emptying .beside .same j apart;
+            };
+      }
+    where
+      go : (j : ℕ) → 2048 ≤ j → j < k + 1 → (t : Bool) → eqb j k ≡ t → getD (set w k 0) j 0 ≡ 0
+      go j p q true e = rw (eqb-true j k e) (getD-set-same w k 0 0 (omega (arith, emptying .beside .long)))
+      go j p q false e =
+          let other : j ≢ k = eqb-false j k e in
+          getD-set-other w k j 0 0 other ∙ emptying .zero j p (omega arith)
+
+  pub emptying-end : 8192 ≤ k → Unused w × Beside w w₀
+  emptying-end end = (record { zero = λ j p q. emptying .zero j p (omega arith) }, emptying .beside)
+
+-- ---- the book
+
+-- record i of n is next: w has the sorts of those before it, and their index
+pub record Indexing (b w₀ : Bytes) (n : ℕ) (w : Bytes) (i : ℕ) : Type 0 where
+  pub reading : Reading b w₀ n (putSorts i b w₀) i
+  pub beside : Beside w (putSorts i b w₀)
+  pub indexed : Indexed i b w
+
+pub indexing-none : (b w : Bytes) (n : ℕ) → 8192 ≤ length w → Unused w → Indexing b w n w 0
+unfolding putSorts
+indexing-none b w n room unused =
+    record {
+      reading = reading-none b w n;
+      beside = beside-same w;
+      indexed = indexed-none b w room unused;
+    }
+
+module _ (b w₀ : Bytes) (n : ℕ) (w : Bytes) (i : ℕ) (indexing : Indexing b w₀ n w i) where
+  pub indexing-length : length w ≡ length w₀
+  indexing-length = indexing .beside .long ∙ length-putSorts i b w₀
+
+  pub indexing-below : SortsBelow i b w
+  indexing-below =
+      record {
+        laid = indexing .reading .below .laid;
+        held =
+            λ j h.
+            indexing .beside .same j (inl (omega (arith, indexing .indexed .few)))
+            ∙ indexing .reading .below .held j h;
+      }
+
+  -- a sort lies beside the index
+  pub indexed-sorted : (s : ℕ) → i < 2048 → Indexed i b (set w i s)
+  indexed-sorted s h =
+      indexed-elsewhere i b w (set w i s) (length-set w i s)
+      (λ j p q. getD-set-other w i j s 0 (λ e. omega arith))
+      (indexing .indexed)
+
+  pub indexing-more :
+      i < n → (s : ℕ) (r : RecordRead) → r ≡ recordRead b i → r ≡ Sorted s →
+      (w′ : Bytes) → Indexed (i + 1) b w′ → Beside w′ (set w i s) → Indexing b w₀ n w′ (i + 1)
+  indexing-more h s r is sorted w′ indexed beside =
+      let v : Bytes = putSorts i b w₀ in
+      let room : i < length v = omega (arith, indexing .beside .long, indexing .indexed .room) in
+      let more : Reading b w₀ n (set v i s) (i + 1) = reading-more b w₀ n v i (indexing .reading) h room s r is sorted in
+      record {
+        reading = rw (more .written) at more;
+        beside =
+            rw (← more .written)
+            (record {
+              long = beside .long ∙ length-set w i s ∙ indexing .beside .long ∙ sym (length-set v i s);
+              same = λ j apart. beside .same j apart ∙ same j apart (eqb j i) refl;
+            });
+        indexed = indexed;
+      }
+    where
+      same :
+          (j : ℕ) → (j < 2048) ⊎ (8192 ≤ j) → (t : Bool) → eqb j i ≡ t →
+          getD (set w i s) j 0 ≡ getD (set (putSorts i b w₀) i s) j 0
+      same j apart true e =
+          rw (eqb-true j i e)
+          (getD-set-same w i s 0 (omega (arith, indexing .indexed .room))
+          ∙ sym (getD-set-same (putSorts i b w₀) i s 0 (omega (arith, indexing .beside .long, indexing .indexed .room))))
+      same j apart false e =
+          let other : j ≢ i = eqb-false j i e in
+          getD-set-other w i j s 0 other ∙ indexing .beside .same j apart ∙ sym (getD-set-other (putSorts i b w₀) i j s 0 other)
+
+-- ---- the answers
+
+left-whole : (b w : Bytes) → BookDone b w w (RefusedAt 2 0) → BookLeft b w w (RefusedAt 2 0)
+unfolding putSorts
+left-whole b w done =
+    record { is = done .is; few = omega arith; sorts = beside-same w }
+
+pub left-odd : (b w : Bytes) → (length b % 32 ≡ 0 → ⊥) → BookLeft b w w (RefusedAt 2 0)
+left-odd b w h = left-whole b w (refused-whole b w h)
+
+pub left-many : (b w : Bytes) → 2048 < length b / 32 → BookLeft b w w (RefusedAt 2 0)
+left-many b w h = left-whole b w (refused-count b w h)
+
+module _ (b w₀ w : Bytes) (i : ℕ) (whole : length b % 32 ≡ 0) (few : length b / 32 ≤ 2048) (indexing : Indexing b w₀ (length b / 32) w i) where
+  pub left-refused :
+      i < length b / 32 → (k : ℕ) (r : RecordRead) → r ≡ recordRead b i → r ≡ Refused k →
+      BookLeft b w₀ w (RefusedAt k i)
+  left-refused h k r is refused =
+      record {
+        is = reading-refused b w₀ (putSorts i b w₀) i whole few (indexing .reading) h k r is refused .is;
+        few = omega arith;
+        sorts = indexing .beside;
+      }
+
+  pub left-done : length b / 32 ≤ i → BookLeft b w₀ w (Records (length b / 32))
+  left-done h =
+      let all : i ≡ length b / 32 = omega (arith, indexing .reading .inside) in
+      record {
+        is = reading-done b w₀ (putSorts i b w₀) i whole few (indexing .reading) h .is;
+        few = few;
+        sorts = rw all at (indexing .beside);
+      }
+
+-- bytes past the sorts are not written
+past-sorts : (n : ℕ) (b w : Bytes) (j : ℕ) → n ≤ j → getD (putSorts n b w) j 0 ≡ getD w j 0
+unfolding putSorts
+past-sorts zero b w j h = refl
+past-sorts (suc n) b w j h =
+    getD-set-other (putSorts n b w) n j _ 0 (λ e. omega arith) ∙ past-sorts n b w j (omega arith)
+
+-- once the index is emptied, the sorts alone are left
+pub left-cleared :
+    (b w₀ w w′ : Bytes) (r : BookRead) → Unused w₀ → BookLeft b w₀ w r → Unused w′ × Beside w′ w → BookDone b w₀ w′ r
+left-cleared b w₀ w w′ r unused left cleared =
+    record {
+      is = left .is;
+      sorts =
+          ext-getD 0 w′ v (cleared .1 .long ∙ left .sorts .long)
+          (λ j h. go j (ltb j 2048) (ltb j 8192) refl refl);
+    }
+  where
+    v : Bytes
+    v = putSorts (recordsRead r) b w₀
+
+    beside : (j : ℕ) → (j < 2048) ⊎ (8192 ≤ j) → getD w′ j 0 ≡ getD v j 0
+    beside j apart = cleared .1 .same j apart ∙ left .sorts .same j apart
+
+    go : (j : ℕ) (s t : Bool) → ltb j 2048 ≡ s → ltb j 8192 ≡ t → getD w′ j 0 ≡ getD v j 0
+    go j true t p q = beside j (inl (ltb-true j 2048 p))
+    go j false false p q = beside j (inr (ltb-false j 8192 q))
+    go j false true p q =
+        let from : 2048 ≤ j = ltb-false j 2048 p in
+        let to : j < 8192 = ltb-true j 8192 q in
+        cleared .0 .zero j from to
+        ∙ sym (past-sorts (recordsRead r) b w₀ j (omega (arith, left .few)) ∙ unused .zero j from to)
+
+pub unused-zeros : (n : ℕ) → Unused (replicate n 0)
+unused-zeros n = record { zero = λ j p q. go j (ltb j n) refl }
+  where
+    zeros : Bytes
+    zeros = replicate n 0
+
+    go : (j : ℕ) (t : Bool) → ltb j n ≡ t → _≡_ {A = ℕ} (getD zeros j 0) 0
+    go j true e = getD-replicate n j 0 0 (ltb-true j n e)
+    go j false e = List·getD-eq-default zeros 0 (omega (arith, ltb-false j n e, length-replicate {A = ℕ} n 0))
