@@ -7,28 +7,11 @@ use crate::checker::{self, Premise};
 use crate::oracle::{read_book, read_run, RULES};
 use std::time::{Duration, Instant};
 
-unsafe extern "C" {
-    fn yirtabun_check(
-        book: *const u8,
-        book_len: usize,
-        run: *const u8,
-        run_len: usize,
-        limit: u32,
-        work: *mut u8,
-        work_len: usize,
-        answer: *mut u8,
-        answer_len: usize,
-    ) -> u32;
-}
+// The Rust package of the library, wrapper/src/lib.rs.
+mod yirtabun;
 
-/// Verdict, accepted steps and visits.
-fn ours(book: &[u8], run: &[u8], work: &mut [u8]) -> (u32, u32, u32) {
-    let mut a = [0u8; 12];
-    unsafe {
-        yirtabun_check(book.as_ptr(), book.len(), run.as_ptr(), run.len(), 1_000_000, work.as_mut_ptr(), work.len(), a.as_mut_ptr(), 12);
-    }
-    let number = |k: usize| u32::from_le_bytes(a[4 * k..4 * k + 4].try_into().unwrap());
-    (number(0), number(1), number(2))
+fn ours(book: &[u8], run: &[u8], work: &mut [u8]) -> yirtabun::Marked {
+    yirtabun::check(book, run, yirtabun::MOST_VISITS, work)
 }
 
 /// Microseconds of a call, the best of many short windows: other load on the machine only adds.
@@ -190,12 +173,12 @@ fn product(book: &mut Book, factors: usize, width: u64) -> Step {
 
 fn compare(name: &str, book: &Book, steps: &[Step]) {
     let bytes = book.bytes();
-    let mut work = vec![0u8; 65536];
+    let mut work = vec![0u8; yirtabun::WORK];
     // A run makes at most 1,000,000 visits.
-    let (_, _, of_one) = ours(&bytes, &full_run(steps, 1).0, &mut work);
+    let of_one = ours(&bytes, &full_run(steps, 1).0, &mut work).visits;
     let (run, count) = full_run(steps, 900_000 / of_one as usize);
-    let (verdict, accepted, visits) = ours(&bytes, &run, &mut work);
-    assert_eq!((verdict, accepted as usize), (0, count), "{name}");
+    let marked = ours(&bytes, &run, &mut work);
+    assert_eq!((marked.verdict, marked.steps as usize), (0, count), "{name}");
     let whole = best(|| {
         ours(&bytes, &run, &mut work);
     });
@@ -220,7 +203,7 @@ fn compare(name: &str, book: &Book, steps: &[Step]) {
     let records = book.records.len();
     println!(
         "{name:34} {records:5} {count:5} {:7} {rust:9.2} {step:9.2} {:6.1} {reading:9.1} {:6.1}",
-        visits as usize / count,
+        marked.visits as usize / count,
         rust / step,
         rust * count as f64 / whole
     );

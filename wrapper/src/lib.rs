@@ -10,7 +10,7 @@ pub const OUT_TAIL: usize = 65536;
 /// The largest limit of visits.
 pub const MOST_VISITS: u32 = 1_000_000;
 
-extern "C" {
+unsafe extern "C" {
     fn yirtabun_check(
         book: *const u8,
         book_len: usize,

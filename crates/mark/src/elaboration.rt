@@ -47,7 +47,7 @@ fn print_written(run: usize, tail: usize) {
 }
 
 // Elaborates, writes both files unless refusals 1 to 8 arise, and marks the elaboration again.
-pub fn elaborate_files(book: &[u8], run: &[u8], limit: u32) {
+pub(crate) fn elaborate_files(book: &[u8], run: &[u8], limit: u32) {
     let mut work = [0u8; 65536];
     let mut outrun = [0u8; 16384];
     let mut outtail = [0u8; 65536];

@@ -5,7 +5,7 @@ ghost use Rattle.io.specs.Counts.{Counts};
 use libc::STDERR_FILENO;
 use terms::bytes::room;
 
-pub struct FileRead {
+pub(crate) struct FileRead {
     // Whether nothing failed.
     pub ok: bool,
     // How many bytes stand at the start of the buffer.
@@ -66,7 +66,7 @@ fn read_path(path: &[u8], space: &mut [u8]) -> FileRead
 }
 
 // Reads the file that argument i names.
-pub fn read_arg(i: usize, name: &[u8], space: &mut [u8]) -> FileRead
+pub(crate) fn read_arg(i: usize, name: &[u8], space: &mut [u8]) -> FileRead
     ensures { λ r. ⌜ Counts (r .bytes) (now (space .exit)) ⌝ }
 {
     let mut path = io::buffer();
@@ -113,7 +113,7 @@ fn temporary_name(i: usize, name: &mut [u8]) -> usize
 
 // Makes a new file of the bytes beside the one that argument i names, and puts its name at the start of a buffer.
 // Answers the name's length; 0 where that fails, and then no file is left.
-pub fn write_beside(i: usize, what: &[u8], text: &[u8], name: &mut [u8]) -> usize
+pub(crate) fn write_beside(i: usize, what: &[u8], text: &[u8], name: &mut [u8]) -> usize
     ensures { λ r. ⌜ Counts r (now (name .exit)) ⌝ }
 {
     let n = temporary_name(i, name);
@@ -139,7 +139,7 @@ pub fn write_beside(i: usize, what: &[u8], text: &[u8], name: &mut [u8]) -> usiz
 }
 
 // Gives a file that `write_beside` made its name without the suffix; where that fails, it is removed.
-pub fn put_in_place(name: &[u8]) -> bool {
+pub(crate) fn put_in_place(name: &[u8]) -> bool {
     if 7 <= name.len() {
         let n = name.len() - 7;
         if os::rename(name, &name[..n]) == 0 {

@@ -126,7 +126,7 @@ fn print_record(book: &[u8], id: usize, s: u8) {
     print(b"\n");
 }
 
-pub fn print_records(book: &[u8], sorts: &[u8], n: usize) {
+pub(crate) fn print_records(book: &[u8], sorts: &[u8], n: usize) {
     let mut id = 0;
     while id < n {
         print_record(book, id, byte(sorts, id));

@@ -55,7 +55,7 @@ fn print_place(book: &[u8], run: &[u8], verdict: u8, steps: usize) {
 }
 
 // The answer, a line for each of its numbers, and a sentence for a refusal.
-pub fn print_answer(book: &[u8], run: &[u8], verdict: u8, steps: usize, visits: u32) {
+pub(crate) fn print_answer(book: &[u8], run: &[u8], verdict: u8, steps: usize, visits: u32) {
     print(b"verdict ");
     print_number(verdict as u64);
     print(b"\naccepted steps ");
@@ -70,14 +70,14 @@ pub fn print_answer(book: &[u8], run: &[u8], verdict: u8, steps: usize, visits: 
 }
 
 // Marks with the trace off.
-pub fn mark(book: &[u8], run: &[u8], limit: u32) {
+pub(crate) fn mark(book: &[u8], run: &[u8], limit: u32) {
     let mut work = [0u8; 65536];
     let m = check(book, run, limit, &mut work);
     print_answer(book, run, m.verdict, m.steps, m.visits);
 }
 
 // Lists the records of a book, or says why it is refused.
-pub fn list(book: &[u8]) {
+pub(crate) fn list(book: &[u8]) {
     let mut sorts = [0u8; 2048];
     match read_book(book, &mut sorts) {
         BookRead::Records(n) => print_records(book, &sorts, n),

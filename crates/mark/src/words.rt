@@ -3,7 +3,7 @@ use crate::printing::print;
 use crate::printing::print_number;
 
 // The rule's name in Alethe.
-pub fn print_rule(rule: u8) {
+pub(crate) fn print_rule(rule: u8) {
     match rule {
         0 => print(b"assume"),
         1 => print(b"la_rw_eq"),
@@ -74,7 +74,7 @@ fn print_claimed(c: u8) {
 }
 
 // What was wrong, by document 01's number.
-pub fn print_reason(c: u8) {
+pub(crate) fn print_reason(c: u8) {
     print_number(c as u64);
     print(b": ");
     match c {

@@ -57,7 +57,7 @@ openCode book run limit work = elim (lentOk work limit) [
 unfoldable pub zeroedFrom : ℕ → Bytes → Bytes
 zeroedFrom n w = take n w ++ replicate (length w - n) 0
 
--- a place, or else another
+-- the place that was found, or n
 abbrev pub placeOr : Option ℕ → ℕ → ℕ
 placeOr (some i) n = i
 placeOr none n = n
@@ -86,7 +86,7 @@ pub record Grows (out r : Out) : Type 0 where
   pub run : out .run ≤ r .run
   pub tail : out .tail ≤ r .tail
 
--- a function that writes something behind w, so that w′ is written
+-- a function that writes more: where w was written before, `then w` is afterwards
 pub record Writes (b o t : Bytes) (out : Out) (o′ t′ : Bytes) (r : Out) (then : Written → Written) : Type 0 where
   pub fronts : Fronts out o o′ t t′
   pub grows : Grows out r
@@ -108,13 +108,15 @@ judgedAs (verdict.Refused c) out = stepped.Refused c
 abbrev pub withStep : Step → Written → Written
 withStep s w = written (w .run ++ stepBytes s) (w .tail)
 
--- the step s was checked, which the definition answers with d; where it is accepted, it is written
+-- a step was checked, which the definition answers with d; w has its records, and where it is accepted, what it inferred
+-- is written too
 abbrev pub SteppedIs : Bytes → Bytes → Bytes → Stepped → Written → Result Accepted → Type 0
 SteppedIs b o t (stepped.Accepted n out) w d =
     (a : Accepted) × ((d ≡ ok a) × ((n ≡ a .visits) × Holds b o t out (addReals b w (a .inferred))))
 SteppedIs b o t (stepped.Refused c) w d = Refuses c d
 
-pub record SteppedLeft (b o t : Bytes) (out : Out) (o′ t′ : Bytes) (r : Stepped) (then : Written → Written) (d : Result Accepted) : Type 0 where
+pub record SteppedLeft
+    (b o t : Bytes) (out : Out) (o′ t′ : Bytes) (r : Stepped) (then : Written → Written) (d : Result Accepted) : Type 0 where
   pub fronts : Fronts out o o′ t t′
   pub is : (w : Written) → Holds b o t out w → SteppedIs b o′ t′ r (then w) d
 
