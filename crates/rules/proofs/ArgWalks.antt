@@ -1,6 +1,6 @@
 -- The walk of a record's arguments, one after the other. `Walking` is the invariant of its loop: what is left to walk
 -- from argument k on, from the sum that the area's bytes hold now, is the whole walk.
---     walking-none, walking-more, walking-refused, walking-done       along the loop
+--     walking-none, walking-same, walking-more, walking-refused, walking-done       along the loop
 --     argument-below, argument-pre       what the walk of argument k asks
 use mathlib.Core.Path.{_≡_, refl, _∙_}
 use mathlib.Core.List.{List}
@@ -70,6 +70,10 @@ module _
         length args / 2 ≤ k → Walks b w (Done t v) (eachFrom b id (numbers args) limit first others w₀ s v₀)
     unfolding addEach
     walking-done h = done (walking .kept) _ (walking .left ∙ rw (left-none b id args k h))
+
+    -- a call has left the bytes as they were
+    pub walking-same : {w′ : Bytes} → w′ ≡ w → Walking b w₀ args id limit first others s v₀ w′ t v coeff k
+    walking-same e = rw e walking
 
     -- x is argument k
     module _ (h : k < length args / 2) {x : ℕ} (is : x ≡ argumentAt args k id) where

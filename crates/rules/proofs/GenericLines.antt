@@ -181,7 +181,7 @@ module _ {P : Term → Type 0} (closed : Closed P) where
         let fits = literal-whole l phi (p .visits) (s .literal) (s .of-literal) a w in
         says-holds ρ c′
         (at-ok
-        (stronger-holds l p phi arg q e closed even ρ o c a lowest fits
+        (stronger-holds l p phi arg q e closed even ρ o c a fits
         (record { good = negated .kept; says = holds-says ρ c (negated .upward) holds }))
         (s .of-stronger) .says)
 

@@ -62,6 +62,7 @@ pub mod EntryBytes
 pub mod KeyedMaps
 pub mod MapKeys
 pub mod StoredBytes
+pub mod EntrySearch
 pub mod KeySearch
 pub mod StoredEntries
 pub mod AreaEntry
@@ -87,7 +88,9 @@ pub mod PartialFold
 pub mod Tautologies
 pub mod NodeAnswers
 pub mod NodeWalks
+pub mod Places
 pub mod WalkSteps
+pub mod ConstantSides
 pub mod ArgumentsLeft
 pub mod ArgWalks
 pub mod EntryLoops

@@ -170,11 +170,11 @@ module _ (l : Limits) where
     argued = (steps .argument .0, steps-argued)
 
     module _ {P : Term → Type 0} (closed : Closed P) (even : (t : Term) → P t → divsEven t ≡ true) (ρ : Assignment) where
-      pub stronger-holds : (o : ℕ) (s : LinearComb) (a : Rational) → Lowest a → WholeOf s a →
+      pub stronger-holds : (o : ℕ) (s : LinearComb) (a : Rational) → WholeOf s a →
           Holding closed ρ o s → Yields (HoldingPair closed ρ) (strengthened l o s a)
-      stronger-holds o s a la w h =
+      stronger-holds o s a w h =
           by-test (allInt (s .entries)) _ _
           (λ i.
           strengthen-holds closed ρ l s (h .good) (int-atoms closed ρ even (s .entries) (h .good .entries) i)
-          (w i .0) a la (w i .1) (h .says))
+          (w i .0) a (w i .1) (h .says))
           (λ i. gives h)

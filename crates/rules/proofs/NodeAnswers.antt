@@ -17,7 +17,8 @@ use Rattle.terms.specs.Term.{Term, Terms, two?, binary, if_then_else_}
 use Rattle.terms.specs.Term.Term.{integer, rational, bitvector, atom, op}
 use Rattle.terms.specs.Term.Terms.{nil, _▹_}
 use Rattle.terms.specs.Book.{tree, numbers, arguments, forest}
-use Rattle.terms.specs.Readers.{Finds, Children, foundTwo, ranged, asFraction, asOp, operatorOf, argumentsOf}
+use Rattle.terms.specs.Readers.{Finds, Children, foundTwo, ranged, asNumber, asFraction, asOp, operatorOf}
+use Rattle.terms.specs.Readers.{argumentsOf}
 use Rattle.terms.specs.declared.number.Checked.{Checked}
 use Rattle.terms.specs.declared.number.Checked.the-variants as checked
 use Rattle.terms.specs.declared.term.Reading.{Reading}
@@ -25,12 +26,12 @@ use Rattle.terms.specs.declared.term.Reading.the-variants.{Value, NotNumber, Ou
 use Rattle.terms.specs.declared.term.Two.{Two}
 use Rattle.terms.specs.declared.term.Two.the-variants.{Both, NotTwo}
 use Rattle.terms.proofs.BookTerms.{recordNumber-tree}
-use Rattle.terms.proofs.Readings.{binary-shape}
+use Rattle.terms.proofs.Readings.{binary-shape, plain-fraction}
 use Rattle.terms.proofs.Findings.{tag}
 use Rattle.rules.specs.LinearComb.{size, armOf}
 use Rattle.rules.specs.LinearComb.Arm.{leaf}
-use Rattle.rules.specs.LinearNodes.{NodeIs, NodeProper, constantNode, leafNode, scaledNode, factorNode}
-use Rattle.rules.specs.LinearNodes.{factorsNode, productNode, operationNode, nodeOf}
+use Rattle.rules.specs.LinearNodes.{NodeIs, NodeProper, constantNode, readNode, leafNode, scaledNode}
+use Rattle.rules.specs.LinearNodes.{factorNode, factorsNode, productNode, operationNode, nodeOf}
 use Rattle.rules.specs.declared.linear_comb.Node.{Node}
 use Rattle.rules.specs.declared.linear_comb.Node.the-variants as node
 use Rattle.rules.proofs.ArgumentsLeft.{arguments-count}
@@ -54,23 +55,15 @@ module _ (q coeff : Rational) {a : Checked} (g : Gives a (checked (mulQ q coeff)
 
 -- ---- leaf
 
-module _ (t : Term) (coeff : Rational) {r : Reading} (f : Finds r (asFraction ranged t)) where
-  module _ {q : Rational} {a : Checked} (r-is : r ≡ Value q) (g : Gives a (checked (mulQ q coeff))) where
-    pub constant : {c : Rational} → a ≡ checked.Value c → NodeIs (node.Constant c) (leafNode t coeff)
-    unfolding leafNode
-    constant e = node-is (g .proper _ e) (rw (← f .is, leafNode, r-is) (ap constantNode (sym e ∙ g .is)))
+-- the term is read as q, a is what the code finds for its product with the coefficient
+module _
+    (coeff : Rational) {r : Reading} {q : Rational} {a : Checked} (r-is : r ≡ Value q)
+    (g : Gives a (checked (mulQ q coeff))) where
+  pub constant : {c : Rational} → a ≡ checked.Value c → NodeIs (node.Constant c) (readNode coeff r)
+  constant e = node-is (g .proper _ e) (rw r-is (ap constantNode (sym e ∙ g .is)))
 
-    pub constant-outside : a ≡ checked.OutOfRange → NodeIs node.OutOfRange (leafNode t coeff)
-    unfolding leafNode
-    constant-outside e = node-is tt (rw (← f .is, leafNode, r-is) (ap constantNode (sym e ∙ g .is)))
-
-  pub no-constant : r ≡ NotNumber → NodeIs node.Atom (leafNode t coeff)
-  unfolding leafNode
-  no-constant e = node-is tt (rw (← f .is, leafNode, e))
-
-  pub leaf-outside : r ≡ OutOfRange → NodeIs node.OutOfRange (leafNode t coeff)
-  unfolding leafNode
-  leaf-outside e = node-is tt (rw (← f .is, leafNode, e))
+  pub constant-outside : a ≡ checked.OutOfRange → NodeIs node.OutOfRange (readNode coeff r)
+  constant-outside e = node-is tt (rw r-is (ap constantNode (sym e ∙ g .is)))
 
 -- ---- product
 
@@ -210,7 +203,22 @@ module _ (b : Bytes) (i : ℕ) (coeff : Rational) {w : Two} (c : Children b i w 
       node-of n
       (sym (leaf-of (tree b i) coeff (λ h. omega arith) (λ h. omega arith) (λ h. sym (c .is) ∙ ap (foundTwo b) e)))
 
+-- a leaf is read as a fraction
+pub read-leaf :
+    (t : Term) (coeff : Rational) {x : Reading} {r : Node} → Finds x (asFraction ranged t) →
+    NodeIs r (readNode coeff x) → NodeIs r (leafNode t coeff)
+unfolding leafNode
+read-leaf t coeff f n = node-of n (ap (readNode coeff) (f .is))
+
 pub leaf-node :
     (t : Term) (coeff : Rational) {r : Node} → (operatorOf t ≡ Add → ⊥) → (operatorOf t ≡ Sub → ⊥) →
     (operatorOf t ≡ Mult → ⊥) → NodeIs r (leafNode t coeff) → NodeIs r (nodeOf t coeff)
 leaf-node t coeff f g h n = node-of n (sym (leaf-of t coeff f g (λ e. absurd (h e))))
+
+-- what is no operation is read as it stands
+pub plain-node :
+    (t : Term) (coeff : Rational) {x : Reading} {r : Node} → operatorOf t ≡ 0 → Finds x (asNumber t) →
+    NodeIs r (readNode coeff x) → NodeIs r (nodeOf t coeff)
+plain-node t coeff e f n =
+    leaf-node t coeff (λ h. omega arith) (λ h. omega arith) (λ h. omega arith)
+    (read-leaf t coeff (record { is = f .is ∙ sym (plain-fraction ranged t e); proper = f .proper }) n)

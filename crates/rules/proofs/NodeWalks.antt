@@ -36,8 +36,8 @@ use Rattle.rules.specs.LinearComb.{Arm, terms, size, armOf, chosen, fact
 use Rattle.rules.specs.LinearComb.{addDifference, addFirst, addSecond}
 use Rattle.rules.specs.LinearComb.Arm.{sum, negation, difference, product, leaf}
 use Rattle.rules.specs.LinearComb.Factors.{firstIs, secondIs, neitherIs}
-use Rattle.rules.specs.LinearNodes.{constantNode, leafNode, scaledNode, factorNode, factorsNode, productNode}
-use Rattle.rules.specs.LinearNodes.{operationNode, nodeOf, addEach}
+use Rattle.rules.specs.LinearNodes.{constantNode, readNode, leafNode, scaledNode, factorNode, factorsNode}
+use Rattle.rules.specs.LinearNodes.{productNode, operationNode, nodeOf, addEach}
 use Rattle.rules.proofs.Results.{bind-same}
 use Rattle.rules.proofs.CheckedNumbers.{times-value, times-out}
 use Rattle.rules.specs.declared.linear_comb.Node.{Node}
@@ -52,14 +52,6 @@ act b l t coeff node.Atom w = addEntry terms l t coeff w
 act b l t coeff node.OutOfRange w = refused numberRange
 
 -- ---- the definition's cases, by their names
-
--- a leaf's node, by what the leaf is read as
-abbrev readNode : Rational → Reading → Node
-readNode coeff r = elim r [
-  | Value q ↦ constantNode (checked (mulQ q coeff))
-  | NotNumber ↦ node.Atom
-  | OutOfRange ↦ node.OutOfRange
-]
 
 -- a product's node, by its arguments
 abbrev pairNode : Terms → Rational → Node

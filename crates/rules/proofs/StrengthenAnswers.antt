@@ -25,10 +25,17 @@ use Rattle.rules.specs.WorkArea.{Sum, combOf, Kept}
 use Rattle.rules.specs.LinearSteps.{combWith, StrengthenedIs}
 use Rattle.rules.specs.declared.disequality.Strengthened.{Strengthened}
 use Rattle.rules.specs.declared.disequality.Strengthened.the-variants as stronger
+use Rattle.rules.proofs.Strengthening.{times-whole}
 use Rattle.rules.proofs.CheckedNumbers.{plus-value, plus-out}
 use Rattle.rules.proofs.StoredEntries.{kept-entries}
 
 -- ---- is_integer_times
+
+-- where both are whole no test is left
+pub times-wholes :
+    (d a : Rational) {first second : Bool} → first ≡ isInteger a → first ≡ true → second ≡ isInteger d →
+    second ≡ true → true ≡ isIntegerTimes d a
+times-wholes d a a-is a-whole d-is d-whole = sym (times-whole d a (sym d-is ∙ d-whole) (sym a-is ∙ a-whole))
 
 module _ (d a : Rational) {zero : Bool} (zero-is : zero ≡ isZero a) where
   pub times-zero : zero ≡ true → true ≡ isIntegerTimes d a

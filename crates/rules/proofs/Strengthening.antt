@@ -13,7 +13,7 @@ use lib.IntN.{ℤ, pos, negℤ, _+ℤ_, _-ℤ_, _*ℤ_}
 use lib.Signed.{ltZ-yes, _<ℤ_}
 use Rattle.terms.specs.Pair.{wholeP}
 use Rattle.terms.specs.Rational as Rational
-use Rattle.terms.specs.Rational.{Rational, whole, Lowest, mulQ, floorQ, isInteger, isZero, eqQ}
+use Rattle.terms.specs.Rational.{Rational, whole, Lowest, floorQ, isInteger, isZero, eqQ}
 use Rattle.terms.specs.Term.{Sort, Term, sort, sameSort}
 use Rattle.terms.specs.Term.Sort.{bool, int, real, bits}
 use Rattle.terms.specs.Smtlib.{Assignment, Meant, truth, number, vector, OfSort, value, divsEven}
@@ -22,10 +22,10 @@ use Rattle.terms.proofs.Ring.{derive}
 use Rattle.terms.proofs.Truths.{both, never}
 use Rattle.terms.proofs.Order.{pos-nonneg, add-one-le-of-lt, mul-le-mul-of-nonneg, lt-of-mul-lt-mul-right}
 use Rattle.terms.proofs.Order.{sub-nonneg-of-le}
-use Rattle.terms.proofs.Rationals.{isInteger-whole, isInteger-value, mul-lowest}
+use Rattle.terms.proofs.Rationals.{isInteger-whole, isInteger-value}
 use Rattle.terms.proofs.Floor.{floor-le, floor-lowest}
 use Rattle.terms.proofs.Meaning.{value-of-sort}
-use Rattle.terms.proofs.Quotient.{ℚring, sum, product, opposite, ι, mk-eq, mk-whole, ≈-of-mk-eq}
+use Rattle.terms.proofs.Quotient.{ℚring, sum, opposite, ι, mk-eq, mk-whole, ≈-of-mk-eq}
 use Rattle.terms.proofs.Sums.{meant}
 use Rattle.terms.proofs.BookTerms.{Closed}
 use Rattle.rules.specs.Limits.{Limits}
@@ -36,6 +36,7 @@ use Rattle.rules.specs.Premises.{wholeCoefficients}
 use Rattle.rules.proofs.Yields.{Yields, gives, and-then, by-test}
 use Rattle.terms.proofs.Truths.{if-either}
 use Rattle.rules.proofs.Valuations.{numberℚ, rationals, plus-stands}
+use Rattle.rules.proofs.WholeNumbers.{mul-whole}
 use Rattle.rules.proofs.IndexMaps.{EntriesOf, total}
 use Rattle.rules.proofs.LinearWalk.{atoms}
 use Rattle.rules.proofs.Signs.{Nonneg, Positive, nonneg-as, positive-as, positive-add, nonneg-whole}
@@ -96,18 +97,15 @@ number-of-whole : (a : Rational) → isInteger a ≡ true → numberℚ a ≡ ι
 number-of-whole a w = ap numberℚ (isInteger-whole a w) ∙ rationals .number-whole (a .num)
 
 -- a whole constant times a whole argument is whole
-times-whole : (d a : Rational) → Lowest d → Lowest a → isInteger a ≡ true → (z : ℤ) → numberℚ d ≡ ι z →
-    isIntegerTimes d a ≡ true
-unfolding isIntegerTimes
-times-whole d a ld la w z e =
+pub times-whole : (d a : Rational) → isInteger d ≡ true → isInteger a ≡ true → isIntegerTimes d a ≡ true
+unfolding isIntegerTimes isInteger
+times-whole d a v w =
     if-either (λ b. b ≡ true) (isZero a)
     (λ t. refl)
     (λ t.
     if-either (λ b. b ≡ true) (eqQ a (whole (pos 1)))
-    (λ u. integer-of-whole d ld z e)
-    (λ u.
-    integer-of-whole (mulQ d a) (mul-lowest d a ld la) (z *ℤ a .num)
-    (rationals .number-mul d a ld la ∙ ap₂ product e (number-of-whole a w) ∙ sym (ℚring .ι-mul z (a .num)))))
+    (λ u. v)
+    (λ u. ap isInteger (mul-whole d a (isInteger-whole d v) (isInteger-whole a w))))
 
 -- ---- Int atoms
 
@@ -194,22 +192,21 @@ module _ {P : Term → Type 0} (closed : Closed P) (ρ : Assignment) where
           (q .constant) h)
 
       -- a constant that times the argument is not whole is not the sum
-      apart : (a : Rational) → Lowest a → isInteger a ≡ true → isIntegerTimes d a ≡ false →
-          gap closed ρ s ≡ ι (pos 0) → ⊥
-      apart a la w t z =
+      apart : (a : Rational) → isInteger a ≡ true → isIntegerTimes d a ≡ false → gap closed ρ s ≡ ι (pos 0) → ⊥
+      apart a w t z =
           let q = sum-multiple closed ρ 1 (s .entries) v c (each-of-one (s .entries)) in
-          never
-          (sym t
-          ∙ times-whole d a (g .constant) la w (q .whole)
+          let is-whole : isInteger d ≡ true =
+          integer-of-whole d (g .constant) (q .whole)
           (derive ℚring (total (atoms closed ρ) (s .entries) ∷ numberℚ d ∷ ι (q .whole) ∷ [])
-          (λ t d w. d ≐ w from neg 𝟙 · t ⊖ d ≐ 𝟘 and 𝟙 · t ≐ w) tt z (q .is)))
+          (λ t d w. d ≐ w from neg 𝟙 · t ⊖ d ≐ 𝟘 and 𝟙 · t ≐ w) tt z (q .is)) in
+          never (sym t ∙ times-whole d a is-whole w)
 
-      pub strengthen-holds : (a : Rational) → Lowest a → isInteger a ≡ true → {o : ℕ} →
+      pub strengthen-holds : (a : Rational) → isInteger a ≡ true → {o : ℕ} →
           Says o (gap closed ρ s) → Yields (HoldingPair closed ρ) (strengthen l o s a)
       unfolding strengthen
-      strengthen-holds a la w (is-zero h) = gives (record { good = g; says = is-zero h })
-      strengthen-holds a la w (is-nonneg h) =
+      strengthen-holds a w (is-zero h) = gives (record { good = g; says = is-zero h })
+      strengthen-holds a w (is-nonneg h) =
           by-test (isIntegerTimes d a) _ _ (λ t. gives (record { good = g; says = is-nonneg h }))
-          (λ t. by-one (positive-of-nonneg _ h (apart a la w t)))
-      strengthen-holds a la w (is-positive h) =
+          (λ t. by-one (positive-of-nonneg _ h (apart a w t)))
+      strengthen-holds a w (is-positive h) =
           by-test (isIntegerTimes d a) _ _ (λ t. by-gcd h) (λ t. by-one h)

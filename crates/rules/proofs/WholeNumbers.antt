@@ -5,10 +5,9 @@ use mathlib.Core.Bool.{true}
 use mathlib.Core.List.{[], _∷_}
 use Prim.Native.Nat.{ℕ}
 use lib.IntN.{ℤ, pos, negℤ, _+ℤ_, _*ℤ_}
-use lib.Signed.{ltZ-yes}
 use Rattle.terms.specs.Rational.{Rational, whole, lowest, addQ, mulQ, negQ, isZero}
 use Rattle.terms.proofs.Integers.{_⊕_, _⊗_, 𝟙, _≐_, solveℤ}
-use Rattle.terms.proofs.LowestTerms.{lowest-cross, lowest-is-lowest, whole-is-lowest, eq-of-cross-eq}
+use Rattle.terms.proofs.LowestTerms.{lowest-whole}
 use Rattle.terms.proofs.Rationals.{eqZ-eq}
 use Rattle.terms.proofs.Residues.{residues, residue, residue-add, residue-mul, residue-neg}
 use Rattle.rules.proofs.Valuations.{Valuation}
@@ -16,22 +15,17 @@ use Rattle.rules.proofs.Valuations.{Valuation}
 abbrev pub IsWhole : Rational → Type 0
 IsWhole q = q ≡ whole (q .num)
 
-lowest-one : (z : ℤ) → lowest z (pos 1) ≡ whole z
-lowest-one z =
-    eq-of-cross-eq (lowest z (pos 1)) (whole z) (lowest-is-lowest z (pos 1) (ltZ-yes tt)) (whole-is-lowest z)
-    (lowest-cross z (pos 1) (ltZ-yes tt))
-
 module _ (a b : Rational) (ha : IsWhole a) (hb : IsWhole b) where
   pub add-whole : addQ a b ≡ whole (a .num +ℤ b .num)
   unfolding addQ
   add-whole =
       ap₂ addQ ha hb
       ∙ ap (λ (z : ℤ). lowest z (pos 1)) (solveℤ (a .num ∷ b .num ∷ []) (λ a b. a ⊗ 𝟙 ⊕ b ⊗ 𝟙 ≐ a ⊕ b) tt)
-      ∙ lowest-one (a .num +ℤ b .num)
+      ∙ lowest-whole (a .num +ℤ b .num)
 
   pub mul-whole : mulQ a b ≡ whole (a .num *ℤ b .num)
   unfolding mulQ
-  mul-whole = ap₂ mulQ ha hb ∙ lowest-one (a .num *ℤ b .num)
+  mul-whole = ap₂ mulQ ha hb ∙ lowest-whole (a .num *ℤ b .num)
 
 pub neg-whole : (a : Rational) → IsWhole a → negQ a ≡ whole (negℤ (a .num))
 unfolding negQ

@@ -2,13 +2,13 @@
 use mathlib.Core.Path.{_≡_}
 use mathlib.Core.Bool.{true}
 use mathlib.Core.Option.{some, none}
-use Prim.Native.Nat.{ℕ, _<_}
+use Prim.Native.Nat.{ℕ, _≤_, _<_}
 use Rattle.terms.specs.Rational.{Rational, Proper, mulQ, negQ, checked}
 use Rattle.terms.specs.Bytes.{Bytes}
 use Rattle.terms.specs.Term.{Term, Terms, recordNumber, two?}
 use Rattle.terms.specs.Term.Terms.{nil, _▹_}
 use Rattle.terms.specs.Book.{count, tree, numbers, arguments, allBelow}
-use Rattle.terms.specs.Readers.{ranged, asFraction, asOp}
+use Rattle.terms.specs.Readers.{ranged, asFraction, asOp, argumentsOf}
 use Rattle.terms.specs.declared.number.Checked.{Checked}
 use Rattle.terms.specs.declared.number.Checked.the-variants as checked
 use Rattle.terms.specs.declared.term.Reading.{Reading}
@@ -16,25 +16,32 @@ use Rattle.terms.specs.declared.term.Reading.the-variants.{Value, NotNumber, Ou
 use Rattle.rules.specs.Refusal.{Result, _>>=_}
 use Rattle.rules.specs.Refusal.Result.{ok, refused}
 use Rattle.rules.specs.Refusal.Refusal.{numberRange}
-use Rattle.rules.specs.Limits.{Limits}
-use Rattle.rules.specs.IndexMap.{Walked, addEntry, addConstant}
-use Rattle.rules.specs.LinearComb.{terms, armOf, addTerm, addArgs}
+use Rattle.rules.specs.Limits.{Limits, limited}
+use Rattle.rules.specs.IndexMap.{Walked, walked, addEntry, addConstant}
+use Rattle.rules.specs.LinearComb.{LinearComb, terms, armOf, addTerm, addArgs}
 use Rattle.rules.specs.LinearComb.Arm.{sum, negation, difference, product, leaf}
-use Rattle.rules.specs.WorkArea.{Sum, KeptSum, Laid}
+use Rattle.rules.specs.WorkArea.{Sum, KeptSum, Laid, Refuses, Walks}
 use Rattle.rules.specs.declared.linear_comb.Node.{Node}
 use Rattle.rules.specs.declared.linear_comb.Node.the-variants as node
+use Rattle.rules.specs.declared.linear_comb.Place.{Place}
+use Rattle.rules.specs.declared.linear_comb.Place.the-variants as place
+use Rattle.rules.specs.declared.linear_comb.Flat.{Flat}
+use Rattle.rules.specs.declared.linear_comb.Flat.the-variants as flat
+use Rattle.rules.specs.declared.linear_comb.Walk.the-variants as walk
 
 -- a constant, where it is in range
 abbrev pub constantNode : Checked → Node
 constantNode (checked.Value q) = node.Constant q
 constantNode checked.OutOfRange = node.OutOfRange
 
+-- a leaf's node, by what the leaf is read as
+abbrev pub readNode : Rational → Reading → Node
+readNode coeff (Value q) = constantNode (checked (mulQ q coeff))
+readNode coeff NotNumber = node.Atom
+readNode coeff OutOfRange = node.OutOfRange
+
 unfoldable pub leafNode : Term → Rational → Node
-leafNode t coeff = elim (asFraction ranged t) [
-  | Value q ↦ constantNode (checked (mulQ q coeff))
-  | NotNumber ↦ node.Atom
-  | OutOfRange ↦ node.OutOfRange
-]
+leafNode t coeff = readNode coeff (asFraction ranged t)
 
 -- a number times the term of a record
 abbrev pub scaledNode : ℕ → Checked → Node
@@ -103,3 +110,30 @@ pub record ArgsPre (b w args : Bytes) (id : ℕ) (first others : Rational) (s : 
   pub below : allBelow id (numbers args) ≡ true
   pub proper : Proper first × Proper others
   pub sum : KeptSum b w s
+
+-- ---- where a term leads
+
+-- d is what the walk makes of the sum s at a place
+abbrev pub AtPlace : Bytes → Limits → Place → LinearComb → Result (Walked Term) → Type 0
+AtPlace b l (place.Args x first others v) s d = d ≡ addEach (argumentsOf (tree b x)) l first others (walked s v)
+AtPlace b l (place.Constant q v) s d = d ≡ addConstant l q (walked s v)
+AtPlace b l (place.Atom x c v) s d = d ≡ addEntry terms l (tree b x) c (walked s v)
+AtPlace b l (place.Refused c) s d = Refuses c d
+
+-- the records that a place names are no later than record i, its numbers are in range
+abbrev pub PlaceProper : ℕ → Place → Type 0
+PlaceProper i (place.Args x first others v) = (x ≤ i) × (Proper first × Proper others)
+PlaceProper i (place.Constant q v) = Proper q
+PlaceProper i (place.Atom x c v) = (x ≤ i) × Proper c
+PlaceProper i (place.Refused c) = Unit {0}
+
+-- the walk of record i, whatever the sum is
+pub record PlaceIs (b : Bytes) (l i : ℕ) (coeff : Rational) (visits : ℕ) (r : Place) : Type 0 where
+  pub is : (s : LinearComb) → AtPlace b (limited l) r s (addTerm (tree b i) (limited l) coeff (walked s visits))
+  pub proper : PlaceProper i r
+
+-- a walk from the bytes w of an area to w′, unless there are arguments to walk
+abbrev pub FlatWalks : Bytes → Bytes → Bytes → Flat → Result (Walked Term) → Type 0
+FlatWalks b w w′ (flat.Done s v) d = Walks b w′ (walk.Done s v) d
+FlatWalks b w w′ (flat.Refused c) d = Walks b w′ (walk.Refused c) d
+FlatWalks b w w′ flat.Deeper d = w′ ≡ w

@@ -6,8 +6,9 @@ use mathlib.Core.List.{List, [], _∷_, _++_}
 use mathlib.Core.Option.{Option, some, none}
 use Prim.Native.Nat.{ℕ, zero, suc, _+_, _*_, _≤_, _<_}
 use lib.Dec.{eqb}
+use lib.IntN.{pos}
 use lib.ListN.{length}
-use Rattle.terms.specs.Rational.{Rational, Proper, negQ}
+use Rattle.terms.specs.Rational.{Rational, Proper, whole, negQ}
 use Rattle.terms.specs.Bytes.{Bytes}
 use Rattle.terms.specs.Term.{Term, Terms}
 use Rattle.terms.specs.Book.{count, tree, allBelow, SortsBelow}
@@ -15,8 +16,8 @@ use Rattle.terms.specs.Readers.{argumentsOf}
 use Rattle.rules.specs.Refusal.{Result, _>>=_, assert, orElse, number}
 use Rattle.rules.specs.Refusal.Result.{ok, refused}
 use Rattle.rules.specs.Refusal.Refusal.{numberRange, invalidDisequalityOp, disequalityIsNotTautology}
-use Rattle.rules.specs.Limits.{Limits}
-use Rattle.rules.specs.IndexMap.{Map, combination, add, sub}
+use Rattle.rules.specs.Limits.{Limits, times}
+use Rattle.rules.specs.IndexMap.{Map, combination, add, sub, new, Walked, walked, addConstant}
 use Rattle.rules.specs.LinearComb.{LinearComb, terms, mul}
 use Rattle.rules.specs.LinearArithmetic.{Clause, inner, twoSides, Disequality, disequality, turned, strengthened, scalar}
 use Rattle.rules.specs.LinearArithmetic.{weakened, joinOperators, argumentOf, Progress, progress, processDisequality}
@@ -107,6 +108,12 @@ InnerIs b operation.Neither d = d ≡ none
 abbrev pub RelationIs : Bytes → Relation → Result (ℕ × Term × Term) → Type 0
 RelationIs b (relation.Is o x y) d = (d ≡ ok (o, tree b x, tree b y)) × ((x < count b) × (y < count b))
 RelationIs b (relation.Refused c) d = Refuses c d
+
+-- the walk of a side that is the number q, after its visit
+unfoldable pub constantSide : Limits → Rational → ℕ → Result (Walked Term)
+constantSide l q n = do
+  c ← times l q (whole (pos 1))
+  addConstant l c (walked new n)
 
 -- s is a combination by value whose entries are m
 pub record SumHas (s : Sum) (m : Map Term) : Type 0 where

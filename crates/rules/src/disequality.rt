@@ -1,6 +1,7 @@
 // One literal as a disequality: steps 1 to 4 of `process_disequality` in src/checker/rules/linear_arithmetic.rs. A literal's two
 // sides are filled into areas 1 and 2; their difference is left in area 1.
 ghost use mathlib.Core.Path.{_≡_};
+ghost use mathlib.Core.List.{[]};
 ghost use Prim.Native.Nat.{ℕ, _≤_, _<_};
 ghost use lib.ListN.{length};
 ghost use Rattle.terms.specs.Rational.{Proper, whole};
@@ -10,11 +11,12 @@ ghost use Rattle.terms.specs.Book.{count, tree};
 ghost use Rattle.rules.specs.Refusal.Result.{ok};
 ghost use Rattle.rules.specs.Limits.{limited};
 ghost use Rattle.rules.specs.IndexMap.{Map, combination};
+ghost use Rattle.rules.specs.LinearComb.{fromTerm};
 ghost use Rattle.rules.specs.LinearArithmetic.{inner, negateOperator, negateDisequality, turned, disequalityOf};
 ghost use Rattle.rules.specs.LinearArithmetic.{isIntegerTimes, raised, strengthen};
-ghost use Rattle.rules.specs.WorkArea.{Area, Apart, areaOf, combOf, Kept, KeptSum, Laid};
+ghost use Rattle.rules.specs.WorkArea.{Area, Apart, areaOf, OnlyArea, combOf, Held, Kept, KeptSum, Walks, Laid};
 ghost use Rattle.rules.specs.LinearSteps.{Between, orZero, InnerIs, relationOf, RelationIs, SidesLeft, LiteralLeft};
-ghost use Rattle.rules.specs.LinearSteps.{subtracted, SubtractedLeft, StrengthenedIs};
+ghost use Rattle.rules.specs.LinearSteps.{constantSide, subtracted, SubtractedLeft, StrengthenedIs};
 ghost use Rattle.rules.specs.declared.disequality.Literal.the-variants as literal;
 use crate::linear_comb::LinearComb;
 use crate::linear_comb::Summed;
@@ -28,7 +30,9 @@ use terms::book::argument;
 use terms::number::Checked;
 use terms::number::Number;
 use terms::term::Only;
+use terms::term::Reading;
 use terms::term::args;
+use terms::term::as_number;
 use terms::term::operator;
 use terms::term::remove_negation;
 
@@ -98,6 +102,35 @@ fn relation_of(book: &[u8], phi: usize) -> Relation
     Relation::Is(o, argument(sides, 0, x), argument(sides, 1, x))
 }
 
+// The combination that a constant is; `visits` are made with it.
+fn constant_side(q: Number, visits: u32) -> Walk
+    requires { ⌜ Proper q ⌝ }
+    ensures { λ r. ⌜ ((b w : Bytes) → Held b w [] → (l : ℕ) → Walks b w r (constantSide (limited l) q visits)) ⌝ }
+{
+    let Checked::Value(c) = q.mul(Number::whole(1)) else {
+        return Walk::Refused(11);
+    };
+    let Checked::Value(constant) = Number::whole(0).add(c) else {
+        return Walk::Refused(11);
+    };
+    Walk::Done(LinearComb { len: 0, constant }, visits)
+}
+
+// The right side, in area 2, which is empty before. It is a constant as a rule, and then nothing is walked.
+fn right_side(book: &[u8], work: &mut [u8], id: usize, visits: u32, limit: u32) -> Walk
+    requires { ⌜ Area 2 (now work) × (Laid (now book) × ((id < count (now book)) × Held (now book) (areaOf 2 (now work)) [])) ⌝ }
+    ensures { λ r. ⌜ OnlyArea 2 (now (work .entry)) (now (work .exit)) ⌝ }
+    ensures { λ r. ⌜ Walks (now (book .entry)) (areaOf 2 (now (work .exit))) r
+        (fromTerm (limited limit) (tree (now (book .entry)) id) visits) ⌝ }
+{
+    if visits < limit {
+        if let Reading::Value(q) = as_number(book, id) {
+            return constant_side(q, visits + 1);
+        }
+    }
+    from_term(book, work, 2, id, visits, limit)
+}
+
 // Fills areas 1 and 2, which are empty before; a refusal leaves both empty.
 fn negate_disequality(book: &[u8], work: &mut [u8], phi: usize, visits: u32, limit: u32) -> Sides
     requires { ⌜ Between (now book) (now work) × (phi < count (now book)) ⌝ }
@@ -108,7 +141,7 @@ fn negate_disequality(book: &[u8], work: &mut [u8], phi: usize, visits: u32, lim
         Relation::Refused(c) => Sides::Refused(c),
         Relation::Is(o, x, y) => match from_term(book, work, 1, x, visits, limit) {
             Walk::Refused(c) => Sides::Refused(c),
-            Walk::Done(s, seen) => match from_term(book, work, 2, y, seen, limit) {
+            Walk::Done(s, seen) => match right_side(book, work, y, seen, limit) {
                 Walk::Refused(c) => {
                     let n = s.len;
                     clear_in(work, 1, n);
@@ -159,6 +192,26 @@ fn turned(work: &mut [u8], o: u8, s: LinearComb, visits: u32) -> Disequality
     }
 }
 
+// Both sides subtracted where the right one has no atoms: d is its constant, and area 2 is not touched.
+fn bounded(work: &mut [u8], o: u8, s: LinearComb, d: Number, visits: u32) -> Literal
+    requires { ⌜ Apart 1 2 (now work) × (((b : Bytes) × KeptSum b (areaOf 1 (now work)) s) × Proper d) ⌝ }
+    ensures { λ r. ⌜ ((b : Bytes) → KeptSum b (areaOf 1 (now (work .entry))) s → Held b (areaOf 2 (now (work .entry))) [] → (l : ℕ) →
+        SubtractedLeft b (now (work .entry)) (now (work .exit)) r
+        (subtracted (limited l) o (combOf b (areaOf 1 (now (work .entry))) s) (combination [] d) visits)) ⌝ }
+{
+    let n = s.len;
+    let c = s.constant;
+    let Checked::Value(difference) = c.add(d.neg()) else {
+        clear_in(work, 1, n);
+        return Literal::Refused(11);
+    };
+    let right = LinearComb {
+        len: n,
+        constant: difference.neg(),
+    };
+    Literal::Is(turned(work, o, right, visits))
+}
+
 // Both sides subtracted: all atoms on the left, the constant on the right. Area 2 is empty afterwards.
 fn subtracted(work: &mut [u8], o: u8, s: LinearComb, t: LinearComb, visits: u32) -> Literal
     requires { ⌜ Apart 1 2 (now work) × ((b : Bytes) × (KeptSum b (areaOf 1 (now work)) s × KeptSum b (areaOf 2 (now work)) t)) ⌝ }
@@ -167,6 +220,10 @@ fn subtracted(work: &mut [u8], o: u8, s: LinearComb, t: LinearComb, visits: u32)
         (subtracted (limited l) o (combOf b (areaOf 1 (now (work .entry))) s) (combOf b (areaOf 2 (now (work .entry))) t) visits)) ⌝ }
 {
     let m = t.len;
+    let d = t.constant;
+    if m == 0 {
+        return bounded(work, o, s, d, visits);
+    }
     let answer = sub(work, 1, s, 2, t);
     clear_in(work, 2, m);
     let Summed::Sum(difference) = answer else {
@@ -208,6 +265,11 @@ fn is_integer_times(d: Number, a: Number) -> bool
 {
     if a.is_zero() {
         return true;
+    }
+    if a.is_integer() {
+        if d.is_integer() {
+            return true;
+        }
     }
     if a.eq(Number::whole(1)) {
         return d.is_integer();

@@ -3,6 +3,8 @@
 // A refusal leaves the area empty.
 ghost use mathlib.Core.Path.{_≡_};
 ghost use Prim.Native.Nat.{ℕ, _+_, _*_, _-_, _≤_, _<_};
+ghost use lib.Dec.{ltb};
+ghost use lib.ListN.{length, drop};
 ghost use Rattle.terms.specs.Rational.{Makes, Proper};
 ghost use Rattle.terms.specs.Bytes.{Bytes, le, numberAt};
 ghost use Rattle.terms.specs.Book.{count, tree};
@@ -57,12 +59,79 @@ fn blank_entry(entries: &mut [u8], k: usize)
     put_entry(entries, k, 0, Number { num: 0, den: 0 });
 }
 
+// A byte as a count.
+fn wide(x: u8) -> usize
+    ensures { λ r. ⌜ (r ≡ x) × (r < 256) ⌝ }
+{
+    x as usize
+}
+
+// Whether the entry at byte `at` has the key. It is known to be inside, which spares a test for each entry.
+fn has_key(entries: &[u8], at: usize, key: usize) -> bool
+    requires { ⌜ at + 10 ≤ length (now entries) ⌝ }
+    ensures { λ r. ⌜ r ≡ ltb (place (keysOf (drop at (now (entries .entry))) 1) key) 1 ⌝ }
+{
+    wide(entries[at]) + 256 * wide(entries[at + 1]) == key
+}
+
+// Whether one of the two entries from byte `at` on has the key.
+fn one_of_two(entries: &[u8], at: usize, key: usize) -> bool
+    requires { ⌜ at + 20 ≤ length (now entries) ⌝ }
+    ensures { λ r. ⌜ r ≡ ltb (place (keysOf (drop at (now (entries .entry))) 2) key) 2 ⌝ }
+{
+    if has_key(entries, at, key) {
+        return true;
+    }
+    has_key(entries, at + 10, key)
+}
+
+// Whether one of the four from there on has it.
+fn one_of_four(entries: &[u8], at: usize, key: usize) -> bool
+    requires { ⌜ at + 40 ≤ length (now entries) ⌝ }
+    ensures { λ r. ⌜ r ≡ ltb (place (keysOf (drop at (now (entries .entry))) 4) key) 4 ⌝ }
+{
+    if one_of_two(entries, at, key) {
+        return true;
+    }
+    one_of_two(entries, at + 20, key)
+}
+
+// Whether one of the eight from there on has it: eight comparisons in a row, without a loop.
+fn one_of_eight(entries: &[u8], at: usize, key: usize) -> bool
+    requires { ⌜ at + 80 ≤ length (now entries) ⌝ }
+    ensures { λ r. ⌜ r ≡ ltb (place (keysOf (drop at (now (entries .entry))) 8) key) 8 ⌝ }
+{
+    if one_of_four(entries, at, key) {
+        return true;
+    }
+    one_of_four(entries, at + 40, key)
+}
+
+// How many entries need no second look: they come in eights of which none has the key.
+fn skipped(entries: &[u8], n: usize, key: usize) -> usize
+    requires { ⌜ n ≤ 4096 ⌝ }
+    ensures { λ r. ⌜ (r ≤ n) × (place (keysOf (now (entries .entry)) n) key ≡
+        r + place (keysOf (drop (10 * r) (now (entries .entry))) (n - r)) key) ⌝ }
+{
+    if entries.len() < 10 * n {
+        return 0;
+    }
+    let mut k = 0;
+    while k + 8 <= n {
+        if one_of_eight(entries, 10 * k, key) {
+            return k;
+        }
+        k += 8;
+    }
+    k
+}
+
 // The place of the entry with a key; n where none of the n entries has it.
 fn find(entries: &[u8], n: usize, key: usize) -> usize
     requires { ⌜ n ≤ 4096 ⌝ }
     ensures { λ r. ⌜ r ≡ place (keysOf (now (entries .entry)) n) key ⌝ }
 {
-    let mut k = 0;
+    let mut k = skipped(entries, n, key);
     while k < n {
         if key_at(entries, k) == key {
             return k;

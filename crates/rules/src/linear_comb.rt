@@ -6,11 +6,13 @@ ghost use lib.IntN.{natAbs};
 ghost use Rattle.terms.specs.Rational.{Proper, limit, whole};
 ghost use Rattle.terms.specs.Bytes.{Bytes};
 ghost use Rattle.terms.specs.Book.{count, tree, numbers, arguments, forest};
+ghost use Rattle.terms.specs.Readers.{Finds};
 ghost use Rattle.rules.specs.Limits.{limited};
 ghost use Rattle.rules.specs.IndexMap.{negAll, scaleAll, walked, addConstant, addEntry};
 ghost use Rattle.rules.specs.LinearComb.{terms, mul, gcdFrom, coefficientsGcd, addTerm};
-ghost use Rattle.rules.specs.WorkArea.{entriesOf, combOf, Held, Kept, KeptSum, negated, Inserts, Sums, Walks};
-ghost use Rattle.rules.specs.LinearNodes.{NodeIs, WalkPre, ArgsPre, addEach, nodeOf, leafNode, productNode, factorNode};
+ghost use Rattle.rules.specs.WorkArea.{entriesOf, combOf, Held, Kept, KeptSum, Laid, negated, Inserts, Sums, Walks};
+ghost use Rattle.rules.specs.LinearNodes.{NodeIs, WalkPre, ArgsPre, PlaceIs, FlatWalks};
+ghost use Rattle.rules.specs.LinearNodes.{addEach, nodeOf, readNode, productNode, factorNode};
 use crate::index_map::Inserted;
 use crate::index_map::clear;
 use crate::index_map::insert;
@@ -26,6 +28,7 @@ use terms::term::Reading;
 use terms::term::Two;
 use terms::term::args;
 use terms::term::as_fraction;
+use terms::term::as_number;
 use terms::term::binary;
 use terms::term::operator;
 
@@ -208,12 +211,12 @@ fn product(book: &[u8], x: usize, y: usize, coeff: Number) -> Node
     }
 }
 
-// A number goes to the constant, anything else is an atom.
-fn leaf(book: &[u8], id: usize, coeff: Number) -> Node
-    requires { ⌜ Proper coeff ⌝ }
-    ensures { λ r. ⌜ NodeIs r (leafNode (tree (now (book .entry)) id) coeff) ⌝ }
+// A number goes to the constant, anything else is an atom; x is what the term is read as.
+fn leaf(x: Reading, coeff: Number) -> Node
+    requires { ⌜ Finds x x × Proper coeff ⌝ }
+    ensures { λ r. ⌜ NodeIs r (readNode coeff x) ⌝ }
 {
-    match as_fraction(book, id) {
+    match x {
         Reading::Value(q) => match q.mul(coeff) {
             Checked::Value(c) => Node::Constant(c),
             Checked::OutOfRange => Node::OutOfRange,
@@ -223,11 +226,13 @@ fn leaf(book: &[u8], id: usize, coeff: Number) -> Node
     }
 }
 
+// A term that is no operation is a number as it stands, or none: most terms are of this kind.
 fn look(book: &[u8], id: usize, coeff: Number) -> Node
     requires { ⌜ Proper coeff ⌝ }
     ensures { λ r. ⌜ NodeIs r (nodeOf (tree (now (book .entry)) id) coeff) ⌝ }
 {
     match operator(book, id) {
+        0 => leaf(as_number(book, id), coeff),
         9 => Node::Args(coeff, coeff),
         10 => {
             let minus = coeff.neg();
@@ -239,10 +244,56 @@ fn look(book: &[u8], id: usize, coeff: Number) -> Node
         }
         11 => match binary(book, id, 11) {
             Two::Both(x, y) => product(book, x, y, coeff),
-            Two::NotTwo => leaf(book, id, coeff),
+            Two::NotTwo => leaf(as_fraction(book, id), coeff),
         },
-        _ => leaf(book, id, coeff),
+        _ => leaf(as_fraction(book, id), coeff),
     }
+}
+
+// Where a term leads: each record on the way is a product of a number and the next one.
+pub(crate) enum Place {
+    // To the arguments of a record, the first with the first coefficient and all others with the second; and the
+    // visits made so far, as below.
+    Args(usize, Number, Number, u32),
+    // To a constant.
+    Constant(Number, u32),
+    // To an atom, with its coefficient.
+    Atom(usize, Number, u32),
+    // Document 01's number of the refusal.
+    Refused(u8),
+}
+
+// Goes from a term to the first one that is no product of a number and another. Each record is one visit, counted
+// before it is made. No sum is read or changed.
+fn descend(book: &[u8], id: usize, coeff: Number, visits: u32, limit: u32) -> Place
+    requires { ⌜ Laid (now book) × ((id < count (now book)) × Proper coeff) ⌝ }
+    ensures { λ r. ⌜ PlaceIs (now (book .entry)) limit id coeff visits r ⌝ }
+{
+    let mut x = id;
+    let mut c = coeff;
+    let mut seen = visits;
+    while seen < limit {
+        seen += 1;
+        match look(book, x, c) {
+            Node::Args(first, others) => {
+                return Place::Args(x, first, others, seen);
+            }
+            Node::Factor(y, d) => {
+                x = y;
+                c = d;
+            }
+            Node::Constant(q) => {
+                return Place::Constant(q, seen);
+            }
+            Node::Atom => {
+                return Place::Atom(x, c, seen);
+            }
+            Node::OutOfRange => {
+                return Place::Refused(11);
+            }
+        }
+    }
+    Place::Refused(10)
 }
 
 fn add_constant(entries: &mut [u8], s: LinearComb, visits: u32, q: Number) -> Walk
@@ -272,7 +323,52 @@ fn add_entry(entries: &mut [u8], s: LinearComb, visits: u32, key: usize, value: 
     Walk::Done(LinearComb { len, constant }, visits)
 }
 
-// Adds coeff times the term of record `id`. One call is one visit, counted before it is made.
+// What the walk of a term leaves that has no arguments to walk.
+pub(crate) enum Flat {
+    Done(LinearComb, u32),
+    // Document 01's number of the refusal.
+    Refused(u8),
+    // There are arguments to walk, and nothing is changed.
+    Deeper,
+}
+
+// Adds coeff times the term of record `id`, unless there are arguments to walk.
+fn add_flat(
+    book: &[u8],
+    entries: &mut [u8],
+    id: usize,
+    coeff: Number,
+    s: LinearComb,
+    visits: u32,
+    limit: u32,
+) -> Flat
+    requires { ⌜ WalkPre (now book) (now entries) id coeff s ⌝ }
+    ensures { λ r. ⌜ FlatWalks (now (book .entry)) (now (entries .entry)) (now (entries .exit)) r
+        (addTerm (tree (now (book .entry)) id) (limited limit) coeff (walked (combOf (now (book .entry)) (now (entries .entry)) s) visits)) ⌝ }
+{
+    let n = s.len;
+    let c = s.constant;
+    match descend(book, id, coeff, visits, limit) {
+        Place::Args(_, _, _, _) => Flat::Deeper,
+        Place::Constant(q, seen) => match c.add(q) {
+            Checked::Value(constant) => Flat::Done(LinearComb { len: n, constant }, seen),
+            Checked::OutOfRange => {
+                clear(entries, n);
+                Flat::Refused(11)
+            }
+        },
+        Place::Atom(x, value, seen) => match insert(entries, n, x, value) {
+            Inserted::Length(len) => Flat::Done(LinearComb { len, constant: c }, seen),
+            Inserted::OutOfRange => Flat::Refused(11),
+        },
+        Place::Refused(code) => {
+            clear(entries, n);
+            Flat::Refused(code)
+        }
+    }
+}
+
+// Adds coeff times the term of record `id`.
 pub(crate) fn add_term(
     book: &[u8],
     entries: &mut [u8],
@@ -287,34 +383,29 @@ pub(crate) fn add_term(
         (addTerm (tree (now (book .entry)) id) (limited limit) coeff (walked (combOf (now (book .entry)) (now (entries .entry)) s) visits)) ⌝ }
 {
     let n = s.len;
-    if limit <= visits {
-        clear(entries, n);
-        return Walk::Refused(10);
-    }
-    let seen = visits + 1;
-    match look(book, id, coeff) {
-        Node::Args(first, others) => add_args(
+    match descend(book, id, coeff, visits, limit) {
+        Place::Args(x, first, others, seen) => add_args(
             book,
             entries,
-            args(book, id),
-            id,
+            args(book, x),
+            x,
             first,
             others,
             s,
             seen,
             limit,
         ),
-        Node::Factor(x, c) => add_term(book, entries, x, c, s, seen, limit),
-        Node::Constant(q) => add_constant(entries, s, seen, q),
-        Node::Atom => add_entry(entries, s, seen, id, coeff),
-        Node::OutOfRange => {
+        Place::Constant(q, seen) => add_constant(entries, s, seen, q),
+        Place::Atom(x, c, seen) => add_entry(entries, s, seen, x, c),
+        Place::Refused(c) => {
             clear(entries, n);
-            Walk::Refused(11)
+            Walk::Refused(c)
         }
     }
 }
 
-// The arguments of record `id`, from the part of the record that holds them.
+// The arguments of record `id`, from the part of the record that holds them. Most have no arguments of their own: these
+// take no call of `add_term`.
 fn add_args(
     book: &[u8],
     entries: &mut [u8],
@@ -338,14 +429,23 @@ fn add_args(
     let mut k = 0;
     while k < n {
         let x = argument(args, k, id);
-        match add_term(book, entries, x, coeff, sum, seen, limit) {
-            Walk::Done(t, v) => {
+        match add_flat(book, entries, x, coeff, sum, seen, limit) {
+            Flat::Done(t, v) => {
                 sum = t;
                 seen = v;
             }
-            Walk::Refused(c) => {
+            Flat::Refused(c) => {
                 return Walk::Refused(c);
             }
+            Flat::Deeper => match add_term(book, entries, x, coeff, sum, seen, limit) {
+                Walk::Done(t, v) => {
+                    sum = t;
+                    seen = v;
+                }
+                Walk::Refused(c) => {
+                    return Walk::Refused(c);
+                }
+            },
         }
         coeff = others;
         k += 1;

@@ -188,15 +188,15 @@ le-cons n x b i = rw (suc-add, leb·suc-suc, digits-cons n x b i)
 
 -- ---- the function `room` and its callers
 
-pub no-room : (n i l : ℕ) → l < i → false ≡ leb (i + n) l
+pub no-room : (n i l : ℕ) → l < n → false ≡ leb (i + n) l
 no-room n i l h = sym (lt-leb (i + n) l (omega arith))
 
-pub room-left : (n i l : ℕ) → i ≤ l → leb n (l - i) ≡ leb (i + n) l
-room-left n i l h = go (leb n (l - i)) refl
+pub room-left : (n i l : ℕ) → n ≤ l → leb i (l - n) ≡ leb (i + n) l
+room-left n i l h = go (leb i (l - n)) refl
   where
-    go : (t : Bool) → leb n (l - i) ≡ t → t ≡ leb (i + n) l
-    go true e = sym (le-leb (i + n) l (omega (arith, leb-true n (l - i) e)))
-    go false e = sym (lt-leb (i + n) l (omega (arith, leb-false n (l - i) e)))
+    go : (t : Bool) → leb i (l - n) ≡ t → t ≡ leb (i + n) l
+    go true e = sym (le-leb (i + n) l (omega (arith, leb-true i (l - n) e)))
+    go false e = sym (lt-leb (i + n) l (omega (arith, leb-false i (l - n) e)))
 
 -- What `room` answers, t, as an order of numbers.
 pub inside : (t : Bool) (m l : ℕ) → t ≡ leb m l → t ≡ true → m ≤ l

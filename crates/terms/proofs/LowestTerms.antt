@@ -107,7 +107,7 @@ dens-dvd a b la lb e =
         sym (natAbs-*ℤ (b .num) (a .den)) ∙ ap natAbs (sym e) ∙ natAbs-*ℤ (a .num) (b .den)
         ∙ mul-comm (natAbs (a .num)) (natAbs (b .den))
 
-pub eq-of-cross-eq : (a b : Rational) → Lowest a → Lowest b → a .num *ℤ b .den ≡ b .num *ℤ a .den → a ≡ b
+eq-of-cross-eq : (a b : Rational) → Lowest a → Lowest b → a .num *ℤ b .den ≡ b .num *ℤ a .den → a ≡ b
 eq-of-cross-eq a b la lb e = ap₂ frac nums dens
   where
     dens : a .den ≡ b .den
@@ -124,3 +124,8 @@ eq-of-value-eq a b la lb h = eq-of-cross-eq a b la lb (cross-of-value-eq a b (la
 
 pub whole-is-lowest : (z : ℤ) → Lowest (whole z)
 whole-is-lowest z = record { positive = ltZ-yes tt; coprime = dvd-one .0 (gcd-dvd-right (natAbs z) 1) }
+
+pub lowest-whole : (z : ℤ) → lowest z (pos 1) ≡ whole z
+lowest-whole z =
+    eq-of-cross-eq (lowest z (pos 1)) (whole z) (lowest-is-lowest z (pos 1) (ltZ-yes tt)) (whole-is-lowest z)
+    (lowest-cross z (pos 1) (ltZ-yes tt))

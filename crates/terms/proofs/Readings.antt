@@ -1,7 +1,8 @@
 -- Laws of the readers alone. An operation that `unary` or `binary` finds has that shape (`unary-shape`, `binary-shape`).
 -- A reading in a range is the reading without one (`ranged-unbounded`). A quotient that is read is one of two signed numbers
--- (`quotient`), and a signed number is read as a fraction too (`signed-fraction`).
-use mathlib.Core.Path.{_≡_, refl, _∙_, ap}
+-- (`quotient`), and a signed number is read as a fraction too (`signed-fraction`). What is no operation is read as it
+-- stands (`plain-fraction`).
+use mathlib.Core.Path.{_≡_, refl, _∙_, ap, subst⁻¹}
 use mathlib.Core.Bool.{Bool, true, false, cond, _&&_}
 use mathlib.Core.Option.{Option, some, none}
 use Prim.Native.Nat.{ℕ}
@@ -17,7 +18,7 @@ use Rattle.terms.specs.Term.Term.{integer, rational, bitvector, atom, op
 use Rattle.terms.specs.Term.Terms.{nil, _▹_}
 use Rattle.terms.specs.Readers.{Bound, unbounded, ranged, within, bounded, asNumber, negated}
 use Rattle.terms.specs.Readers.{asSignedNumber}
-use Rattle.terms.specs.Readers.{quotientOf, over, divided, asUnsignedFraction, asFraction}
+use Rattle.terms.specs.Readers.{quotientOf, over, divided, asUnsignedFraction, asFraction, asOp, operatorOf}
 use Rattle.terms.specs.declared.term.Reading.{Reading}
 use Rattle.terms.specs.declared.term.Reading.the-variants.{Value, NotNumber, OutOfRange}
 
@@ -191,3 +192,12 @@ pub div-reading :
     asFraction unbounded (op i IntDiv (a ▹ b ▹ nil)) ≡ divided unbounded a (asSignedNumber b)
 unfolding asFraction asUnsignedFraction quotientOf unary binary
 div-reading i a b = refl
+
+-- 0 is no operator
+pub plain-fraction : (l : Bound) (t : Term) → operatorOf t ≡ 0 → asFraction l t ≡ asNumber t
+unfolding asOp asFraction asUnsignedFraction quotientOf unary binary
+plain-fraction l (integer i v) e = refl
+plain-fraction l (rational i q) e = refl
+plain-fraction l (bitvector i v w) e = refl
+plain-fraction l (atom i s n) e = refl
+plain-fraction l (op i o ts) e = subst⁻¹ (λ (k : ℕ). asFraction l (op i k ts) ≡ asNumber (op i k ts)) e refl

@@ -116,6 +116,10 @@ module _ (r : Bytes) where
   asNumber-of (an-operation k) = not-number (λ h. absurd (omega arith)) (λ h. absurd (omega arith))
   asNumber-of (an-atom a b c d) = not-number a b
 
+  pub no-number-of :
+      {i : ℕ} {ts : Terms} {t : Term} → Node i r ts t → (kind r ≡ 1 → ⊥) → (kind r ≡ 2 → ⊥) → NotNumber ≡ asNumber t
+  no-number-of n a b = not-number (λ k. absurd (a k)) (λ k. absurd (b k)) ∙ sym (asNumber-of n)
+
   -- ---- bit-vectors and operations
 
   pub asBitvector-of :

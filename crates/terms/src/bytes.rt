@@ -6,14 +6,14 @@ ghost use lib.Dec.{leb};
 ghost use lib.ListN.{length};
 ghost use Rattle.terms.specs.Bytes.{le, put, signed, complement};
 
-// Whether n bytes stand at `at`.
+// Whether n bytes stand at `at`. Of the two tests the first is the same for all places: a loop over places makes it once.
 pub fn room(s: &[u8], at: usize, n: usize) -> bool
     ensures { λ r. ⌜ r ≡ leb (at + n) (length (now (s .entry))) ⌝ }
 {
-    if s.len() < at {
+    if s.len() < n {
         return false;
     }
-    n <= s.len() - at
+    at <= s.len() - n
 }
 
 fn wide(x: u8) -> u32

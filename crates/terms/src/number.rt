@@ -64,11 +64,14 @@ fn in_range(n: i64, d: i64) -> Checked
     Checked::Value(Number { num: n, den: d })
 }
 
-// n/d put in lowest terms, and then tested.
+// n/d put in lowest terms, and then tested. A whole number is in lowest terms, and most numbers are whole.
 fn reduced(n: i64, d: i64) -> Checked
     requires { ⌜ pos 0 <ℤ d ⌝ }
     ensures { λ r. ⌜ Gives r (checked (lowest n d)) ⌝ }
 {
+    if d == 1 {
+        return in_range(n, d);
+    }
     let g = gcd(magnitude(n), magnitude(d)) as i64;
     in_range(n / g, d / g)
 }
@@ -143,13 +146,16 @@ impl Number {
         }
     }
 
-    // The greatest whole number that is not above this one.
+    // The greatest whole number that is not above this one. Of a whole number that is itself, without a division.
     pub fn floor(self) -> Number
         requires { ⌜ Proper self ⌝ }
         ensures { λ r. ⌜ Makes r (floorQ self) ⌝ }
     {
         let n = self.num;
         let d = self.den;
+        if d == 1 {
+            return Number::whole(n);
+        }
         let down = if n < 0 { -1 - (-1 - n) / d } else { n / d };
         Number::whole(down)
     }

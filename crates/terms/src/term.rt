@@ -42,11 +42,14 @@ pub enum Two {
     NotTwo,
 }
 
-// The number that a record's bytes are.
+// The number that a record's bytes are. An atom is told by its kind, without a look at its other bytes.
 fn constant(r: &[u8]) -> Reading
     ensures { λ x. ⌜ Finds x (asNumber (node 0 (now (r .entry)) nil)) ⌝ }
 {
     let k = byte(r, 0);
+    if k == 4 {
+        return Reading::NotNumber;
+    }
     let n = signed_u64(read_u64(r, 4));
     let d = match k {
         1 => 1,
@@ -149,13 +152,24 @@ fn as_unsigned_fraction(book: &[u8], id: usize) -> Reading
     Reading::Value(q)
 }
 
-pub fn as_fraction(book: &[u8], id: usize) -> Reading
+// A fraction that is an operation, or one minus over any.
+fn as_operation(book: &[u8], id: usize) -> Reading
     ensures { λ r. ⌜ Finds r (asFraction ranged (tree (now (book .entry)) id)) ⌝ }
 {
     match unary(book, id, 10) {
         Only::Of(x) => negated(as_unsigned_fraction(book, x)),
         Only::Neither => as_unsigned_fraction(book, id),
     }
+}
+
+// Most terms that are read are no operations: they take no call.
+pub fn as_fraction(book: &[u8], id: usize) -> Reading
+    ensures { λ r. ⌜ Finds r (asFraction ranged (tree (now (book .entry)) id)) ⌝ }
+{
+    if operator(book, id) == 0 {
+        return as_number(book, id);
+    }
+    as_operation(book, id)
 }
 
 pub fn as_bitvector(book: &[u8], id: usize) -> BitVector

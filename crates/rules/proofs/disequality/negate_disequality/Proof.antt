@@ -18,8 +18,8 @@ from-term-requires c κs =
     let found = rw (c .before .before .o .given .1) at (begun .relation-of .ensures) in
     (between-left between, (between .laid, (found .1 .0, empty-held (between .left))))
 
-from-term-requires-2 : tie.Need-from-term-requires-2
-from-term-requires-2 c κs =
+right-side-requires : tie.Need-right-side-requires
+right-side-requires c κs =
     let first = c .before .before .before .before .before .before in
     let begun = first .before .before .before .before .before in
     let between = begun .before .before .before .pre .0 in
@@ -36,7 +36,7 @@ clear-in-requires c κs =
     let left = rw (second .before .before .before .s .given .1) at (m .ensures .1) in
     let few = kept-small (answer-kept (left .held) (left .is .1) .kept) in
     let size = first .before .before .before .before .before .before .before .before .pre .0 .size in
-    (in-left _ (second .from-term2 .kept .1 .0 ∙ m .kept .1 .0 ∙ size), omega arith)
+    (in-left _ (second .right-side .kept .1 .0 ∙ m .kept .1 .0 ∙ size), omega arith)
 
 returns : tie.Need-returns
 returns c =
@@ -64,7 +64,7 @@ returns-3 c =
     let m = first .from-term in
     let a₁ = in-left (m .last .1 .0) (m .kept .1 .0 ∙ between .size) in
     let left = rw (second .before .before .before .s .given .1) at (m .ensures .1) in
-    let n = second .from-term2 in
+    let n = second .right-side in
     let a₂ = in-left (n .last .1 .0) (n .kept .1 .0 ∙ a₁ .size) in
     let k = c .before .before .clear-in in
     right-refused between _ _ _ found a₁ (m .ensures .0) left a₂ (n .ensures .0)
@@ -81,7 +81,7 @@ returns-4 c =
     let m = first .from-term in
     let a₁ = in-left (m .last .1 .0) (m .kept .1 .0 ∙ between .size) in
     let left = rw (second .before .before .before .s .given .1) at (m .ensures .1) in
-    let n = second .from-term2 in
+    let n = second .right-side in
     let a₂ = in-left (n .last .1 .0) (n .kept .1 .0 ∙ a₁ .size) in
     both-sides between _ _ _ found a₁ (m .ensures .0) left a₂ (n .ensures .0)
     (rw (c .before .t .given .1) at (n .ensures .1))
@@ -96,7 +96,7 @@ negate-disequality-spec =
     from-term-requires
     (λ c. search needs)
     (λ c. search needs)
-    from-term-requires-2
+    right-side-requires
     (λ c. search needs)
     clear-in-requires
     (λ c. search needs)

@@ -1,4 +1,5 @@
--- `subtracted` leaves the difference of areas 1 and 2 in area 1, empties area 2 and turns the operator.
+-- `subtracted` leaves the difference of areas 1 and 2 in area 1, empties area 2 and turns the operator. Where area 2
+-- has no entries, `bounded` does all this.
 use mathlib.Core.Path.{_∙_}
 use native.Mathlib.Omega.{arith}
 use borrow.Author.Needs.{needs}
@@ -7,24 +8,36 @@ use Rattle.rules.proofs.disequality.subtracted.Tie as tie
 use Rattle.rules.proofs.StoredEntries.{kept-small}
 use Rattle.rules.proofs.AreaSteps.{answer-kept}
 use Rattle.rules.proofs.SidesAreas.{in-left, in-right, out-of-range, subtracted-left}
+use Rattle.rules.proofs.ConstantSides.{none-held, none-comb}
+
+bounded-requires : tie.Need-bounded-requires
+bounded-requires c κs =
+    let z = c .before .before .before .before in
+    let kept = z .pre .1 in
+    (z .pre .0, ((kept .0, kept .1 .0), kept .1 .1 .proper))
+
+returns : tie.Need-returns
+returns c b left right l =
+    let none = c .before .before .before .before .if1 .taken in
+    rw (none-comb right none) (c .before .before .bounded .ensures b left (none-held right none) l)
 
 sub-requires : tie.Need-sub-requires
 sub-requires c κs =
-    let z = c .before .before in
+    let z = c .before .before .before .before in
     let kept = z .pre .1 .1 in
     (z .pre .0, ((kept-small (kept .0 .kept), kept-small (kept .1 .kept)), (kept .0 .proper, kept .1 .proper)))
 
 clear-in-requires : tie.Need-clear-in-requires
 clear-in-requires c κs =
-    let z = c .before .before .before .before .before .before in
+    let z = c .before .before .before .before .before .before .before .before in
     let few = kept-small (z .pre .1 .1 .1 .kept) in
     (in-right (in-left _ (c .before .before .before .sub .kept .0 ∙ z .pre .0 .first .size)), omega arith)
 
-returns : tie.Need-returns
-returns c b left right l =
+returns-2 : tie.Need-returns-2
+returns-2 c b left right l =
     let cleared = c .before .before .before .before in
     let taken = cleared .before .before .before .before in
-    let a = taken .before .before .before .pre .0 .first in
+    let a = taken .before .before .before .before .before .pre .0 .first in
     let m = taken .sub in
     let a₁ = in-left (m .last .0) (m .kept .0 ∙ a .size) in
     let k = cleared .clear-in in
@@ -34,7 +47,7 @@ returns c b left right l =
 neg-requires : tie.Need-neg-requires
 neg-requires c κs =
     let taken = c .before .before .before .before .before .before .before .before .before .before in
-    let kept = taken .before .before .before .pre .1 in
+    let kept = taken .before .before .before .before .before .pre .1 in
     let sum = taken .sub .ensures .1 (kept .0) (kept .1 .0) (kept .1 .1) 0 in
     (rw (c .before .before .answer .given .1) at sum) .is .1 .1
 
@@ -42,7 +55,7 @@ turned-requires : tie.Need-turned-requires
 turned-requires c κs =
     let cleared = c .before .before .before .before .before .before .before .before in
     let taken = cleared .before .before .before .before in
-    let z = taken .before .before .before in
+    let z = taken .before .before .before .before .before in
     let kept = z .pre .1 in
     let m = taken .sub in
     let known = c .before .before .before .before .answer .given .1 in
@@ -52,13 +65,13 @@ turned-requires c κs =
       (omega arith, c .before .neg .ensures .proper),
     )
 
-returns-2 : tie.Need-returns-2
-returns-2 c b left right l =
+returns-3 : tie.Need-returns-3
+returns-3 c b left right l =
     let negated = c .before .before .before .before in
     let known = negated .before .before .before in
     let cleared = known .before .before .before .before in
     let taken = cleared .before .before .before .before in
-    let a = taken .before .before .before .pre .0 .first in
+    let a = taken .before .before .before .before .before .pre .0 .first in
     let m = taken .sub in
     let a₁ = in-left (m .last .0) (m .kept .0 ∙ a .size) in
     let k = cleared .clear-in in
@@ -72,13 +85,16 @@ pub subtracted-spec : {M : Type 1} → statement M
 subtracted-spec =
     tie.close
     (tie.spec
+    bounded-requires
+    (λ c. search needs)
+    returns
     sub-requires
     clear-in-requires
     (λ c. search needs)
     (λ c. search needs)
     (λ c. search needs)
-    returns
+    returns-2
     neg-requires
     turned-requires
     (λ c. search needs)
-    returns-2)
+    returns-3)

@@ -1,13 +1,15 @@
 -- The walk of a term and the walk of its arguments, which call each other. What falls is the record's number: each
--- argument and each factor is an earlier record. The arguments of record i count as 2 i, its term as 2 i + 1. The
--- loop's invariant is `Walking` of ArgWalks, its measure how many arguments are left.
+-- argument is an earlier record, and a term leads to none that is later. The arguments of record i count as 2 i, its
+-- term as 2 i + 1. The loop's invariant is `Walking` of ArgWalks, its measure how many arguments are left.
+use mathlib.Core.Path.{refl}
+use mathlib.Core.Logic.{⊎-elim}
 use Prim.Native.Nat.{ℕ, _+_, _*_, _-_, _<_}
 use native.Mathlib.Omega.{arith}
 use borrow.Author.Needs.{needs}
-use Rattle.rules.proofs.WalkSteps.{sum-small, constant-pre, entry-pre, args-pre, factor-lower, factor-pre}
-use Rattle.rules.proofs.WalkSteps.{unvisited, at-node, at-args, at-refusal}
-use Rattle.rules.proofs.ArgWalks.{Walking, walking-none, walking-more, walking-refused, walking-done}
-use Rattle.rules.proofs.ArgWalks.{argument-below, argument-pre}
+use Rattle.rules.proofs.WalkSteps.{sum-small, constant-pre, atom-inside, entry-pre, args-lower, args-pre}
+use Rattle.rules.proofs.WalkSteps.{at-refusal, at-constant, at-atom, at-args}
+use Rattle.rules.proofs.ArgWalks.{Walking, walking-none, walking-same, walking-more}
+use Rattle.rules.proofs.ArgWalks.{walking-refused, walking-done, argument-below, argument-pre}
 use borrow.Fn.Kinds.{In}
 use borrow.Fn.PlainCycle.{Measures, is, falls, and}
 use Rattle.rules.proofs.linear_comb.add_args.Reads as add-args
@@ -19,7 +21,8 @@ use Rattle.rules.proofs.linear_comb.+add_args+add_term.Lts-add_term as 
 use Rattle.rules.proofs.index_map.clear.Reads as clear-reads
 use Rattle.rules.proofs.linear_comb.add_constant.Reads as add-constant-reads
 use Rattle.rules.proofs.linear_comb.add_entry.Reads as add-entry-reads
-use Rattle.rules.proofs.linear_comb.look.Reads as look-reads
+use Rattle.rules.proofs.linear_comb.add_flat.Reads as add-flat-reads
+use Rattle.rules.proofs.linear_comb.descend.Reads as descend-reads
 use Rattle.terms.proofs.book.argument.Reads as argument-reads
 use Rattle.terms.proofs.term.args.Reads as args-reads
 use Rattle.rules.proofs.linear_comb.+add_args+add_term.{statement}
@@ -54,109 +57,148 @@ add-args-μ-loop book entries₀ args id others visits limit n sum₀ seen₀ co
     n - k
 
 abbrev add-args-claims : ℕ → add-args-lts.Claims
-add-args-claims t = (argument-reads.Asked, argument-reads.Learnt, add-term-below t, add-term.Post)
+add-args-claims t = (
+  argument-reads.Asked,
+  argument-reads.Learnt,
+  add-flat-reads.Asked,
+  add-flat-reads.Learnt,
+  add-term-below t,
+  add-term.Post,
+)
 
 abbrev add-term-claims : ℕ → add-term-lts.Claims
 add-term-claims t = (
-  clear-reads.Asked,
-  clear-reads.Learnt,
-  look-reads.Asked,
-  look-reads.Learnt,
+  descend-reads.Asked,
+  descend-reads.Learnt,
   args-reads.Asked,
   args-reads.Learnt,
   add-args-below t,
   add-args.Post,
-  add-term-below t,
-  add-term.Post,
   add-constant-reads.Asked,
   add-constant-reads.Learnt,
   add-entry-reads.Asked,
   add-entry-reads.Learnt,
+  clear-reads.Asked,
+  clear-reads.Learnt,
 )
 
 module _ (t : ℕ) where
-  add-args-add-term-requires :
-      add-args-lts.Need-add-term-requires (add-args-claims t) (add-args-at t) add-args.Post add-args-Inv-loop
+  add-args-add-flat-requires :
+      add-args-lts.Need-add-flat-requires (add-args-claims t) (add-args-at t) add-args.Post add-args-Inv-loop
       add-args-μ-loop
-  add-args-add-term-requires c κs =
-      let pre = c .before .before .before .before .before .before .before .pre in
-      let inv = c .before .before .before .loop .inv in
-      let x = c .before .argument .ensures in
-      let below = argument-below (pre .1) inv (search needs) x in
-      (omega (arith, pre .0, below), argument-pre (pre .1) inv (search needs) x)
+  add-args-add-flat-requires c κs =
+      argument-pre (c .before .before .before .before .before .before .before .pre .1)
+      (c .before .before .before .loop .inv) (search needs) (c .before .argument .ensures)
 
   add-args-returns :
       add-args-lts.Need-returns (add-args-claims t) (add-args-at t) add-args.Post add-args-Inv-loop
       add-args-μ-loop
   add-args-returns c =
+      let flat = c .before .before .before .before .before in
+      let loop = flat .before .before .before .before in
+      walking-refused (search needs) (loop .loop .inv) (search needs) (flat .before .before .argument .ensures)
+      (rw (c .before .c .given .1) at (flat .add-flat .ensures)) refl
+
+  add-args-add-term-requires :
+      add-args-lts.Need-add-term-requires (add-args-claims t) (add-args-at t) add-args.Post add-args-Inv-loop
+      add-args-μ-loop
+  add-args-add-term-requires c κs =
+      let flat = c .before .before .before .before .before in
+      let loop = flat .before .before .before .before in
+      let pre = loop .before .before .before .before .pre in
+      let x = flat .before .before .argument .ensures in
+      let deeper = rw (c .before .enum-told .given .1) at (flat .add-flat .ensures) in
+      let inv = walking-same (pre .1) (loop .loop .inv) deeper in
+      let below = argument-below (pre .1) (loop .loop .inv) (search needs) x in
+      (omega (arith, pre .0, below), argument-pre (pre .1) inv (search needs) x)
+
+  add-args-returns-2 :
+      add-args-lts.Need-returns-2 (add-args-claims t) (add-args-at t) add-args.Post add-args-Inv-loop
+      add-args-μ-loop
+  add-args-returns-2 c =
       let called = c .before .before .before .before .before in
-      let inv = called .before .before .before .before .loop .inv in
-      walking-refused (search needs) inv (search needs) (called .before .before .argument .ensures)
+      let told = called .before .before in
+      let flat = told .before .before .before .before in
+      let loop = flat .before .before .before .before in
+      let deeper = rw (told .enum-told .given .1) at (flat .add-flat .ensures) in
+      let inv = walking-same (search needs) (loop .loop .inv) deeper in
+      walking-refused (search needs) inv (search needs) (flat .before .before .argument .ensures)
       (called .add-term .ensures) (search needs)
 
   add-args-loop-again :
       add-args-lts.Need-loop-again (add-args-claims t) (add-args-at t) add-args.Post add-args-Inv-loop
       add-args-μ-loop
   add-args-loop-again c =
-      let called = c .before .before .before .before .before in
-      let inv = called .before .before .before .before .loop .inv in
-      walking-more (search needs) inv (search needs) (called .before .before .argument .ensures)
-      (called .add-term .ensures) (search needs) (search needs)
+      let flat = c .before .before .before in
+      let loop = flat .before .before .before .before in
+      let x = flat .before .before .argument .ensures in
+      ⊎-elim
+      (λ w.
+      let walked = rw (w .1 .given .1) at (flat .add-flat .ensures) in
+      rw (w .3, w .4, w .5)
+      (walking-more (search needs) (loop .loop .inv) (search needs) x walked refl (search needs)))
+      (λ w.
+      let deeper = rw (w .1 .given .1) at (flat .add-flat .ensures) in
+      rw (w .9, w .10, w .11)
+      (walking-more (search needs) (walking-same (search needs) (loop .loop .inv) deeper) (search needs) x
+      (w .3 .ensures) (w .7 .given .1) (search needs)))
+      (c .match .came)
+
+  -- what the walk of a term asks, seen from where its place is known
+  abbrev begun :
+      add-term-lts.After-descend (add-term-claims t) (add-term-at t) add-term.Post →
+      add-term-lts.Start (add-term-claims t) (add-term-at t) add-term.Post
+  begun place = place .before .before .before
 
   add-term-add-args-requires : add-term-lts.Need-add-args-requires (add-term-claims t) (add-term-at t) add-term.Post
   add-term-add-args-requires c κs =
-      let pre = c .before .before .before .before .before .before .before .before .before .pre in
-      let look = c .before .before .before .before .before .look .ensures in
-      (omega (arith, pre .0), args-pre (pre .1) look (search needs) _ (c .args2 .ensures))
-
-  add-term-add-term-requires : add-term-lts.Need-add-term-requires (add-term-claims t) (add-term-at t) add-term.Post
-  add-term-add-term-requires c κs =
-      let pre = c .before .before .before .before .before .before .before .before .pre in
-      let look = c .before .before .before .before .look .ensures in
-      let e = c .before .before .x .given .1 in
-      (omega (arith, pre .0, factor-lower (pre .1) look e), factor-pre (pre .1) look e)
+      let place = c .before .before .before .before .before in
+      let pre = begun place .pre in
+      let e = c .before .before .before .x .given .1 in
+      let low = args-lower (pre .1) (place .descend .ensures) e in
+      (omega (arith, pre .0, low), args-pre (pre .1) (place .descend .ensures) e _ (c .args2 .ensures))
 
   add-term-add-constant-requires :
       add-term-lts.Need-add-constant-requires (add-term-claims t) (add-term-at t) add-term.Post
   add-term-add-constant-requires c κs =
-      let look = c .before .before .before .before in
-      constant-pre (look .before .before .before .before .pre .1) (look .look .ensures) (search needs)
+      let place = c .before .before .before .before in
+      constant-pre (begun place .pre .1) (place .descend .ensures) (c .before .before .q .given .1)
+
+  add-term-add-entry-requires : add-term-lts.Need-add-entry-requires (add-term-claims t) (add-term-at t) add-term.Post
+  add-term-add-entry-requires c κs =
+      let place = c .before .before .before .before in
+      entry-pre (begun place .pre .1) (place .descend .ensures) (c .before .before .x2 .given .1)
+
+  add-term-returns : add-term-lts.Need-returns (add-term-claims t) (add-term-at t) add-term.Post
+  add-term-returns c =
+      let args = c .before .before .before in
+      let x = args .before .before .before in
+      let place = x .before .before in
+      at-args (begun place .pre .1) (place .descend .ensures) (x .x .given .1) _ (args .args2 .ensures)
+      (c .before .before .add-args .ensures)
 
   add-term-returns-2 : add-term-lts.Need-returns-2 (add-term-claims t) (add-term-at t) add-term.Post
   add-term-returns-2 c =
-      let args = c .before .before .before in
-      let look = args .before .before .before .before .before in
-      at-args (look .before .before .before .before .pre .1) (look .look .ensures) _ _ (search needs) (search needs)
-      _ (args .args2 .ensures) (c .before .before .add-args .ensures)
+      let q = c .before .before .before .before .before in
+      let place = q .before .before in
+      let pre = begun place .pre .1 in
+      at-constant pre (place .descend .ensures) (q .q .given .1)
+      (c .before .before .add-constant .ensures _ (pre .sum) _)
 
   add-term-returns-3 : add-term-lts.Need-returns-3 (add-term-claims t) (add-term-at t) add-term.Post
   add-term-returns-3 c =
       let x = c .before .before .before .before .before in
-      let look = x .before .before in
-      at-node (look .before .before .before .before .pre .1) (look .look .ensures) _ _ (search needs) (x .x .given .1)
-      (c .before .before .add-term .ensures)
+      let place = x .before .before in
+      let pre = begun place .pre .1 in
+      let atom = x .x2 .given .1 in
+      at-atom pre (place .descend .ensures) atom
+      (c .before .before .add-entry .ensures _ (pre .sum) (atom-inside pre (place .descend .ensures) atom) _)
 
   add-term-returns-4 : add-term-lts.Need-returns-4 (add-term-claims t) (add-term-at t) add-term.Post
   add-term-returns-4 c =
-      let q = c .before .before .before .before .before in
-      let look = q .before .before in
-      let pre = look .before .before .before .before .pre .1 in
-      at-node pre (look .look .ensures) _ _ (search needs) (q .q .given .1)
-      (c .before .before .add-constant .ensures _ (pre .sum) _)
-
-  add-term-returns-5 : add-term-lts.Need-returns-5 (add-term-claims t) (add-term-at t) add-term.Post
-  add-term-returns-5 c =
-      let atom = c .before .before .before .before in
-      let look = atom .before .before in
-      let pre = look .before .before .before .before .pre .1 in
-      at-node pre (look .look .ensures) _ _ (search needs) (atom .enum-told .given .1)
-      (c .before .before .add-entry .ensures _ (pre .sum) (pre .inside) _)
-
-  add-term-returns-6 : add-term-lts.Need-returns-6 (add-term-claims t) (add-term-at t) add-term.Post
-  add-term-returns-6 c =
-      let look = c .before .before .before .before .before .before in
-      at-refusal (look .before .before .before .before .pre .1) (look .look .ensures) _ _ (search needs) (search needs)
-      (search needs)
+      let code = c .before .before .before .before .before in
+      let place = code .before .before in
+      at-refusal (begun place .pre .1) (place .descend .ensures) (code .c .given .1) (search needs)
 
 pub +add-args+add-term-spec : {M : Type 1} → statement M
 +add-args+add-term-spec =
@@ -166,40 +208,38 @@ pub +add-args+add-term-spec : {M : Type 1} → statement M
     add-args-μ-loop
     (λ c. walking-none (search needs))
     (λ c κs. search needs)
-    (add-args-add-term-requires t)
+    (add-args-add-flat-requires t)
     (λ c. search needs)
     (λ c. search needs)
     (λ c. search needs)
     (add-args-returns t)
+    (λ c. search needs)
+    (add-args-add-term-requires t)
+    (λ c. search needs)
+    (λ c. search needs)
+    (λ c. search needs)
+    (add-args-returns-2 t)
     (λ c. search needs)
     (λ c. search needs)
     (add-args-loop-again t)
     (λ c. search needs)
     (λ c. walking-done (search needs) (c .before .loop .inv) (search needs)))
     λ t. add-term-lts.spec (add-term-claims t) (add-term-at t) add-term.Post
-    (λ c κs. sum-small (c .before .before .before .before .pre .1))
-    (λ c. search needs)
-    (λ c. unvisited (search needs) _ _ (search needs) (search needs))
-    (λ c. search needs)
     (λ c κs. search needs)
     (λ c. search needs)
     (λ c κs. search needs)
     (add-term-add-args-requires t)
     (λ c. search needs)
-    (add-term-add-term-requires t)
-    (λ c. search needs)
     (add-term-add-constant-requires t)
     (λ c. search needs)
-    (λ c κs. entry-pre (c .before .before .before .before .before .before .before .pre .1))
+    (add-term-add-entry-requires t)
     (λ c. search needs)
     (λ c κs. sum-small (c .before .before .before .before .before .before .before .pre .1))
+    (λ c. search needs)
+    (add-term-returns t)
     (λ c. search needs)
     (add-term-returns-2 t)
     (λ c. search needs)
     (add-term-returns-3 t)
     (λ c. search needs)
     (add-term-returns-4 t)
-    (λ c. search needs)
-    (add-term-returns-5 t)
-    (λ c. search needs)
-    (add-term-returns-6 t)

@@ -3,36 +3,42 @@
 use mathlib.Core.Path.{sym, _∙_}
 use borrow.Author.Needs.{needs}
 use Rattle.rules.proofs.NodeAnswers.{counted, sum-node, negation-node, difference-node}
-use Rattle.rules.proofs.NodeAnswers.{product-node, other-product-node, leaf-node}
+use Rattle.rules.proofs.NodeAnswers.{product-node, other-product-node, read-leaf, leaf-node, plain-node}
 use Rattle.rules.proofs.linear_comb.look.Statement.{statement}
 use Rattle.rules.proofs.linear_comb.look.Tie as tie
 
 returns : tie.Need-returns
-returns c = sum-node _ _ (search needs) (c .before .before .before .pre)
+returns c = plain-node _ _ (search needs) (c .before .as-number .ensures) (c .leaf .ensures)
 
 returns-2 : tie.Need-returns-2
-returns-2 c =
-    negation-node _ _ (search needs) (c .before .before .neg .ensures)
-    (sym (counted _ _ _ _ (c .before .args2 .ensures)) ∙ search needs)
+returns-2 c = sum-node _ _ (search needs) (c .before .before .before .pre)
 
 returns-3 : tie.Need-returns-3
 returns-3 c =
+    negation-node _ _ (search needs) (c .before .before .neg .ensures)
+    (sym (counted _ _ _ _ (c .before .args2 .ensures)) ∙ search needs)
+
+returns-4 : tie.Need-returns-4
+returns-4 c =
     difference-node _ _ (search needs) (c .before .before .neg .ensures)
     (λ n. c .if1 .left (counted _ _ _ _ (c .before .args2 .ensures) ∙ n))
     (c .before .before .before .before .before .before .pre)
 
-returns-4 : tie.Need-returns-4
-returns-4 c =
+returns-5 : tie.Need-returns-5
+returns-5 c =
     product-node _ _ _ (c .before .before .before .before .binary .ensures) (c .before .before .x .given .1)
     (c .product .ensures)
 
-returns-5 : tie.Need-returns-5
-returns-5 c =
-    other-product-node _ _ _ (c .before .before .before .binary .ensures) (search needs)
-    (c .before .enum-told .given .1) (c .leaf .ensures)
-
 returns-6 : tie.Need-returns-6
-returns-6 c = leaf-node _ _ (λ e. search needs) (λ e. search needs) (λ e. search needs) (c .leaf2 .ensures)
+returns-6 c =
+    let told = c .before .before in
+    other-product-node _ _ _ (told .before .before .binary .ensures) (search needs) (told .enum-told .given .1)
+    (read-leaf _ _ (c .before .as-fraction .ensures) (c .leaf2 .ensures))
+
+returns-7 : tie.Need-returns-7
+returns-7 c =
+    leaf-node _ _ (λ e. search needs) (λ e. search needs) (λ e. search needs)
+    (read-leaf _ _ (c .before .as-fraction2 .ensures) (c .leaf3 .ensures))
 
 pub look-spec : {M : Type 1} → statement M
 look-spec =
@@ -42,9 +48,13 @@ look-spec =
     (λ c κs. search needs)
     (λ c κs. search needs)
     (λ c κs. search needs)
+    (λ c κs. search needs)
+    (λ c κs. search needs)
     (λ c. search needs)
     (λ c κs. search needs)
     (λ c. search needs)
+    (λ c κs. search needs)
+    (λ c κs. search needs)
     (λ c κs. search needs)
     (λ c κs. search needs)
     returns
@@ -52,4 +62,5 @@ look-spec =
     returns-3
     returns-4
     returns-5
-    returns-6)
+    returns-6
+    returns-7)

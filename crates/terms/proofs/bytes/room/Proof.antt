@@ -1,4 +1,4 @@
--- Where the place lies past the end there is no room, and otherwise n is compared with what is left of the bytes.
+-- Where there are fewer than n bytes there is no room, and otherwise the place is compared with the last one that has room.
 use borrow.Author.Needs.{needs}
 use Rattle.terms.proofs.LittleEndian.{no-room, room-left}
 use Rattle.terms.proofs.bytes.room.Statement.{statement}

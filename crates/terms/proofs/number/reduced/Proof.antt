@@ -1,4 +1,4 @@
--- The greatest common divisor is positive and at most d, so it fits, and so do both quotients by it: they are `lowest`.
+-- Over 1 the number is whole, and in lowest terms. Else the greatest common divisor is positive and at most d, so it fits, and so do both quotients by it: they are `lowest`.
 use mathlib.Core.Path.{_≡_, sym, _∙_, ap, ap₂, subst}
 use Prim.Native.Nat.{ℕ, zero, suc, _/_, _≤_, _<_}
 use native.Mathlib.Nat.{div-le-self, le-of-dvd, lt-of-le-of-lt, zero-lt-suc}
@@ -14,7 +14,7 @@ use Rattle.terms.proofs.Divisors.{gcd-pos, gcd-dvd-right}
 use Rattle.terms.proofs.Machine.{R, read-as}
 use Rattle.terms.proofs.Order.{at-positive}
 use Rattle.terms.proofs.Ranges.{gives}
-use Rattle.terms.proofs.LowestTerms.{lowest-pos}
+use Rattle.terms.proofs.LowestTerms.{lowest-pos, lowest-whole}
 use Rattle.terms.proofs.number.reduced.Statement.{statement}
 use Rattle.terms.proofs.number.reduced.Tie as tie
 
@@ -55,7 +55,7 @@ gcd-positive-fits n =
     (gcd-pos (natAbs n) (suc k) p, record { sfits = lt-of-le-of-lt le (f .sfits) }))
 
 abbrev start : tie.After-gcd → tie.Start
-start c = c .before .before .before
+start c = c .before .before .before .before
 
 divisor : (c : tie.After-gcd) → c .gcd .result ≡ gcd (natAbs (start c .args .n)) (natAbs (start c .args .d))
 divisor c =
@@ -81,20 +81,29 @@ div-in-range-2 c =
     (h .0, quotient-fits (start c .args .d) (start c .fits .d) (c .gcd .result) (h .1))
 
 returns : tie.Need-returns
-unfolding lowest
 returns c =
+    let s = c .before .before in
+    let one : s .args .d ≡ pos 1 = sym (toZ-ofZ (s .fits .d)) ∙ ap (toZ w64) (c .before .if1 .taken) in
+    gives (lowest (s .args .n) (s .args .d)) (lowest-pos (s .args .n) (s .args .d) (s .pre))
+    (c .in-range .ensures
+    ∙ ap₂ (λ (x y : ℤ). checked (frac x y)) (toZ-ofZ (s .fits .n)) (toZ-ofZ (s .fits .d) ∙ one)
+    ∙ ap checked (sym (lowest-whole (s .args .n)) ∙ ap (lowest (s .args .n)) (sym one)))
+
+returns-2 : tie.Need-returns-2
+unfolding lowest
+returns-2 c =
     let s = start (c .before) in
     let n = s .args .n in
     let d = s .args .d in
     let g = c .before .gcd .result in
     let h = positive-fits (c .before) .1 in
     gives (lowest n d) (lowest-pos n d (s .pre))
-    (c .in-range .ensures
+    (c .in-range2 .ensures
     ∙ ap₂ (λ (x y : ℤ). checked (frac x y)) (quotient-back n (s .fits .n) g h) (quotient-back d (s .fits .d) g h)
     ∙ ap (λ (k : ℕ). checked (dividedBy k n d)) (divisor (c .before)))
 
 pub reduced-spec : {M : Type 1} → statement M
 reduced-spec =
     tie.close
-    (tie.spec (λ c κs. search needs) (λ c κs. search needs) (λ c κs. search needs) (λ c. positive-fits c .1) div-in-range
-    div-in-range-2 (λ c κs. search needs) returns)
+    (tie.spec (λ c κs. search needs) returns (λ c κs. search needs) (λ c κs. search needs) (λ c κs. search needs)
+    (λ c. positive-fits c .1) div-in-range div-in-range-2 (λ c κs. search needs) returns-2)

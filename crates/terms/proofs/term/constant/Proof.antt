@@ -1,7 +1,8 @@
--- The denominator is that of the record's kind, and `is_number` tests the number that the two parts make.
+-- An atom is no number. Else the denominator is that of the record's kind, and `is_number` tests the number that the two parts make.
 use mathlib.Core.Path.{_≡_, sym, _∙_, ap}
 use mathlib.Core.Logic.{⊎-elim}
 use Prim.Native.Nat.{ℕ}
+use native.Mathlib.Omega.{arith}
 use borrow.Author.Needs.{needs}
 use lib.IntN.{ℤ}
 use denote.Ref.{now}
@@ -9,16 +10,17 @@ use mir.Facts.{toZ-ofZ}
 use mir.Syntax.{w64}
 use mir.Val.{SFits, toZ}
 use Rattle.terms.specs.Bytes.{Bytes, le, signed}
+use Rattle.terms.specs.Term.Terms.{nil}
 use Rattle.terms.specs.Book.{field1}
 use Rattle.terms.proofs.Machine.{R}
 use Rattle.terms.proofs.RecordReadings.{denominator, denominator-integer, denominator-rational}
-use Rattle.terms.proofs.RecordReadings.{denominator-other}
-use Rattle.terms.proofs.Findings.{constant-found, no-constant}
+use Rattle.terms.proofs.RecordReadings.{denominator-other, node-is, no-number-of}
+use Rattle.terms.proofs.Findings.{finds, constant-found, no-constant}
 use Rattle.terms.proofs.term.constant.Statement.{statement}
 use Rattle.terms.proofs.term.constant.Tie as tie
 
 abbrev bytes : tie.After-signed-u64 → Bytes
-bytes c = now (c .before .before .before .before .args .r)
+bytes c = now (c .before .before .before .before .before .args .r)
 
 -- a field as the machine has it
 field-back : {x : ℤ} {v : ℕ} (r : Bytes) (k : ℕ) → SFits w64 x → x ≡ signed 8 v → v ≡ le 8 r k → R x ≡ signed 8 (le 8 r k)
@@ -30,7 +32,7 @@ numerator-read c = field-back (bytes c) 4 (search needs) (c .signed-u64 .ensures
 denominator-read : (c : tie.At-match-came) → toZ w64 (c .match .d) ≡ denominator (bytes (c .before))
 denominator-read c =
     let r = bytes (c .before) in
-    let is = c .before .before .before .byte .ensures in
+    let is = c .before .before .before .before .byte .ensures in
     ⊎-elim
     (λ o. ap (toZ w64) (o .1) ∙ sym (denominator-integer r (sym is ∙ o .0 .keys1)))
     (⊎-elim
@@ -44,25 +46,31 @@ denominator-read c =
 
 returns : tie.Need-returns
 returns c =
-    let tested = c .before in
-    constant-found _ (numerator-read (tested .before .before)) (denominator-read (tested .before))
-    (sym (tested .is-number .ensures) ∙ c .if1 .taken)
+    let is = sym (c .before .byte .ensures) ∙ c .if1 .taken in
+    finds tt (no-number-of _ (node-is 0 _ nil) (λ k. omega (arith, is, k)) (λ k. omega (arith, is, k)))
 
 returns-2 : tie.Need-returns-2
 returns-2 c =
     let tested = c .before in
+    constant-found _ (numerator-read (tested .before .before)) (denominator-read (tested .before))
+    (sym (tested .is-number .ensures) ∙ c .if2 .taken)
+
+returns-3 : tie.Need-returns-3
+returns-3 c =
+    let tested = c .before in
     no-constant _ (numerator-read (tested .before .before)) (denominator-read (tested .before))
-    (sym (tested .is-number .ensures) ∙ c .if1 .left)
+    (sym (tested .is-number .ensures) ∙ c .if2 .left)
 
 pub constant-spec : {M : Type 1} → statement M
 constant-spec =
     tie.close
     (tie.spec
     (λ c κs. search needs)
-    (λ c κs. search needs)
-    (λ c κs. search needs)
-    (λ c κs. search needs)
-    (λ c κs. search needs)
-    (λ c κs. search needs)
     returns
-    returns-2)
+    (λ c κs. search needs)
+    (λ c κs. search needs)
+    (λ c κs. search needs)
+    (λ c κs. search needs)
+    (λ c κs. search needs)
+    returns-2
+    returns-3)
