@@ -147,11 +147,20 @@ fn farkas(book: &mut Book, random: &mut Random, literals: usize, atoms: usize) -
     (5, clause, args)
 }
 
-/// S <= 3 and S >= 4 with a sum S of many atoms.
-fn large_sum(book: &mut Book, atoms: u64) -> Step {
-    let parts = (0..atoms).map(|i| book.atom(i)).collect();
-    let (s, three, four, one) = (book.sum(parts), book.integer(3), book.integer(4), book.integer(1));
-    let (a, b) = (book.op(6, &[s, three]), book.op(8, &[s, four]));
+/// S <= 3 and T >= 4 with sums S and T of the same many atoms, in the order of their numbers (then S is T) or in two random orders.
+fn large_sum(book: &mut Book, random: &mut Random, atoms: u64, ordered: bool) -> Step {
+    let mut parts: Vec<u16> = (0..atoms).map(|i| book.atom(i)).collect();
+    let mut sum = |book: &mut Book| {
+        if !ordered {
+            for i in (1..parts.len()).rev() {
+                parts.swap(i, random.below(i as u64 + 1) as usize);
+            }
+        }
+        book.sum(parts.clone())
+    };
+    let (s, t) = (sum(book), sum(book));
+    let (three, four, one) = (book.integer(3), book.integer(4), book.integer(1));
+    let (a, b) = (book.op(6, &[s, three]), book.op(8, &[t, four]));
     let clause = vec![book.op(1, &[a]), book.op(1, &[b])];
     (5, clause, vec![one, one])
 }
@@ -223,10 +232,12 @@ pub fn main() {
             compare(&format!("la_generic, {literals} literals of {atoms} atoms"), &book, &steps);
         }
     }
-    for atoms in [10, 30, 100, 300, 1000] {
-        let mut book = Book::default();
-        let step = large_sum(&mut book, atoms);
-        compare(&format!("la_generic, a sum of {atoms} atoms"), &book, &[step]);
+    for (order, ordered, sizes) in [("in order", true, [10, 30, 100, 300, 1000, 1800]), ("in no order", false, [10, 30, 100, 300, 1000, 1700])] {
+        for atoms in sizes {
+            let mut book = Book::default();
+            let step = large_sum(&mut book, &mut random, atoms, ordered);
+            compare(&format!("la_generic, {atoms} atoms {order}"), &book, &[step]);
+        }
     }
     for (factors, width) in [(2, 4), (2, 8), (3, 4), (6, 2)] {
         let mut book = Book::default();

@@ -58,7 +58,7 @@ def accepted(line):
 
 def chunk(program, oracle, seed, folder):
     path = os.path.join(folder, "random%d" % seed)
-    words = [sys.executable, os.path.join(HERE, "random_cases.py"), oracle, path, "--count", str(CHUNK), "--seed", str(seed)]
+    words = [sys.executable, os.path.join(HERE, "random_cases.py"), oracle, path, "--count", str(CHUNK), "--seed", str(seed), "--wide", "5"]
     subprocess.run(words, check=True, stdout=subprocess.DEVNULL)
     with open(path) as f:
         lines = f.readlines()

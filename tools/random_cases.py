@@ -1,8 +1,9 @@
 """Random books and runs of every rule, most steps of which are accepted, with the Rust's own answers.
 
-    python3 tools/random_cases.py ORACLE FILE [--count N] [--seed N] [--harm PERCENT] [--each N] [--records N]
+    python3 tools/random_cases.py ORACLE FILE [--count N] [--seed N] [--harm PERCENT] [--wide PERCENT] [--each N] [--records N]
 
---harm says how many steps are damaged, --each how many cases of one verdict and rule are kept, --records how large a book may be.
+--harm says how many steps are damaged, --wide how many contradictions have many atoms (none where nothing is said), --each how many cases of
+one verdict and rule are kept, --records how large a book may be.
 
 The cases are written for tools/try_definitions.py. The Rust has no limits: a case is dropped where a number might leave the range of
 2^31 or a polynomial might leave its sizes (`Bounds` judges that from above). Visit limits and out areas are chosen here, and what
@@ -21,6 +22,9 @@ SORTS = {}
 for names, sort in (("x y z", "Int"), ("t u", "Real"), ("p q", "Bool"), ("v w", 8), ("m n", 4)):
     for name in names.split():
         SORTS[name] = (len(SORTS), sort)
+MANY = ["x%d" % k for k in range(60)]
+for name in MANY:
+    SORTS[name] = (len(SORTS), "Int")
 RANGE = 2**31
 RELATIONS = ("<", "<=", ">", ">=")
 RULES = (5, 6, 7, 8, 4, 5, 6, 7, 8, 0, 4, 1, 5, 6, 7, 8, 2, 3)  # how often each is tried
@@ -152,9 +156,10 @@ def step_fits(rule, literals, arguments, inferred):
 
 
 class Maker:
-    def __init__(self, rng, harm):
+    def __init__(self, rng, harm, wide=0):
         self.rng = rng
         self.harm = harm  # how likely a step is damaged
+        self.wide = wide  # how likely a contradiction has many atoms
         self.before = [0, 0, 1, 2] if harm < 0.4 else [0, 0, 0, 1]  # steps before the last
 
     def chance(self, p):
@@ -245,6 +250,8 @@ class Maker:
     def contradiction(self, unit):
         """Literals and arguments whose scaled sum has no atoms; with unit, all but the first have one atom."""
         atoms = []
+        if self.wide and self.chance(self.wide):
+            atoms = self.rng.sample(MANY, self.rng.randint(8, 40))
         while len(atoms) < self.rng.randint(1, 3):
             a = self.atom()
             if a not in atoms:
@@ -393,6 +400,8 @@ class Maker:
             for names in map(str.split, alike):
                 if e in names or e.startswith("#") and names[-1].startswith("#") and len(e) == len(names[-1]):
                     return self.pick(names)
+            if e in SORTS:
+                return self.pick(MANY)
             n = Fraction(e)
             return self.pick([str(n + 1), "0", str(-n), "x"]) if "/" not in e else self.pick(("1/2", "3/1", "0/1", "u"))
         i = self.rng.randrange(len(e))
@@ -468,7 +477,7 @@ def inferred_of(text):
 def main():
     oracle, path = sys.argv[1:3]
     option = lambda name, usual: int(sys.argv[sys.argv.index(name) + 1]) if name in sys.argv else usual
-    maker = Maker(random.Random(option("--seed", 1)), option("--harm", 20) / 100)
+    maker = Maker(random.Random(option("--seed", 1)), option("--harm", 20) / 100, option("--wide", 0) / 100)
     count = option("--count", 360)
     runs = [maker.run(RULES[i % len(RULES)]) for i in range(count)]
     asked, owners = [], []

@@ -1,5 +1,5 @@
--- `get` and `insert` in an area's bytes: at the place that `find` gives, the bytes hold the entry with the key, or the
--- key is nowhere; and what each case of the code leaves is what the definition says.
+-- `get`, `insert` and `append` in an area's bytes: at the place that `find` gives, the bytes hold the entry with the
+-- key, or the key is nowhere; and what each case of the code leaves is what the definition says.
 use mathlib.Core.Path.{_≡_, refl, sym, ap, ap₂, _∙_, subst}
 use mathlib.Core.Bool.{true, false}
 use mathlib.Core.List.{List, [], _∷_, _++_}
@@ -20,12 +20,12 @@ use Rattle.rules.specs.Limits.{Limits, limited, plus}
 use Rattle.rules.specs.IndexMap.{Map, get, insert, swapRemove}
 use Rattle.rules.specs.LinearComb.{terms}
 use Rattle.rules.specs.WorkArea.{keysOf, entriesOf, place, putEntry, blanked, swapped}
-use Rattle.rules.specs.WorkArea.{Held, Kept, Inserts, CoefficientIs}
+use Rattle.rules.specs.WorkArea.{absent, Held, Kept, Inserts, CoefficientIs}
 use Rattle.rules.specs.declared.index_map.Inserted.{Inserted}
 use Rattle.rules.specs.declared.index_map.Inserted.the-variants.{Length, OutOfRange}
 use Rattle.rules.specs.declared.index_map.Coefficient.the-variants.{Of, Missing}
 use Rattle.rules.proofs.CheckedNumbers.{plus-value, plus-out}
-use Rattle.rules.proofs.MapKeys.{keyOf, numbered, lacks-absent}
+use Rattle.rules.proofs.MapKeys.{keyOf, numbered, lacks-absent, absent-lacks}
 use Rattle.rules.proofs.MapEnds.{length-middle, length-swapRemove}
 use Rattle.rules.proofs.StoredEntries.{held-keys, kept-entries, keyNumbers, read-value, write-value, write-new}
 use Rattle.rules.proofs.StoredEntries.{remove-entry, clear-all}
@@ -102,6 +102,15 @@ module _ {b : Bytes} (w : Bytes) (n key k : ℕ) (at : k ≡ place (keysOf w n) 
       subst (Nowhere b w key n) (sym (kept-entries kept))
       (looked-nowhere past (look (numbered key) (kept .map)) (kept .held) (kept .size))
 
+absent-nowhere :
+    {b w : Bytes} {n key : ℕ} → Kept b w n → absent key (entriesOf b w n) ≡ true → Nowhere b w key n (entriesOf b w n)
+absent-nowhere {b} {w} {n} {key} kept once =
+    record {
+      held = rw (kept-entries kept) (kept .held);
+      size = rw (kept-entries kept) (kept .size);
+      lacks = absent-lacks key (entriesOf b w n) once;
+    }
+
 -- in terms of the key's tree
 module _ (b : Bytes) (key : ℕ) where
   tree-lacks : {m : Map Term} → Lacks (numbered key) m → Lacks (numbered (recordNumber (tree b key))) m
@@ -165,27 +174,38 @@ module _ (w : Bytes) (n key : ℕ) (value : Rational) where
         );
       }
 
-  module _ (some-value : isZero value ≡ false) (k : ℕ) (at : k ≡ place (keysOf w n) key) where
-    pub new-inserted :
-        Proper value → n ≤ k → (v : Bytes) → v ≡ putEntry w n key value → Insertion w n key value v (Length (n + 1))
-    unfolding _>>=_ assert
-    new-inserted proper past v left b kept inside l =
-        let m = entriesOf b w n in
-        let h = nowhere w n key k at past kept in
-        let bytes : v ≡ putEntry w (length m) key value = left ∙ ap (λ (i : ℕ). putEntry w i key value) (h .size) in
-        record {
-          map = m ++ (tree b key, value) ∷ [];
-          held = rw bytes (write-new m (h .held) key inside (lacks-absent key (h .lacks)) value proper);
-          is = (
-            insert-missing terms (tree b key) (limited l) value some-value (tree-lacks b key (h .lacks)),
-            omega (arith, h .size, length-append m ((tree b key, value) ∷ [])),
-          );
-        }
+  module _ (some-value : isZero value ≡ false) where
+    -- at the end, where no entry has the key
+    module _ (proper : Proper value) (v : Bytes) (left : v ≡ putEntry w n key value) where
+      entry-appended :
+          (b : Bytes) → Nowhere b w key n (entriesOf b w n) → key < count b → (l : ℕ) →
+          Inserts b v (Length (n + 1)) (insert terms (limited l) (entriesOf b w n) (tree b key) value)
+      unfolding _>>=_ assert
+      entry-appended b h inside l =
+          let m = entriesOf b w n in
+          let bytes : v ≡ putEntry w (length m) key value = left ∙ ap (λ (i : ℕ). putEntry w i key value) (h .size) in
+          record {
+            map = m ++ (tree b key, value) ∷ [];
+            held = rw bytes (write-new m (h .held) key inside (lacks-absent key (h .lacks)) value proper);
+            is = (
+              insert-missing terms (tree b key) (limited l) value some-value (tree-lacks b key (h .lacks)),
+              omega (arith, h .size, length-append m ((tree b key, value) ∷ [])),
+            );
+          }
+
+      pub new-appended :
+          (b : Bytes) → Kept b w n → key < count b → absent key (entriesOf b w n) ≡ true → (l : ℕ) →
+          Inserts b v (Length (n + 1)) (insert terms (limited l) (entriesOf b w n) (tree b key) value)
+      new-appended b kept inside once l = entry-appended b (absent-nowhere kept once) inside l
+
+      pub new-inserted :
+          (k : ℕ) → k ≡ place (keysOf w n) key → n ≤ k → Insertion w n key value v (Length (n + 1))
+      new-inserted k at past b kept inside l = entry-appended b (nowhere w n key k at past kept) inside l
 
     -- the entry at k has the value q, and a answers for its sum with the new one
     module _
-        (below : k < n) {q : Rational} (makes : Makes q (numberAt w (10 * k + 2))) {a : Checked}
-        (gives : Gives a (checked (addQ q value))) where
+        (k : ℕ) (at : k ≡ place (keysOf w n) key) (below : k < n) {q : Rational}
+        (makes : Makes q (numberAt w (10 * k + 2))) {a : Checked} (gives : Gives a (checked (addQ q value))) where
       answered : {b : Bytes} {m : Map Term} (t : There b w key n k m) → checked (addQ (t .entry .1) value) ≡ a
       answered t = ap (λ (x : Rational). checked (addQ x value)) (sym (value-there t q (makes .is))) ∙ sym (gives .is)
 

@@ -20,7 +20,7 @@ use Rattle.rules.specs.IndexMap.{Map}
 use Rattle.rules.specs.LinearArithmetic.{Clause, Progress, processDisequality, readArgs}
 use Rattle.rules.specs.WorkArea.{areaOf, OnlyArea, Area, Held, CoefficientIs}
 use Rattle.rules.specs.LinearSteps.{numbersIn, termsIn, Inside, SumHas, givenOf, progressOf, progressWith, at}
-use Rattle.rules.specs.LinearSteps.{ProcessedIs, ProcessedLeft, foldSome, FoldedLeft, FoldedKeeps}
+use Rattle.rules.specs.LinearSteps.{ProcessedIs, ProcessedLeft, foldSome, AllNumbers, foldRead, FoldedLeft}
 use Rattle.rules.specs.LinearSteps.{Between, Folding}
 use Rattle.rules.specs.declared.index_map.Coefficient.{Coefficient}
 use Rattle.rules.specs.declared.index_map.Coefficient.the-variants.{Of, Missing}
@@ -31,7 +31,7 @@ use Rattle.rules.specs.declared.linear_arithmetic.Folded.the-variants as
 use Rattle.rules.specs.declared.linear_arithmetic.Progress as by-value
 use Rattle.rules.proofs.Areas.{only-then, only-none}
 use Rattle.rules.proofs.AreaSteps.{held-length, kept-sum, sum-entries, only-area, only-sorts, only-other}
-use Rattle.rules.proofs.Results.{refuses-as}
+use Rattle.rules.proofs.Results.{next, refuses-as, code-none}
 use Rattle.rules.proofs.RunParts.{length-numbersIn, named-cons, named-past, below-at}
 use Rattle.rules.proofs.FoldedSteps.{some-refused, some-inferred, some-again}
 
@@ -72,13 +72,14 @@ limitsOf g = limited (g .limit)
 abbrev pub clauseOf : Given → Clause
 clauseOf g = termsIn (g .book) (g .literals)
 
--- all arguments are numbers
+-- the arguments as numbers
 abbrev pub ArgsAre : Given → List Rational → Type 0
 ArgsAre g qs = readArgs (limitsOf g) (termsIn (g .book) (g .args)) ≡ ok qs
 
 -- the fold from p on
-abbrev wholeFold : Given → by-value.Progress → List Rational → Result (Progress × ℕ)
-wholeFold g p qs = foldSome (limitsOf g) (clauseOf g) qs (progressOf (g .book) (g .work) p) 0
+abbrev wholeFold : Given → by-value.Progress → Result (Progress × ℕ)
+wholeFold g p =
+    foldRead (limitsOf g) (clauseOf g) (termsIn (g .book) (g .args)) (progressOf (g .book) (g .work) p)
 
 -- k literals are done, from the progress p to q with the bytes w; nothing was inferred
 pub record FoldedSoFar (g : Given) (p : by-value.Progress) (w : Bytes) (q : by-value.Progress) (k : ℕ) : Type 0 where
@@ -87,30 +88,32 @@ pub record FoldedSoFar (g : Given) (p : by-value.Progress) (w : Bytes) (q : by-v
   pub start : Area 0 (g .work)
   pub folding : Folding (g .book) w q
   pub only : OnlyArea 0 (g .work) w
+  pub numbers : List Rational
+  pub all : ArgsAre g numbers
   pub left :
-      (qs : List Rational) → ArgsAre g qs →
-      wholeFold g p qs ≡ foldSome (limitsOf g) (drop k (clauseOf g)) (drop k qs) (progressOf (g .book) w q) k
+      wholeFold g p ≡ foldSome (limitsOf g) (drop k (clauseOf g)) (drop k numbers) (progressOf (g .book) w q) k
 
 pub so-far-begin :
     (g : Given) (p : by-value.Progress) → Folding (g .book) (g .work) p → Inside (g .book) (g .literals) →
-    FoldedSoFar g p (g .work) p 0
-so-far-begin g p folding named =
+    AllNumbers (g .limit) (g .book) (g .args) → FoldedSoFar g p (g .work) p 0
+unfolding foldRead
+so-far-begin g p folding named numbers =
     let area : Area 0 (g .work) = record { size = folding .between .size; among = omega arith } in
+    let read = code-none (readArgs (limitsOf g) (termsIn (g .book) (g .args))) (sym numbers) in
     record {
       inside = omega arith;
       named = named;
       start = area;
       folding = folding;
       only = only-none area;
-      left = λ qs all. refl;
+      numbers = read .value;
+      all = read .is;
+      left = next _ (read .is);
     }
 
 -- what is promised of the answer r, with the bytes w′
 abbrev Promised : Given → by-value.Progress → Bytes → Folded → Type 0
-Promised g p w′ r =
-    ((qs : List Rational) → ArgsAre g qs →
-    FoldedLeft (g .book) (g .work) w′ (length (numbersIn (g .literals))) r (wholeFold g p qs))
-    × FoldedKeeps (g .book) (g .work) w′ (length (numbersIn (g .literals))) r
+Promised g p w′ r = FoldedLeft (g .book) (g .work) w′ (length (numbersIn (g .literals))) r (wholeFold g p)
 
 -- the literal in record phi
 abbrev literalFrom : Given → Bytes → by-value.Progress → ℕ → Coefficient → Result Progress
@@ -140,22 +143,19 @@ module _ {g : Given} {p : by-value.Progress} {w : Bytes} {q : by-value.Progress}
       let all-done : k ≡ length (numbersIn (g .literals)) =
       omega (arith, far .inside, length-numbersIn (g .literals))
       in
-      let none : drop k (clauseOf g) ≡ [] = named-past (g .book) (numbersIn (g .literals)) k (omega arith) in (
-        λ qs all.
-            record {
-              map = kept .map;
-              held = kept .held;
-              only = far .only;
-              is = (
-                far .left qs all
-                    ∙ ap (λ z. foldSome (limitsOf g) z (drop k qs) (progressOf (g .book) w q) k) none
-                    ∙ ap (λ z. ok (z, k)) (sym (progress-left w q (kept .held) has))
-                    ∙ ap (λ z. ok (progressWith q (kept .map) [], z)) all-done,
-                has,
-              );
-            },
-        (far .folding .acc, far .only),
-      )
+      let none : drop k (clauseOf g) ≡ [] = named-past (g .book) (numbersIn (g .literals)) k (omega arith) in
+      record {
+        map = kept .map;
+        held = kept .held;
+        only = far .only;
+        is = (
+          far .left
+              ∙ ap (λ z. foldSome (limitsOf g) z (drop k (far .numbers)) (progressOf (g .book) w q) k) none
+              ∙ ap (λ z. ok (z, k)) (sym (progress-left w q (kept .held) has))
+              ∙ ap (λ z. ok (progressWith q (kept .map) [], z)) all-done,
+          has,
+        );
+      }
 
   pub phi-below :
       FoldedSoFar g p w q k → k < length (g .literals) / 4 → {phi : ℕ} → phi ≡ getD (numbersIn (g .literals)) k 0 →
@@ -165,15 +165,17 @@ module _ {g : Given} {p : by-value.Progress} {w : Bytes} {q : by-value.Progress}
 
   module _ (far : FoldedSoFar g p w q k) {w′ : Bytes} {r : Processed} (taken : Taken g w q k w′ r) where
     reached :
-        (qs : List Rational) → ArgsAre g qs →
-        wholeFold g p qs ≡
-        foldSome (limitsOf g) (tree (g .book) (taken .phi) ∷ drop (suc k) (clauseOf g)) (drop k qs)
+        wholeFold g p ≡
+        foldSome (limitsOf g) (tree (g .book) (taken .phi) ∷ drop (suc k) (clauseOf g)) (drop k (far .numbers))
         (progressOf (g .book) w q) k
-    reached qs all =
-        far .left qs all
-        ∙ ap (λ z. foldSome (limitsOf g) z (drop k qs) (progressOf (g .book) w q) k)
+    reached =
+        far .left
+        ∙ ap (λ z. foldSome (limitsOf g) z (drop k (far .numbers)) (progressOf (g .book) w q) k)
         (rw (taken .phi-is)
         (named-cons (g .book) (numbersIn (g .literals)) k (rw (length-numbersIn (g .literals)) (taken .inside))))
+
+    argued : CoefficientIs (taken .arg) (at (far .numbers) k)
+    argued = taken .arg-is _ (far .numbers) (far .all)
 
     now-only : OnlyArea 0 (g .work) w′
     now-only = only-then (far .start) (far .folding .between .size) (far .only) (taken .left .only)
@@ -184,46 +186,34 @@ module _ {g : Given} {p : by-value.Progress} {w : Bytes} {q : by-value.Progress}
 
     pub step-refused : (c : ℕ) → r ≡ processed.Refused c → Promised g p w′ (folded.Refused c)
     step-refused c e =
-        let is = said (processed.Refused c) e in (
-          λ qs all.
-              record {
-                map = taken .left .map;
-                held = taken .left .held;
-                only = now-only;
-                is = (
-                  refuses-as (is .0)
-                      (λ d f.
-                      reached qs all
-                      ∙ some-refused (limitsOf g) _ refl _ _ qs k (taken .arg) (taken .arg-is _ qs all) d f),
-                  is .1,
-                );
-              },
-          tt,
-        )
+        let is = said (processed.Refused c) e in
+        record {
+          map = taken .left .map;
+          held = taken .left .held;
+          only = now-only;
+          is = (
+            refuses-as (is .0)
+                (λ d f. reached ∙ some-refused (limitsOf g) _ refl _ _ (far .numbers) k (taken .arg) argued d f),
+            is .1,
+          );
+        }
 
     pub step-inferred :
         (next : by-value.Progress) (found : Coefficient) → r ≡ processed.Accumulated next found →
         (a : Rational) → found ≡ Of a → Promised g p w′ (folded.Inferred next a (k + 1))
     step-inferred next found e a f =
-        let is = said (processed.Accumulated next (Of a)) (rw (← f) e) in (
-          λ qs all.
-              record {
-                map = taken .left .map;
-                held = taken .left .held;
-                only = now-only;
-                is = (
-                  rw add-one
-                      (reached qs all
-                      ∙ some-inferred (limitsOf g) _ refl _ _ qs k (taken .arg) (taken .arg-is _ qs all) _ a refl
-                      (is .0)),
-                  is .1,
-                );
-              },
-          (
-            (kept-sum (taken .left .held) (is .1 .0), now-only),
-            (omega arith, omega (arith, taken .inside, length-numbersIn (g .literals))),
-          ),
-        )
+        let is = said (processed.Accumulated next (Of a)) (rw (← f) e) in
+        record {
+          map = taken .left .map;
+          held = taken .left .held;
+          only = now-only;
+          is = (
+            rw add-one
+                (reached
+                ∙ some-inferred (limitsOf g) _ refl _ _ (far .numbers) k (taken .arg) argued _ a refl (is .0)),
+            is .1,
+          );
+        }
 
     pub step-again :
         (next : by-value.Progress) (found : Coefficient) → r ≡ processed.Accumulated next found → found ≡ Missing →
@@ -240,10 +230,12 @@ module _ {g : Given} {p : by-value.Progress} {w : Bytes} {q : by-value.Progress}
                 acc = kept-sum (taken .left .held) (is .1 .0);
               };
           only = now-only;
-          left = λ qs all.
+          numbers = far .numbers;
+          all = far .all;
+          left =
               rw add-one
-              (reached qs all
-              ∙ some-again (limitsOf g) _ refl _ _ qs k (taken .arg) (taken .arg-is _ qs all) _ refl (is .0)
-              ∙ ap (λ z. foldSome (limitsOf g) (drop (suc k) (clauseOf g)) (drop (suc k) qs) z (suc k))
+              (reached
+              ∙ some-again (limitsOf g) _ refl _ _ (far .numbers) k (taken .arg) argued _ refl (is .0)
+              ∙ ap (λ z. foldSome (limitsOf g) (drop (suc k) (clauseOf g)) (drop (suc k) (far .numbers)) z (suc k))
               (progress-left w′ next (taken .left .held) (is .1 .0)));
         }

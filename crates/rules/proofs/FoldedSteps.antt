@@ -3,13 +3,14 @@
 --     process-later, process-ok, process-refused       what was inferred before only stands in front
 --     trace-given, trace-inferred       what a literal adds to it: nothing, or one number
 --     some-refused, some-inferred, some-again       the literal at k, as `fold_literals` comes to it
+--     some-counted       how many literals are done where a number is inferred
 --     Continued, fold-on, fold-refused       the whole fold by way of `foldSome`
 use mathlib.Core.Path.{_≡_, refl, sym, ap, _∙_}
 use mathlib.Core.List.{List, [], _∷_, _++_, append-assoc}
 use mathlib.Core.Option.{Option, some, none}
-use Prim.Native.Nat.{ℕ, zero, suc, _+_}
+use Prim.Native.Nat.{ℕ, zero, suc, _+_, _≤_, _<_}
 use native.Mathlib.Omega.{arith}
-use lib.ListN.{drop}
+use lib.ListN.{length, drop}
 use lib.Seq.{drop-nil}
 use Rattle.terms.specs.Rational.{Rational}
 use Rattle.terms.specs.Term.{Term}
@@ -161,6 +162,21 @@ module _ (l : Limits) (p : Progress) (new : p .trace ≡ []) (phi : Term) (ts : 
       let more = trace-inferred l p phi r h in
       let one : [] ≡ more .number ∷ [] = sym nothing ∙ more .is ∙ ap (λ z. z ++ more .number ∷ []) new in
       cc
+
+-- what was inferred is not what it was before, so at least one literal is done
+pub some-counted :
+    (l : Limits) (clause : Clause) (qs : List Rational) (p : Progress) (j : ℕ) (r : Progress) (m : ℕ) →
+    foldSome l clause qs p j ≡ ok (r, m) → (p .trace ≡ r .trace → ⊥) → (j < m) × (m ≤ length clause + j)
+unfolding foldSome
+some-counted l [] qs p j r m h other = absurd (other (ap (λ z. z .trace) (pair-ok h .0)))
+some-counted l (phi ∷ clause) [] p j r m h other =
+    let same = pair-ok (through (processDisequality l p phi none) _ (r, m) h .then) in
+    (omega (arith, same .1), omega (arith, same .1))
+some-counted l (phi ∷ clause) (a ∷ qs) p j r m h other =
+    let first = through (processDisequality l p phi (some a)) _ (r, m) h in
+    let same = trace-given l p phi a (first .middle) (first .first) in
+    let others = some-counted l clause qs (first .middle) (suc j) r m (first .then) (λ e. other (sym same ∙ e)) in
+    (omega (arith, others .0), omega (arith, others .1))
 
 -- ---- all literals
 

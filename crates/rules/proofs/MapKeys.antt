@@ -1,20 +1,21 @@
 -- The keys of a map of terms: one that is absent is lacked, and an entry in the middle of a good map may be taken
--- out and put in again (`taken-out`, `put-in`). So different keys below n are at most n (`few`).
+-- out and put in again (`taken-out`, `put-in`), also with another value (`new-value`). So different keys below n are at
+-- most n (`few`).
 use mathlib.Core.Path.{_≡_, refl, sym}
 use mathlib.Core.Bool.{Bool, true, false, not}
 use mathlib.Core.List.{[], _∷_, _++_}
-use Prim.Native.Nat.{ℕ, zero, suc, _+_, _≤_, _<_}
+use Prim.Native.Nat.{ℕ, zero, suc, _≤_}
 use native.Mathlib.Omega.{arith}
 use borrow.Author.Tests.{eqb-true, eqb-false, ne-eqb, not-true}
 use lib.Dec.{eqb}
 use lib.ListN.{length}
-use Rattle.terms.specs.Rational.{Rational}
+use Rattle.terms.specs.Rational.{Rational, Proper}
 use Rattle.terms.specs.Bytes.{Bytes}
 use Rattle.terms.specs.Term.{Term, recordNumber}
 use Rattle.terms.specs.Book.{count}
 use Rattle.terms.proofs.Truths.{both}
 use Rattle.rules.specs.IndexMap.{Map}
-use Rattle.rules.specs.WorkArea.{absent, Entry, Good}
+use Rattle.rules.specs.WorkArea.{absent, Entry, Below, Good}
 use Rattle.rules.proofs.KeyedMaps.{Lacks, nothing, another, Look, found, missing, look}
 use Rattle.rules.proofs.MapEnds.{length-middle}
 
@@ -37,6 +38,10 @@ absent-lacks i [] h = nothing
 absent-lacks i (e ∷ m) h =
     let tests = both (not (eqb (keyOf e) i)) (absent i m) h in
     another (not-true _ (tests .0)) (absent-lacks i m (tests .1))
+
+lacks-front : (i : ℕ) (p s : Map Term) → Lacks (numbered i) (p ++ s) → Lacks (numbered i) p
+lacks-front i [] s h = nothing
+lacks-front i (e ∷ p) s (another other rest) = another other (lacks-front i p s rest)
 
 other-way : (i j : ℕ) → eqb i j ≡ false → eqb j i ≡ false
 other-way i j h = ne-eqb j i (λ e. eqb-false i j h (sym e))
@@ -91,39 +96,56 @@ module _ {b : Bytes} (e : Term × Rational) (s : Map Term) where
         (before (p ++ s) first (lacks-without (keyOf f) e s p others), rest .1),
       )
 
+-- with another value
+pub new-value :
+    (b : Bytes) (p : Map Term) (e : Term × Rational) (s : Map Term) → Good b (p ++ e ∷ s) →
+    (q : Rational) → Proper q → Good b (p ++ (e .0, q) ∷ s)
+new-value b p e s good q proper =
+    let out = taken-out e s p good in
+    let old = out .0 in
+    put-in (e .0, q) s p
+    (record { term = old .term; inside = old .inside; proper = proper; once = old .once })
+    (out .1)
+
+-- no entry before it has its key
+pub lacks-before :
+    (b : Bytes) (p : Map Term) (e : Term × Rational) (s : Map Term) → Good b (p ++ e ∷ s) →
+    Lacks (numbered (keyOf e)) p
+lacks-before b p e s good = lacks-front (keyOf e) p s (lacks-others (taken-out e s p good .0))
+
 -- ---- different keys below n
 
-data Below (n : ℕ) : Map Term → Type 0 where
-  empty : Below n []
-  more : {e : Term × Rational} {m : Map Term} → keyOf e < n → Below n m → Below n (e ∷ m)
+pub good-below : (b : Bytes) (m : Map Term) → Good b m → Below (count b) m
+unfolding Good Below
+good-below b [] g = tt
+good-below b (e ∷ m) g = (g .0 .inside, good-below b m (g .1))
 
-good-below : (b : Bytes) (m : Map Term) → Good b m → Below (count b) m
-unfolding Good
-good-below b [] g = empty
-good-below b (e ∷ m) g = more (g .0 .inside) (good-below b m (g .1))
+lower : (n : ℕ) (m : Map Term) → Below (suc n) m → Lacks (numbered n) m → Below n m
+unfolding Below
+lower n [] low none = tt
+lower n (e ∷ m) low (another other none) =
+    (omega (arith, low .0, eqb-false (keyOf e) n other), lower n m (low .1) none)
 
-lower : {n : ℕ} {m : Map Term} → Below (suc n) m → Lacks (numbered n) m → Below n m
-lower empty h = empty
-lower {n} (more {e} small rest) (another other h) =
-    more {e = e} (omega (arith, eqb-false (keyOf e) n other)) (lower rest h)
-
-below-without : {n : ℕ} (e : Term × Rational) (p s : Map Term) → Below n (p ++ e ∷ s) → Below n (p ++ s)
-below-without e [] s (more small rest) = rest
-below-without e (f ∷ p) s (more small rest) = more small (below-without e p s rest)
+below-without : (n : ℕ) (e : Term × Rational) (p s : Map Term) → Below n (p ++ e ∷ s) → Below n (p ++ s)
+unfolding Below
+below-without n e [] s low = low .1
+below-without n e (f ∷ p) s low = (low .0, below-without n e p s (low .1))
 
 -- the key n is taken out
 few-more :
     {n : ℕ} (b : Bytes) → ((m : Map Term) → Good b m → Below n m → length m ≤ n) →
     {m : Map Term} → Look (numbered n) m → Good b m → Below (suc n) m → length m ≤ suc n
-few-more {n} b few (missing {m} none) g below = omega (arith, few m g (lower below none))
+few-more {n} b few (missing {m} none) g below = omega (arith, few m g (lower n m below none))
 few-more {n} b few (found p e s is none) g below =
     let rest = taken-out e s p g in
     let gone : Lacks (numbered n) (p ++ s) = rw (eqb-true (keyOf e) n is) at (lacks-others (rest .0)) in
-    omega (arith, length-middle e p s, few (p ++ s) (rest .1) (lower (below-without e p s below) gone))
+    let low = lower n (p ++ s) (below-without (suc n) e p s below) gone in
+    omega (arith, length-middle e p s, few (p ++ s) (rest .1) low)
 
 few : (b : Bytes) (n : ℕ) (m : Map Term) → Good b m → Below n m → length m ≤ n
+unfolding Below
 few b zero [] g below = omega arith
-few b zero (e ∷ m) g (more small rest) = absurd (omega arith)
+few b zero (e ∷ m) g below = absurd (omega (arith, below .0))
 few b (suc n) m g below = few-more b (few b n) (look (numbered n) m) g below
 
 -- no more different keys than records

@@ -1,6 +1,7 @@
 -- `la_generic_partial`: the fold goes on from each number that is inferred, until all literals are done.
 --     partial-unread, partial-refused, partial-done       the rule by its steps
---     PartSoFar, Rested, part-unread, part-begin, part-refused, part-done, part-again       its loop
+--     PartSoFar, Rested, part-unread, part-begin, rest-inside, rest-numbers       its loop
+--     part-clear, part-more, part-refused, part-done, part-again       one turn of it
 --     generic-unequal, generic-equal       `la_generic`
 --     begin-trace, inferred-proper, again-trace, done-trace       the numbers that its loop infers
 use mathlib.Core.Path.{_≡_, refl, sym, ap, subst, _∙_}
@@ -29,7 +30,8 @@ use Rattle.rules.specs.LinearArithmetic.{laGenericPartial, laGeneric}
 use Rattle.rules.specs.WorkArea.{slots, stored, entriesOf, areaOf, withArea, OnlyArea, Area, Ready, blanked}
 use Rattle.rules.specs.LinearSteps.{numbersIn, termsIn, Inside, codeOf, verdictOf, visitsOf, SumHas}
 use Rattle.rules.specs.LinearSteps.{progressOf, progressWith}
-use Rattle.rules.specs.LinearSteps.{foldSome, FoldedIs, FoldedLeft, FoldedKeeps, Folding, contradicts}
+use Rattle.rules.specs.LinearSteps.{foldSome, AllNumbers, foldRead, FoldedIs, FoldedLeft, contradicts}
+use Rattle.rules.specs.LinearSteps.{Between, Folding}
 use Rattle.rules.specs.declared.linear_arithmetic.Folded.{Folded}
 use Rattle.rules.specs.declared.linear_arithmetic.Folded.the-variants as folded
 use Rattle.rules.specs.declared.linear_arithmetic.Progress as by-value
@@ -41,9 +43,9 @@ use Rattle.rules.proofs.Areas.{only-then, only-none}
 use Rattle.rules.proofs.Yields.{Yields, gives, past}
 use Rattle.rules.proofs.Results.{next, ends, refuses-as, refused-then, code-none, code-some, refused-verdict}
 use Rattle.rules.proofs.AreaSteps.{kept-sum, sum-entries}
-use Rattle.rules.proofs.RunParts.{length-numbersIn, length-named, numbersIn-drop, termsIn-drop}
+use Rattle.rules.proofs.RunParts.{length-numbersIn, length-termsIn, numbersIn-drop, termsIn-drop}
 use Rattle.rules.proofs.RunParts.{inside-drop, readArgs-drop}
-use Rattle.rules.proofs.FoldedSteps.{later, fold-on, fold-refused}
+use Rattle.rules.proofs.FoldedSteps.{later, some-counted, fold-on, fold-refused}
 use Rattle.rules.proofs.FoldedAreas.{Given, limitsOf, clauseOf, ArgsAre, between-only}
 use Rattle.rules.proofs.Emptied.{ready-folding, emptied, cleared}
 
@@ -125,10 +127,8 @@ pub record Rested (g : Given) (w : Bytes) (p : by-value.Progress) (done : ℕ) (
   pub given : Bytes
   pub given-is : given ≡ drop (4 * done) (g .args)
   pub fold :
-      (qs : List Rational) → readArgs (limitsOf g) (termsIn (g .book) given) ≡ ok qs →
       FoldedLeft (g .book) w w′ (length (numbersIn part)) r
-      (foldSome (limitsOf g) (termsIn (g .book) part) qs (progressOf (g .book) w p) 0)
-  pub keeps : FoldedKeeps (g .book) w w′ (length (numbersIn part)) r
+      (foldRead (limitsOf g) (termsIn (g .book) part) (termsIn (g .book) given) (progressOf (g .book) w p))
 
 -- k literals more
 pub record More (g : Given) (done k : ℕ) : Type 0 where
@@ -142,33 +142,32 @@ Judged g v w r =
     × (w ≡ g .work)
 
 -- c is the number of what is read
-module _ (g : Given) (v c : ℕ) (c-is : (n : ℕ) → c ≡ codeOf (readArgs (limited n) (termsIn (g .book) (g .args)))) where
-  pub part-unread : (c ≡ 0 → ⊥) → Judged g v (g .work) (verdict.Refused c)
-  part-unread other =
-      let stopped = code-some _ c (c-is (g .limit)) other in
-      (refused-verdict (refused-then _ (refuses-as stopped (partial-unread _ (clauseOf g) _ v))), refl)
+pub part-unread :
+    (g : Given) (v c : ℕ) → ((n : ℕ) → c ≡ codeOf (readArgs (limited n) (termsIn (g .book) (g .args)))) →
+    (c ≡ 0 → ⊥) → Judged g v (g .work) (verdict.Refused c)
+part-unread g v c c-is other =
+    let stopped = code-some _ c (c-is (g .limit)) other in
+    (refused-verdict (refused-then _ (refuses-as stopped (partial-unread _ (clauseOf g) _ v))), refl)
 
-  pub part-begin :
-      c ≡ 0 → Ready (g .book) (g .work) → Inside (g .book) (g .literals) → length (g .literals) ≤ 16384 →
-      (q : Rational) → q ≡ whole (pos 0) →
-      PartSoFar g v (g .work) (record { operator = 4; acc = record { len = 0; constant = q }; visits = v }) 0
-  unfolding entriesOf
-  part-begin zero-is ready named small q q-is =
-      let passed =
-      code-none (readArgs (limitsOf g) (termsIn (g .book) (g .args))) (sym zero-is ∙ c-is (g .limit))
-      in
-      record {
-        inside = omega arith;
-        small = small;
-        named = named;
-        ready = ready;
-        folding = ready-folding ready _ refl (rw q-is (whole-proper (pos 0) (omega arith)));
-        only = only-none record { size = ready .size; among = omega arith };
-        numbers = passed .value;
-        all = passed .is;
-        trace = [];
-        left = rw q-is;
-      }
+pub part-begin :
+    (g : Given) (v : ℕ) → AllNumbers (g .limit) (g .book) (g .args) → Ready (g .book) (g .work) →
+    Inside (g .book) (g .literals) → length (g .literals) ≤ 16384 → (q : Rational) → q ≡ whole (pos 0) →
+    PartSoFar g v (g .work) (record { operator = 4; acc = record { len = 0; constant = q }; visits = v }) 0
+unfolding entriesOf
+part-begin g v numbers ready named small q q-is =
+    let passed = code-none (readArgs (limitsOf g) (termsIn (g .book) (g .args))) (sym numbers) in
+    record {
+      inside = omega arith;
+      small = small;
+      named = named;
+      ready = ready;
+      folding = ready-folding ready _ refl (rw q-is (whole-proper (pos 0) (omega arith)));
+      only = only-none record { size = ready .size; among = omega arith };
+      numbers = passed .value;
+      all = passed .is;
+      trace = [];
+      left = rw q-is;
+    }
 
 module _ {g : Given} {v : ℕ} {w : Bytes} {p : by-value.Progress} {done : ℕ} (far : PartSoFar g v w p done) where
   pub part-length : length w ≡ length (g .work)
@@ -180,6 +179,19 @@ module _ {g : Given} {v : ℕ} {w : Bytes} {p : by-value.Progress} {done : ℕ} 
   pub rest-inside : (part : Bytes) → part ≡ drop (4 * done) (g .literals) → Inside (g .book) part
   rest-inside part e = rw e (inside-drop (g .book) (g .literals) done (far .named))
 
+  -- the arguments that are left
+  read-on :
+      (given : Bytes) → given ≡ drop (4 * done) (g .args) →
+      readArgs (limitsOf g) (termsIn (g .book) given) ≡ ok (drop done (far .numbers))
+  read-on given e =
+      ap (λ z. readArgs (limitsOf g) (termsIn (g .book) z)) e
+      ∙ ap (readArgs (limitsOf g)) (termsIn-drop (g .book) (g .args) done)
+      ∙ readArgs-drop (limitsOf g) (termsIn (g .book) (g .args)) done (far .numbers) (far .all)
+
+  pub rest-numbers :
+      (given : Bytes) → given ≡ drop (4 * done) (g .args) → AllNumbers (g .limit) (g .book) given
+  rest-numbers given e = ap codeOf (read-on given e)
+
   pub part-less :
       (k : ℕ) → More g done k → length (g .literals) / 4 - (done + k) < length (g .literals) / 4 - done
   part-less k more = omega (arith, more .some, more .within)
@@ -188,16 +200,6 @@ module _ {g : Given} {v : ℕ} {w : Bytes} {p : by-value.Progress} {done : ℕ} 
   part-fits k more = fits-under w64 (done + k) 65536 (omega (arith, more .within, far .small)) tt
 
   module _ {w′ : Bytes} {r : Folded} (rested : Rested g w p done w′ r) where
-    kept : (s : Folded) → r ≡ s → FoldedKeeps (g .book) w w′ (length (numbersIn (rested .part))) s
-    kept s e = subst (FoldedKeeps (g .book) w w′ (length (numbersIn (rested .part)))) e (rested .keeps)
-
-    -- the area can be cleared
-    pub part-clear : (q : by-value.Progress) → r ≡ folded.Done q → Area 0 w′ × (q .acc .len ≤ 4096)
-    part-clear q e =
-        let sum = kept (folded.Done q) e in
-        let between = between-only (far .folding .between) (sum .0 .kept .held) (sum .1) in
-        (record { size = between .size; among = omega arith }, omega (arith, kept-small (sum .0 .kept)))
-
     -- how many literals are left
     left-over : length (numbersIn (rested .part)) + done ≡ length (g .literals) / 4
     left-over =
@@ -206,27 +208,23 @@ module _ {g : Given} {v : ℕ} {w : Bytes} {p : by-value.Progress} {done : ℕ} 
         in
         omega (arith, far .inside, length-drop done (numbersIn (g .literals)), length-numbersIn (g .literals))
 
-    -- a fold that infers a number does some of them
-    pub part-more : (q : by-value.Progress) (x : Rational) (k : ℕ) → r ≡ folded.Inferred q x k → More g done k
-    part-more q x k e =
-        let counts = kept (folded.Inferred q x k) e in
-        record { some = counts .1 .0; within = omega (arith, counts .1 .1, left-over) }
-
     -- the fold of the rest, as the definition has it
     abbrev restFold : Result (Progress × ℕ)
     restFold =
         foldSome (limitsOf g) (drop done (clauseOf g)) (drop done (far .numbers)) (progressOf (g .book) w p) 0
 
-    rest-left : FoldedLeft (g .book) w w′ (length (numbersIn (rested .part))) r restFold
-    rest-left =
-        subst
-        (λ z. FoldedLeft (g .book) w w′ (length (numbersIn (rested .part))) r
-        (foldSome (limitsOf g) z (drop done (far .numbers)) (progressOf (g .book) w p) 0))
+    rest-fold :
+        foldRead (limitsOf g) (termsIn (g .book) (rested .part)) (termsIn (g .book) (rested .given))
+        (progressOf (g .book) w p)
+        ≡ restFold
+    unfolding foldRead
+    rest-fold =
+        next _ (read-on (rested .given) (rested .given-is))
+        ∙ ap (λ z. foldSome (limitsOf g) z (drop done (far .numbers)) (progressOf (g .book) w p) 0)
         (ap (termsIn (g .book)) (rested .part-is) ∙ termsIn-drop (g .book) (g .literals) done)
-        (rested .fold (drop done (far .numbers))
-        (ap (λ z. readArgs (limitsOf g) (termsIn (g .book) z)) (rested .given-is)
-        ∙ ap (readArgs (limitsOf g)) (termsIn-drop (g .book) (g .args) done)
-        ∙ readArgs-drop (limitsOf g) (termsIn (g .book) (g .args)) done (far .numbers) (far .all)))
+
+    rest-left : FoldedLeft (g .book) w w′ (length (numbersIn (rested .part))) r restFold
+    rest-left = subst (FoldedLeft (g .book) w w′ (length (numbersIn (rested .part))) r) rest-fold (rested .fold)
 
     now-only : OnlyArea 0 (g .work) w′
     now-only =
@@ -236,6 +234,29 @@ module _ {g : Given} {v : ℕ} {w : Bytes} {p : by-value.Progress} {done : ℕ} 
     said : (s : Folded) → r ≡ s → FoldedIs (length (numbersIn (rested .part))) s (rest-left .map) restFold
     said s e =
         subst (λ z. FoldedIs (length (numbersIn (rested .part))) z (rest-left .map) restFold) e (rest-left .is)
+
+    now-between : Between (g .book) w′
+    now-between = between-only (far .folding .between) (rest-left .held) (rest-left .only)
+
+    -- the area can be cleared
+    pub part-clear : (q : by-value.Progress) → r ≡ folded.Done q → Area 0 w′ × (q .acc .len ≤ 4096)
+    part-clear q e =
+        let sum = kept-sum (rest-left .held) (said (folded.Done q) e .1) in
+        (record { size = now-between .size; among = omega arith }, omega (arith, kept-small (sum .kept)))
+
+    -- a fold that infers a number does some of the literals
+    pub part-more : (q : by-value.Progress) (x : Rational) (k : ℕ) → r ≡ folded.Inferred q x k → More g done k
+    part-more q x k e =
+        let is = said (folded.Inferred q x k) e .0 in
+        let counts =
+        some-counted (limitsOf g) _ _ (progressOf (g .book) w p) 0 _ k is (λ same. omega (arith, ap length same))
+        in
+        record {
+          some = counts .0;
+          within =
+              omega
+              (arith, counts .1, far .inside, length-drop done (clauseOf g), length-termsIn (g .book) (g .literals));
+        }
 
     pub part-refused : (c : ℕ) → r ≡ folded.Refused c → Judged g v w′ (verdict.Refused c)
     part-refused c e =
@@ -255,7 +276,7 @@ module _ {g : Given} {v : ℕ} {w : Bytes} {p : by-value.Progress} {done : ℕ} 
     unfolding foldLiterals
     all-done q h =
         let on = fold-on (limitsOf g) (far .trace) _ _ (progressOf (g .book) w p) 0 q _ h in
-        let long = length-named (g .book) (numbersIn (g .literals)) ∙ length-numbersIn (g .literals) in
+        let long = length-termsIn (g .book) (g .literals) in
         let none : drop (on .steps) (drop done (clauseOf g)) ≡ [] =
         drop-of-length-le (drop done (clauseOf g)) {i = on .steps}
         (omega (arith, left-over, on .counted, length-drop done (clauseOf g)))
@@ -291,7 +312,7 @@ module _ {g : Given} {v : ℕ} {w : Bytes} {p : by-value.Progress} {done : ℕ} 
           ready = far .ready;
           folding =
               record {
-                between = between-only (far .folding .between) (rest-left .held) (rest-left .only);
+                between = now-between;
                 acc = kept-sum (rest-left .held) (is .1 .0);
               };
           only = now-only;
@@ -309,21 +330,18 @@ module _ {g : Given} {v : ℕ} {w : Bytes} {p : by-value.Progress} {done : ℕ} 
 -- ---- `la_generic`: as many arguments as literals
 
 module _ (b literals args : Bytes) (v l : ℕ) where
-  counts : (part : Bytes) → length (termsIn b part) ≡ length part / 4
-  counts part = length-named b (numbersIn part) ∙ length-numbersIn part
-
   pub generic-unequal :
       (length args / 4 ≡ length literals / 4 → ⊥) →
       verdict.Refused 20 ≡ verdictOf (visitsOf (laGeneric (limited l) (termsIn b literals) (termsIn b args) v))
   unfolding laGeneric assert _>>=_
-  generic-unequal h = rw (counts args, counts literals, ne-eqb _ _ h, laGeneric)
+  generic-unequal h = rw (length-termsIn b args, length-termsIn b literals, ne-eqb _ _ h, laGeneric)
 
   equal-counts :
       length args / 4 ≡ length literals / 4 →
       laGenericPartial (limited l) (termsIn b literals) (termsIn b args) v ≡
       laGeneric (limited l) (termsIn b literals) (termsIn b args) v
   unfolding laGeneric assert _>>=_
-  equal-counts h = rw (counts args, counts literals, eq-eqb _ _ h, laGeneric)
+  equal-counts h = rw (length-termsIn b args, length-termsIn b literals, eq-eqb _ _ h, laGeneric)
 
   pub generic-equal :
       length args / 4 ≡ length literals / 4 → (a : Verdict) →
@@ -334,12 +352,12 @@ module _ (b literals args : Bytes) (v l : ℕ) where
 -- ---- the numbers that the loop infers, for whoever takes each as it is found
 
 pub begin-trace :
-    (g : Given) (v c : ℕ) (c-is : (n : ℕ) → c ≡ codeOf (readArgs (limited n) (termsIn (g .book) (g .args))))
-    (zero-is : c ≡ 0) (ready : Ready (g .book) (g .work)) (named : Inside (g .book) (g .literals))
-    (small : length (g .literals) ≤ 16384) (q : Rational) (q-is : q ≡ whole (pos 0)) →
-    part-begin g v c c-is zero-is ready named small q q-is .trace ≡ []
+    (g : Given) (v : ℕ) (numbers : AllNumbers (g .limit) (g .book) (g .args)) (ready : Ready (g .book) (g .work))
+    (named : Inside (g .book) (g .literals)) (small : length (g .literals) ≤ 16384) (q : Rational)
+    (q-is : q ≡ whole (pos 0)) →
+    part-begin g v numbers ready named small q q-is .trace ≡ []
 unfolding part-begin
-begin-trace g v c c-is zero-is ready named small q q-is = refl
+begin-trace g v numbers ready named small q q-is = refl
 
 module _ {g : Given} {v : ℕ} {w : Bytes} {p : by-value.Progress} {done : ℕ} (far : PartSoFar g v w p done) where
   module _ {w′ : Bytes} {r : Folded} (rested : Rested g w p done w′ r) where

@@ -2,7 +2,7 @@
 -- they name. The laws go by induction along the part or the numbers in it.
 --     length-numbersIn, number-at, numbersIn-drop       the numbers in a part
 --     drop-to-end, drop-past-end       what the function `rest` takes
---     named-drop, named-cons, named-past, termsIn-drop       the terms that they name
+--     length-termsIn, named-drop, named-cons, named-past, termsIn-drop       the terms that they name
 --     below-at, inside-drop       each names a record of the book
 --     readOf, fraction-read, readArgs-drop, ArgumentAt, argument-at, argument-past       the arguments that are read
 --     ReadSoFar, read-begin .. read-end, argument-of .. argument-beyond       the functions `read_args`, `argument_at`
@@ -87,6 +87,9 @@ module _ (b : Bytes) where
   unfolding named
   length-named [] = refl
   length-named (i ∷ l) = ap suc (length-named l)
+
+  pub length-termsIn : (p : Bytes) → length (termsIn b p) ≡ length p / 4
+  length-termsIn p = length-named (numbersIn p) ∙ length-numbersIn p
 
   pub named-drop : (l : List ℕ) (k : ℕ) → named b (drop k l) ≡ drop k (named b l)
   unfolding named

@@ -17,7 +17,7 @@ use Rattle.rules.specs.WorkArea.{slots, entryBytes, stored, keysOf, entr
 use Rattle.rules.specs.WorkArea.{absent, Entry, Good, Held, Kept}
 use Rattle.rules.proofs.EntryBytes.{key-found, value-found}
 pub use Rattle.rules.proofs.MapKeys.{good-length}
-use Rattle.rules.proofs.MapKeys.{keyOf, put-in, taken-out}
+use Rattle.rules.proofs.MapKeys.{keyOf, put-in, taken-out, new-value}
 use Rattle.rules.proofs.StoredBytes.{packed, entry-cell, length-entry, length-packed}
 use Rattle.rules.proofs.StoredBytes.{behind, write-over, write-end, blank-end, blank-all}
 use Rattle.rules.proofs.MapEnds.{length-middle, Ends, nothing, last, ends, swapRemove-last}
@@ -102,16 +102,11 @@ module _ {b w : Bytes} (p : Map Term) (e : Term × Rational) (s : Map Term) (h :
   pub write-value :
       (q : Rational) → Proper q → Held b (putEntry w (length p) (recordNumber (e .0)) q) (p ++ (e .0, q) ∷ s)
   write-value q proper =
-      let out = taken-out e s p (h .good) in
-      let old = out .0 in
       record {
         bytes =
             ap (λ (l : Bytes). putEntry l (length p) (keyOf e) q) (h .bytes)
             ∙ write-over slots p (good-place b p e s (h .good)) e (e .0, q) s;
-        good =
-            put-in (e .0, q) s p
-            (record { term = old .term; inside = old .inside; proper = proper; once = old .once })
-            (out .1);
+        good = new-value b p e s (h .good) q proper;
       }
 
 -- ---- the last entry in the place of another

@@ -17,10 +17,10 @@ use Rattle.rules.specs.Refusal.{Result, _>>=_}
 use Rattle.rules.specs.Refusal.Result.{ok, refused}
 use Rattle.rules.specs.Refusal.Refusal.{numberRange}
 use Rattle.rules.specs.Limits.{Limits, limited}
-use Rattle.rules.specs.IndexMap.{Walked, walked, addEntry, addConstant}
+use Rattle.rules.specs.IndexMap.{Map, Walked, walked, addEntry, addConstant}
 use Rattle.rules.specs.LinearComb.{LinearComb, terms, armOf, addTerm, addArgs}
 use Rattle.rules.specs.LinearComb.Arm.{sum, negation, difference, product, leaf}
-use Rattle.rules.specs.WorkArea.{Sum, KeptSum, Laid, Refuses, Walks}
+use Rattle.rules.specs.WorkArea.{Sum, entriesOf, Below, Held, KeptSum, Laid, Refuses, WalkIs}
 use Rattle.rules.specs.declared.linear_comb.Node.{Node}
 use Rattle.rules.specs.declared.linear_comb.Node.the-variants as node
 use Rattle.rules.specs.declared.linear_comb.Place.{Place}
@@ -28,6 +28,8 @@ use Rattle.rules.specs.declared.linear_comb.Place.the-variants as place
 use Rattle.rules.specs.declared.linear_comb.Flat.{Flat}
 use Rattle.rules.specs.declared.linear_comb.Flat.the-variants as flat
 use Rattle.rules.specs.declared.linear_comb.Walk.the-variants as walk
+use Rattle.rules.specs.declared.linear_comb.Filled.{Filled}
+use Rattle.rules.specs.declared.linear_comb.Filled.the-variants as filled
 
 -- a constant, where it is in range
 abbrev pub constantNode : Checked → Node
@@ -98,18 +100,20 @@ pub record NodeIs (r d : Node) : Type 0 where
   pub is : r ≡ d
   pub proper : NodeProper r
 
-pub record WalkPre (b w : Bytes) (id : ℕ) (coeff : Rational) (s : Sum) : Type 0 where
+pub record WalkPre (b w : Bytes) (id : ℕ) (coeff : Rational) (s : Sum) (above : ℕ) : Type 0 where
   pub laid : Laid b
   pub inside : id < count b
   pub proper : Proper coeff
   pub sum : KeptSum b w s
+  pub atoms : Below above (entriesOf b w (s .len))
 
-pub record ArgsPre (b w args : Bytes) (id : ℕ) (first others : Rational) (s : Sum) : Type 0 where
+pub record ArgsPre (b w args : Bytes) (id : ℕ) (first others : Rational) (s : Sum) (above : ℕ) : Type 0 where
   pub laid : Laid b
   pub inside : id < count b
   pub below : allBelow id (numbers args) ≡ true
   pub proper : Proper first × Proper others
   pub sum : KeptSum b w s
+  pub atoms : Below above (entriesOf b w (s .len))
 
 -- ---- where a term leads
 
@@ -132,8 +136,19 @@ pub record PlaceIs (b : Bytes) (l i : ℕ) (coeff : Rational) (visits : ℕ) (r 
   pub is : (s : LinearComb) → AtPlace b (limited l) r s (addTerm (tree b i) (limited l) coeff (walked s visits))
   pub proper : PlaceProper i r
 
+-- ---- a walk that knows a number above the record numbers of all atoms
+
+abbrev pub FilledIs : Filled → Map Term → Result (Walked Term) → Type 0
+FilledIs (filled.Done s v above) m d = WalkIs (walk.Done s v) m d × Below above m
+FilledIs (filled.Refused c) m d = WalkIs (walk.Refused c) m d
+
+pub record Fills (b w : Bytes) (r : Filled) (d : Result (Walked Term)) : Type 0 where
+  pub map : Map Term
+  pub held : Held b w map
+  pub is : FilledIs r map d
+
 -- a walk from the bytes w of an area to w′, unless there are arguments to walk
 abbrev pub FlatWalks : Bytes → Bytes → Bytes → Flat → Result (Walked Term) → Type 0
-FlatWalks b w w′ (flat.Done s v) d = Walks b w′ (walk.Done s v) d
-FlatWalks b w w′ (flat.Refused c) d = Walks b w′ (walk.Refused c) d
+FlatWalks b w w′ (flat.Done s v above) d = Fills b w′ (filled.Done s v above) d
+FlatWalks b w w′ (flat.Refused c) d = Fills b w′ (filled.Refused c) d
 FlatWalks b w w′ flat.Deeper d = w′ ≡ w

@@ -4,7 +4,7 @@ use mathlib.Core.Path.{_≡_}
 use mathlib.Core.Bool.{true, _&&_, not, cond}
 use mathlib.Core.List.{List, [], _∷_, _++_}
 use mathlib.Core.Option.{Option, some, none}
-use Prim.Native.Nat.{ℕ, zero, suc, _+_, _*_, _≤_, _<_}
+use Prim.Native.Nat.{ℕ, zero, suc, _+_, _*_, _<_}
 use lib.Dec.{eqb}
 use lib.IntN.{pos}
 use lib.ListN.{length}
@@ -16,12 +16,12 @@ use Rattle.terms.specs.Readers.{argumentsOf}
 use Rattle.rules.specs.Refusal.{Result, _>>=_, assert, orElse, number}
 use Rattle.rules.specs.Refusal.Result.{ok, refused}
 use Rattle.rules.specs.Refusal.Refusal.{numberRange, invalidDisequalityOp, disequalityIsNotTautology}
-use Rattle.rules.specs.Limits.{Limits, times}
+use Rattle.rules.specs.Limits.{Limits, limited, times}
 use Rattle.rules.specs.IndexMap.{Map, combination, add, sub, new, Walked, walked, addConstant}
 use Rattle.rules.specs.LinearComb.{LinearComb, terms, mul}
 use Rattle.rules.specs.LinearArithmetic.{Clause, inner, twoSides, Disequality, disequality, turned, strengthened, scalar}
 use Rattle.rules.specs.LinearArithmetic.{weakened, joinOperators, argumentOf, Progress, progress, processDisequality}
-use Rattle.rules.specs.LinearArithmetic.{inferred, disequalityOf, isTrueAtZero, isTautology}
+use Rattle.rules.specs.LinearArithmetic.{inferred, disequalityOf, readArgs, isTrueAtZero, isTautology}
 use Rattle.rules.specs.WorkArea.{Sum, slots, stored, entriesOf, areaOf, withArea, OnlyArea, Held, KeptSum, Refuses, Laid}
 use Rattle.rules.specs.declared.index_map.Coefficient.{Coefficient}
 use Rattle.rules.specs.declared.index_map.Coefficient.the-variants.{Of, Missing}
@@ -260,6 +260,16 @@ foldSome l (phi ∷ clause) (a ∷ args) p k = do
   q ← processDisequality l p phi (some a)
   foldSome l clause args q (suc k)
 
+-- all arguments are numbers
+abbrev pub AllNumbers : ℕ → Bytes → Bytes → Type 0
+AllNumbers l b args = codeOf (readArgs (limited l) (termsIn b args)) ≡ 0
+
+-- the fold with the arguments as they are read
+unfoldable pub foldRead : Limits → Clause → List Term → Progress → Result (Progress × ℕ)
+foldRead l clause args p = do
+  qs ← readArgs l args
+  foldSome l clause qs p 0
+
 -- n literals in all
 abbrev pub FoldedIs : ℕ → Folded → Map Term → Result (Progress × ℕ) → Type 0
 FoldedIs n (folded.Done p) m d = (d ≡ ok (progressWith p m [], n)) × SumHas (p .acc) m
@@ -306,9 +316,3 @@ pub record Between (b w : Bytes) : Type 0 where
 pub record Folding (b w : Bytes) (p : by-value.Progress) : Type 0 where
   pub between : Between b w
   pub acc : KeptSum b (areaOf 0 w) (p .acc)
-
--- what a fold can be gone on with
-abbrev pub FoldedKeeps : Bytes → Bytes → Bytes → ℕ → Folded → Type 0
-FoldedKeeps b w w′ n (folded.Done p) = KeptSum b (areaOf 0 w′) (p .acc) × OnlyArea 0 w w′
-FoldedKeeps b w w′ n (folded.Inferred p q k) = (KeptSum b (areaOf 0 w′) (p .acc) × OnlyArea 0 w w′) × ((0 < k) × (k ≤ n))
-FoldedKeeps b w w′ n (folded.Refused c) = Unit {0}

@@ -2,6 +2,7 @@
 // number in two bytes and a number in eight; after the entries come zeros. How many there are is carried by value.
 // A refusal leaves the area empty.
 ghost use mathlib.Core.Path.{_≡_};
+ghost use mathlib.Core.Bool.{true};
 ghost use Prim.Native.Nat.{ℕ, _+_, _*_, _-_, _≤_, _<_};
 ghost use lib.Dec.{ltb};
 ghost use lib.ListN.{length, drop};
@@ -11,7 +12,9 @@ ghost use Rattle.terms.specs.Book.{count, tree};
 ghost use Rattle.rules.specs.Limits.{limited};
 ghost use Rattle.rules.specs.IndexMap.{insert, get};
 ghost use Rattle.rules.specs.LinearComb.{terms};
-ghost use Rattle.rules.specs.WorkArea.{keysOf, entriesOf, place, putEntry, blank, blanked, swapped, Kept, Grown, Inserts, CoefficientIs};
+ghost use Rattle.rules.specs.WorkArea.{keysOf, entriesOf, place, putEntry, blank, blanked, swapped, absent};
+ghost use Rattle.rules.specs.WorkArea.{Kept, Grown, Inserts, CoefficientIs};
+ghost use Rattle.rules.specs.declared.index_map.Inserted.the-variants as inserted;
 use terms::bytes::read_u16;
 use terms::bytes::write_u16;
 use terms::number::Checked;
@@ -176,6 +179,23 @@ fn swap_remove(entries: &mut [u8], n: usize, k: usize)
     let value = value_at(entries, last);
     put_entry(entries, k, key, value);
     blank_entry(entries, last);
+}
+
+// Appends an entry whose key no other has: the search for it is spared. 0 is not entered. How many entries there are
+// then.
+pub(crate) fn append(entries: &mut [u8], n: usize, key: usize, value: Number) -> usize
+    requires { ⌜ (n ≤ 4096) × ((key < 65536) × Proper value) ⌝ }
+    ensures { λ r. ⌜ r ≤ n + 1 ⌝ }
+    ensures { λ r. ⌜ ((b : Bytes) → Kept b (now (entries .entry)) n → key < count b →
+        absent key (entriesOf b (now (entries .entry)) n) ≡ true → (l : ℕ) →
+        Inserts b (now (entries .exit)) (inserted.Length r)
+        (insert terms (limited l) (entriesOf b (now (entries .entry)) n) (tree b key) value)) ⌝ }
+{
+    if value.is_zero() {
+        return n;
+    }
+    put_entry(entries, n, key, value);
+    n + 1
 }
 
 // Adds to the entry that has the key, or appends one; an entry that becomes 0 is removed.

@@ -15,7 +15,7 @@ ghost use Rattle.rules.specs.LinearArithmetic.{isTautology, laTautology}
 ghost use Rattle.rules.specs.WorkArea.{Area, Apart, areaOf, entriesOf, combOf, blanked, withArea, Kept, KeptSum, CoefficientIs, Ready};
 ghost use Rattle.rules.specs.LinearSteps.{numbersIn, termsIn, Inside, at, codeOf, verdictOf, visitsOf, givenOf, CoefficientProper};
 ghost use Rattle.rules.specs.LinearSteps.{InferredIs, argumentFrom, ArguedIs, scaledOf, ScaledLeft, accumulated, AccumulatedLeft, ProcessedLeft};
-ghost use Rattle.rules.specs.LinearSteps.{progressOf, foldSome, FoldedLeft, FoldedKeeps, Folding, contradicts, tautologyOf, StrengthenedIs};
+ghost use Rattle.rules.specs.LinearSteps.{progressOf, AllNumbers, foldRead, FoldedLeft, Folding, contradicts, tautologyOf, StrengthenedIs};
 ghost use Rattle.rules.specs.declared.linear_arithmetic.Processed.the-variants as processed;
 use crate::disequality::Disequality;
 use crate::disequality::Literal;
@@ -306,7 +306,7 @@ fn argument_at(book: &[u8], args: &[u8], k: usize) -> Coefficient
 }
 
 // The fold over the literals (`try_fold`) from a progress on, up to the first argument that is inferred. Missing arguments are
-// inferred, surplus ones ignored.
+// inferred, surplus ones ignored. All that are given are numbers: `read_args` answers 0.
 pub fn fold_literals(
     book: &[u8],
     work: &mut [u8],
@@ -316,11 +316,11 @@ pub fn fold_literals(
     limit: u32,
 ) -> Folded
     requires { ⌜ Folding (now book) (now work) p × Inside (now book) (now literals) ⌝ }
-    ensures { λ r. ⌜ ((qs : List Rational) → readArgs (limited limit) (termsIn (now (book .entry)) (now (args .entry))) ≡ ok qs →
-        FoldedLeft (now (book .entry)) (now (work .entry)) (now (work .exit)) (length (numbersIn (now (literals .entry)))) r
-        (foldSome (limited limit) (termsIn (now (book .entry)) (now (literals .entry))) qs
-        (progressOf (now (book .entry)) (now (work .entry)) p) 0)) ⌝ }
-    ensures { λ r. ⌜ FoldedKeeps (now (book .entry)) (now (work .entry)) (now (work .exit)) (length (numbersIn (now (literals .entry)))) r ⌝ }
+    requires { ⌜ AllNumbers limit (now book) (now args) ⌝ }
+    ensures { λ r. ⌜ FoldedLeft (now (book .entry)) (now (work .entry)) (now (work .exit))
+        (length (numbersIn (now (literals .entry)))) r
+        (foldRead (limited limit) (termsIn (now (book .entry)) (now (literals .entry)))
+        (termsIn (now (book .entry)) (now (args .entry))) (progressOf (now (book .entry)) (now (work .entry)) p)) ⌝ }
 {
     let n = literals.len() / 4;
     let mut q = p;

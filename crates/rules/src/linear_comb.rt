@@ -10,10 +10,11 @@ ghost use Rattle.terms.specs.Readers.{Finds};
 ghost use Rattle.rules.specs.Limits.{limited};
 ghost use Rattle.rules.specs.IndexMap.{negAll, scaleAll, walked, addConstant, addEntry};
 ghost use Rattle.rules.specs.LinearComb.{terms, mul, gcdFrom, coefficientsGcd, addTerm};
-ghost use Rattle.rules.specs.WorkArea.{entriesOf, combOf, Held, Kept, KeptSum, Laid, negated, Inserts, Sums, Walks};
-ghost use Rattle.rules.specs.LinearNodes.{NodeIs, WalkPre, ArgsPre, PlaceIs, FlatWalks};
+ghost use Rattle.rules.specs.WorkArea.{entriesOf, combOf, Held, Kept, KeptSum, Laid, negated, Inserts, Sums};
+ghost use Rattle.rules.specs.LinearNodes.{NodeIs, WalkPre, ArgsPre, PlaceIs, Fills, FlatWalks};
 ghost use Rattle.rules.specs.LinearNodes.{addEach, nodeOf, readNode, productNode, factorNode};
 use crate::index_map::Inserted;
+use crate::index_map::append;
 use crate::index_map::clear;
 use crate::index_map::insert;
 use crate::index_map::key_at;
@@ -296,43 +297,55 @@ fn descend(book: &[u8], id: usize, coeff: Number, visits: u32, limit: u32) -> Pl
     Place::Refused(10)
 }
 
-fn add_constant(entries: &mut [u8], s: LinearComb, visits: u32, q: Number) -> Walk
+// A number that is above the record numbers of all atoms: a book has no more records.
+const ABOVE_ALL: usize = 2048;
+
+// The same as a walk, with a number that is above the record numbers of all atoms so far.
+pub(crate) enum Filled {
+    Done(LinearComb, u32, usize),
+    // Document 01's number of the refusal.
+    Refused(u8),
+}
+
+fn add_constant(entries: &mut [u8], s: LinearComb, visits: u32, q: Number) -> Filled
     requires { ⌜ (s .len ≤ 4096) × (Proper (s .constant) × Proper q) ⌝ }
     ensures { λ r. ⌜ ((b : Bytes) → KeptSum b (now (entries .entry)) s → (l : ℕ) →
-        Walks b (now (entries .exit)) r (addConstant (limited l) q (walked (combOf b (now (entries .entry)) s) visits))) ⌝ }
+        Fills b (now (entries .exit)) r (addConstant (limited l) q (walked (combOf b (now (entries .entry)) s) visits))) ⌝ }
 {
     let n = s.len;
     let c = s.constant;
     let Checked::Value(constant) = c.add(q) else {
         clear(entries, n);
-        return Walk::Refused(11);
+        return Filled::Refused(11);
     };
-    Walk::Done(LinearComb { len: n, constant }, visits)
+    Filled::Done(LinearComb { len: n, constant }, visits, ABOVE_ALL)
 }
 
-fn add_entry(entries: &mut [u8], s: LinearComb, visits: u32, key: usize, value: Number) -> Walk
+fn add_entry(entries: &mut [u8], s: LinearComb, visits: u32, key: usize, value: Number) -> Filled
     requires { ⌜ (s .len ≤ 4096) × (Proper (s .constant) × ((key < 65536) × Proper value)) ⌝ }
     ensures { λ r. ⌜ ((b : Bytes) → KeptSum b (now (entries .entry)) s → key < count b → (l : ℕ) →
-        Walks b (now (entries .exit)) r (addEntry terms (limited l) (tree b key) value (walked (combOf b (now (entries .entry)) s) visits))) ⌝ }
+        Fills b (now (entries .exit)) r (addEntry terms (limited l) (tree b key) value (walked (combOf b (now (entries .entry)) s) visits))) ⌝ }
 {
     let n = s.len;
     let constant = s.constant;
     let Inserted::Length(len) = insert(entries, n, key, value) else {
-        return Walk::Refused(11);
+        return Filled::Refused(11);
     };
-    Walk::Done(LinearComb { len, constant }, visits)
+    Filled::Done(LinearComb { len, constant }, visits, ABOVE_ALL)
 }
 
 // What the walk of a term leaves that has no arguments to walk.
 pub(crate) enum Flat {
-    Done(LinearComb, u32),
+    Done(LinearComb, u32, usize),
     // Document 01's number of the refusal.
     Refused(u8),
     // There are arguments to walk, and nothing is changed.
     Deeper,
 }
 
-// Adds coeff times the term of record `id`, unless there are arguments to walk.
+// Adds coeff times the term of record `id`, unless there are arguments to walk. The record numbers of all atoms are below
+// `above`: an atom that is not is the first of its kind, and need not be sought. Sums often name atoms in the order of
+// their numbers.
 fn add_flat(
     book: &[u8],
     entries: &mut [u8],
@@ -341,8 +354,9 @@ fn add_flat(
     s: LinearComb,
     visits: u32,
     limit: u32,
+    above: usize,
 ) -> Flat
-    requires { ⌜ WalkPre (now book) (now entries) id coeff s ⌝ }
+    requires { ⌜ WalkPre (now book) (now entries) id coeff s above ⌝ }
     ensures { λ r. ⌜ FlatWalks (now (book .entry)) (now (entries .entry)) (now (entries .exit)) r
         (addTerm (tree (now (book .entry)) id) (limited limit) coeff (walked (combOf (now (book .entry)) (now (entries .entry)) s) visits)) ⌝ }
 {
@@ -351,16 +365,22 @@ fn add_flat(
     match descend(book, id, coeff, visits, limit) {
         Place::Args(_, _, _, _) => Flat::Deeper,
         Place::Constant(q, seen) => match c.add(q) {
-            Checked::Value(constant) => Flat::Done(LinearComb { len: n, constant }, seen),
+            Checked::Value(constant) => Flat::Done(LinearComb { len: n, constant }, seen, above),
             Checked::OutOfRange => {
                 clear(entries, n);
                 Flat::Refused(11)
             }
         },
-        Place::Atom(x, value, seen) => match insert(entries, n, x, value) {
-            Inserted::Length(len) => Flat::Done(LinearComb { len, constant: c }, seen),
-            Inserted::OutOfRange => Flat::Refused(11),
-        },
+        Place::Atom(x, value, seen) => {
+            if above <= x {
+                let len = append(entries, n, x, value);
+                return Flat::Done(LinearComb { len, constant: c }, seen, x + 1);
+            }
+            match insert(entries, n, x, value) {
+                Inserted::Length(len) => Flat::Done(LinearComb { len, constant: c }, seen, above),
+                Inserted::OutOfRange => Flat::Refused(11),
+            }
+        }
         Place::Refused(code) => {
             clear(entries, n);
             Flat::Refused(code)
@@ -368,7 +388,7 @@ fn add_flat(
     }
 }
 
-// Adds coeff times the term of record `id`.
+// Adds coeff times the term of record `id`. The record numbers of all atoms are below `above`.
 pub(crate) fn add_term(
     book: &[u8],
     entries: &mut [u8],
@@ -377,9 +397,10 @@ pub(crate) fn add_term(
     s: LinearComb,
     visits: u32,
     limit: u32,
-) -> Walk
-    requires { ⌜ WalkPre (now book) (now entries) id coeff s ⌝ }
-    ensures { λ r. ⌜ Walks (now (book .entry)) (now (entries .exit)) r
+    above: usize,
+) -> Filled
+    requires { ⌜ WalkPre (now book) (now entries) id coeff s above ⌝ }
+    ensures { λ r. ⌜ Fills (now (book .entry)) (now (entries .exit)) r
         (addTerm (tree (now (book .entry)) id) (limited limit) coeff (walked (combOf (now (book .entry)) (now (entries .entry)) s) visits)) ⌝ }
 {
     let n = s.len;
@@ -394,12 +415,13 @@ pub(crate) fn add_term(
             s,
             seen,
             limit,
+            above,
         ),
         Place::Constant(q, seen) => add_constant(entries, s, seen, q),
         Place::Atom(x, c, seen) => add_entry(entries, s, seen, x, c),
         Place::Refused(c) => {
             clear(entries, n);
-            Walk::Refused(c)
+            Filled::Refused(c)
         }
     }
 }
@@ -416,9 +438,10 @@ fn add_args(
     s: LinearComb,
     visits: u32,
     limit: u32,
-) -> Walk
-    requires { ⌜ ArgsPre (now book) (now entries) (now args) id first others s ⌝ }
-    ensures { λ r. ⌜ Walks (now (book .entry)) (now (entries .exit)) r
+    above: usize,
+) -> Filled
+    requires { ⌜ ArgsPre (now book) (now entries) (now args) id first others s above ⌝ }
+    ensures { λ r. ⌜ Fills (now (book .entry)) (now (entries .exit)) r
         (addEach (forest (tree (now (book .entry))) (arguments id (numbers (now (args .entry))))) (limited limit) first others
         (walked (combOf (now (book .entry)) (now (entries .entry)) s) visits)) ⌝ }
 {
@@ -426,29 +449,32 @@ fn add_args(
     let mut sum = s;
     let mut seen = visits;
     let mut coeff = first;
+    let mut top = above;
     let mut k = 0;
     while k < n {
         let x = argument(args, k, id);
-        match add_flat(book, entries, x, coeff, sum, seen, limit) {
-            Flat::Done(t, v) => {
+        match add_flat(book, entries, x, coeff, sum, seen, limit, top) {
+            Flat::Done(t, v, w) => {
                 sum = t;
                 seen = v;
+                top = w;
             }
             Flat::Refused(c) => {
-                return Walk::Refused(c);
+                return Filled::Refused(c);
             }
-            Flat::Deeper => match add_term(book, entries, x, coeff, sum, seen, limit) {
-                Walk::Done(t, v) => {
+            Flat::Deeper => match add_term(book, entries, x, coeff, sum, seen, limit, top) {
+                Filled::Done(t, v, w) => {
                     sum = t;
                     seen = v;
+                    top = w;
                 }
-                Walk::Refused(c) => {
-                    return Walk::Refused(c);
+                Filled::Refused(c) => {
+                    return Filled::Refused(c);
                 }
             },
         }
         coeff = others;
         k += 1;
     }
-    Walk::Done(sum, seen)
+    Filled::Done(sum, seen, top)
 }

@@ -1,8 +1,9 @@
 // Combinations in the three areas of the work area: 0 the accumulated one, 1 and 2 a literal's two sides. The areas lie apart,
 // and each function changes the bytes of one area alone. A refusal leaves that area empty.
 ghost use mathlib.Core.Path.{_≡_};
+ghost use mathlib.Core.Bool.{true};
 ghost use mathlib.Core.List.{[]};
-ghost use Prim.Native.Nat.{ℕ, _≤_, _<_};
+ghost use Prim.Native.Nat.{ℕ, _+_, _≤_, _<_};
 ghost use lib.ListN.{length, replicate};
 ghost use Rattle.terms.specs.Rational.{Makes, Proper};
 ghost use Rattle.terms.specs.Bytes.{Bytes};
@@ -11,13 +12,17 @@ ghost use Rattle.rules.specs.Limits.{limited};
 ghost use Rattle.rules.specs.IndexMap.{insert, insertAll, add, sub, negAll};
 ghost use Rattle.rules.specs.LinearComb.{terms, mul, fromTerm};
 ghost use Rattle.rules.specs.LinearArithmetic.{allInt};
-ghost use Rattle.rules.specs.WorkArea.{Area, Apart, areaOf, withArea, OnlyArea, entriesOf, combOf, blanked, Kept, KeptSum};
-ghost use Rattle.rules.specs.WorkArea.{signedAll, signedQ, signedComb, negated, Grown, Held, Inserts, Sums, Walks, Laid};
+ghost use Rattle.rules.specs.WorkArea.{Area, Apart, areaOf, withArea, OnlyArea, entriesOf, combOf, blanked};
+ghost use Rattle.rules.specs.WorkArea.{signedAll, signedQ, signedComb, negated, Kept, KeptSum, Grown, Held};
+ghost use Rattle.rules.specs.WorkArea.{absent, Inserts, Sums, Walks, Laid};
+ghost use Rattle.rules.specs.declared.index_map.Inserted.the-variants as inserted;
 use crate::index_map::Inserted;
+use crate::index_map::append;
 use crate::index_map::clear;
 use crate::index_map::insert;
 use crate::index_map::key_at;
 use crate::index_map::value_at;
+use crate::linear_comb::Filled;
 use crate::linear_comb::LinearComb;
 use crate::linear_comb::Summed;
 use crate::linear_comb::Walk;
@@ -86,6 +91,20 @@ fn insert_in(work: &mut [u8], j: usize, n: usize, key: usize, value: Number) -> 
     insert(&mut work[start..end], n, key, value)
 }
 
+// The same with a key that no entry has.
+fn append_in(work: &mut [u8], j: usize, n: usize, key: usize, value: Number) -> usize
+    requires { ⌜ Area j (now work) × ((n ≤ 4096) × ((key < 65536) × Proper value)) ⌝ }
+    ensures { λ r. ⌜ (r ≤ n + 1) × OnlyArea j (now (work .entry)) (now (work .exit)) ⌝ }
+    ensures { λ r. ⌜ ((b : Bytes) → Kept b (areaOf j (now (work .entry))) n → key < count b →
+        absent key (entriesOf b (areaOf j (now (work .entry))) n) ≡ true → (l : ℕ) →
+        Inserts b (areaOf j (now (work .exit))) (inserted.Length r)
+        (insert terms (limited l) (entriesOf b (areaOf j (now (work .entry))) n) (tree b key) value)) ⌝ }
+{
+    let start = 2048 + 20480 * j;
+    let end = start + 20480;
+    append(&mut work[start..end], n, key, value)
+}
+
 pub(crate) fn neg_in(work: &mut [u8], j: usize, s: LinearComb) -> LinearComb
     requires { ⌜ Area j (now work) × ((s .len ≤ 4096) × Proper (s .constant)) ⌝ }
     ensures { λ r. ⌜ (r ≡ negated s) × OnlyArea j (now (work .entry)) (now (work .exit)) ⌝ }
@@ -128,7 +147,7 @@ pub(crate) fn from_term(
         len: 0,
         constant: Number::whole(0),
     };
-    add_term(
+    match add_term(
         book,
         &mut work[start..end],
         id,
@@ -136,7 +155,11 @@ pub(crate) fn from_term(
         none,
         visits,
         limit,
-    )
+        0,
+    ) {
+        Filled::Done(s, seen, _) => Walk::Done(s, seen),
+        Filled::Refused(c) => Walk::Refused(c),
+    }
 }
 
 // ---- two areas
@@ -149,6 +172,27 @@ fn signed(turned: bool, q: Number) -> Number
     if turned { q.neg() } else { q }
 }
 
+// Inserts the m entries of area `from` into area `to`, which is empty, with the sign turned or as they are: the keys of
+// area `from` differ, so each is a key that no entry has. How many entries there are then.
+fn copy_all(work: &mut [u8], to: usize, from: usize, m: usize, turned: bool) -> usize
+    requires { ⌜ Apart to from (now work) × (m ≤ 2048) ⌝ }
+    ensures { λ r. ⌜ (r ≤ 4096) × OnlyArea to (now (work .entry)) (now (work .exit)) ⌝ }
+    ensures { λ r. ⌜ ((b : Bytes) → Kept b (areaOf to (now (work .entry))) 0 →
+        Kept b (areaOf from (now (work .entry))) m → (l : ℕ) →
+        Inserts b (areaOf to (now (work .exit))) (inserted.Length r)
+        (insertAll terms (limited l) [] (signedAll turned (entriesOf b (areaOf from (now (work .entry))) m)))) ⌝ }
+{
+    let mut len = 0;
+    let mut k = 0;
+    while k < m {
+        let key = key_at(area(work, from), k);
+        let value = signed(turned, value_at(area(work, from), k));
+        len = append_in(work, to, len, key, value);
+        k += 1;
+    }
+    len
+}
+
 // Inserts the m entries of area `from` into the n of area `to`, one by one, with the sign turned or as they are. There are 4096 at
 // most in the end.
 fn insert_all(work: &mut [u8], to: usize, n: usize, from: usize, m: usize, turned: bool) -> Inserted
@@ -159,6 +203,9 @@ fn insert_all(work: &mut [u8], to: usize, n: usize, from: usize, m: usize, turne
         (insertAll terms (limited l) (entriesOf b (areaOf to (now (work .entry))) n)
         (signedAll turned (entriesOf b (areaOf from (now (work .entry))) m)))) ⌝ }
 {
+    if n == 0 {
+        return Inserted::Length(copy_all(work, to, from, m, turned));
+    }
     let mut len = n;
     let mut k = 0;
     while k < m {

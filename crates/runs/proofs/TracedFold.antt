@@ -94,9 +94,10 @@ module _ (g : Given) (v c : ℕ) (c-is : (n : ℕ) → c ≡ codeOf (readArgs (l
       o t out
   unfolding addReals
   traced-begin zero-is ready named small q q-is o t out =
-      let none = begin-trace g v c c-is zero-is ready named small q q-is in
+      let numbers = sym (c-is (g .limit)) ∙ zero-is in
+      let none = begin-trace g v numbers ready named small q q-is in
       record {
-        far = part-begin g v c c-is zero-is ready named small q q-is;
+        far = part-begin g v numbers ready named small q q-is;
         writes =
             record {
               fronts = fronts-same;

@@ -14,6 +14,7 @@ use rules::linear_arithmetic::bounded_farkas;
 use rules::linear_arithmetic::fold_literals;
 use rules::linear_arithmetic::la_generic;
 use rules::linear_arithmetic::la_tautology;
+use rules::linear_arithmetic::read_args;
 use rules::linear_arithmetic::rest;
 use rules::linear_comb::LinearComb;
 use rules::linear_shapes::Verdict;
@@ -189,10 +190,13 @@ fn agrees(book: &[u8], work: &mut [u8], h: Head, literals: &[u8], args: &[u8]) -
     false
 }
 
-// Whether the numbers that a step infers, each taken as it is found, are those of the file.
+// Whether the arguments of a step are numbers, and those that it infers, each taken as it is found, are those of the file.
 fn infers(book: &[u8], work: &mut [u8], literals: &[u8], args: &[u8], numbers: &[u8]) -> bool
     requires { ⌜ Ready (now book) (now work) × (Inside (now book) (now literals) × (length (now literals) ≤ 16384)) ⌝ }
 {
+    if read_args(book, args) != 0 {
+        return false;
+    }
     let mut p = Progress {
         operator: 4,
         acc: LinearComb {

@@ -1,71 +1,102 @@
 -- The invariant is `InferredSoFar` of Inferring. The measure is how many literals are left; it falls, since a fold that
 -- infers a number has done at least one.
-use mathlib.Core.Path.{_∙_}
+use mathlib.Core.Path.{sym, _∙_}
 use Prim.Native.Nat.{_-_, _/_}
 use borrow.Author.Needs.{needs}
 use lib.ListN.{length}
-use Rattle.step_cases.proofs.Inferring.{InferredSoFar, inferred-begin, rest-inside, inferred-length}
-use Rattle.step_cases.proofs.Inferring.{inferred-few, inferred-place, inferred-count}
-use Rattle.step_cases.proofs.Inferring.{inferred-fits, inferred-less, inferred-again}
+use Rattle.rules.specs.LinearSteps.{AllNumbers}
+use Rattle.rules.proofs.FoldedAreas.{Given}
+use Rattle.rules.proofs.PartialFold.{part-length, part-few, part-less, part-fits, Rested, rest-inside, rest-numbers}
+use Rattle.rules.proofs.PartialFold.{part-more}
+use Rattle.step_cases.proofs.Inferring.{InferredSoFar, inferred-begin, inferred-place, inferred-count}
+use Rattle.step_cases.proofs.Inferring.{inferred-again}
 use Rattle.step_cases.proofs.infers.Statement.{statement}
 use Rattle.step_cases.proofs.infers.Tie as tie
 
 abbrev Inv-loop : tie.InvT-loop
 Inv-loop book work₀ literals args numbers p₀ done₀ k₀ work p done k =
-    InferredSoFar book literals work₀ work p done k
+    InferredSoFar (record { book = book; literals = literals; args = args; limit = 1000000; work = work₀ }) work p done
+    k
 
 abbrev μ-loop : tie.MeasureT-loop
 μ-loop book work₀ literals args numbers p₀ done₀ k₀ work p done k = length literals / 4 - done
 
 loop-holds : tie.Need-loop-holds Inv-loop μ-loop
 loop-holds c =
-    let start = c .before .before .before .before .before .before in
-    inferred-begin (start .pre .0) (start .pre .1 .0) (start .pre .1 .1) _ (c .whole .ensures)
+    let s = c .before .before .before .before .before .before .before .before in
+    let pre = s .pre in
+    let numbers : AllNumbers 1000000 (s .args .book .now) (s .args .args .now) =
+    sym (c .before .before .read-args .ensures 1000000) ∙ c .before .if1 .left in
+    inferred-begin _ numbers (pre .0) (pre .1 .0) (pre .1 .1) _ (c .whole .ensures)
 
 rest-requires : tie.Need-rest-requires Inv-loop μ-loop
-rest-requires c κs = inferred-few (c .before .loop .inv)
+rest-requires c κs = part-few (c .before .loop .inv .far)
 
 rest-requires-2 : tie.Need-rest-requires-2 Inv-loop μ-loop
-rest-requires-2 c κs = inferred-few (c .before .before .loop .inv)
+rest-requires-2 c κs = part-few (c .before .before .loop .inv .far)
 
 fold-literals-requires : tie.Need-fold-literals-requires Inv-loop μ-loop
 fold-literals-requires c κs =
-    let far = c .before .before .before .loop .inv in
-    (far .folding, rest-inside far _ (c .before .rest .ensures))
+    let far = c .before .before .before .loop .inv .far in
+    ((far .folding, rest-inside far _ (c .before .rest .ensures)), rest-numbers far _ (c .rest2 .ensures))
 
 -- one turn
 abbrev turn : tie.After-fold-literals Inv-loop μ-loop → tie.At-loop Inv-loop μ-loop
 turn c = c .before .before .before .before
 
+abbrev given : tie.At-loop Inv-loop μ-loop → Given
+given c =
+    let args = c .before .before .before .before .before .before .before .before .before .args in
+    record {
+      book = args .book .now;
+      literals = args .literals .now;
+      args = args .args .now;
+      limit = 1000000;
+      work = args .work .now;
+    }
+
+rested :
+    (c : tie.After-fold-literals Inv-loop μ-loop) →
+    Rested (given (turn c)) (turn c .loop .work) (turn c .loop .p) (turn c .loop .done)
+    (c .fold-literals .last .1 .0) (c .fold-literals .result)
+rested c =
+    let rests = c .before in
+    record {
+      part = rests .before .rest .result .now;
+      part-is = rests .before .rest .ensures;
+      given = rests .rest2 .result .now;
+      given-is = rests .rest2 .ensures;
+      fold = c .fold-literals .ensures;
+    }
+
 same-length : tie.Need-same-length Inv-loop μ-loop
 same-length c =
     let folded = c .before .before .before .before in
-    folded .fold-literals .kept .1 .0 ∙ inferred-length (turn folded .loop .inv)
+    folded .fold-literals .kept .1 .0 ∙ part-length (turn folded .loop .inv .far)
 
 mul-read : tie.Need-mul-read Inv-loop μ-loop
 mul-read c = inferred-place (turn (c .before .before .before .before .before) .loop .inv)
 
 -- a number was inferred, and it is that of the file
-abbrev folded : tie.Then1 Inv-loop μ-loop → tie.After-fold-literals Inv-loop μ-loop
+abbrev folded : tie.Then2 Inv-loop μ-loop → tie.After-fold-literals Inv-loop μ-loop
 folded c = c .before .before .before .before .before .before .before .before
 
 add-done : tie.Need-add-done Inv-loop μ-loop
 add-done c =
     let f = folded c in
-    inferred-fits (turn f .loop .inv) (f .before .before .rest .ensures) _ _ (f .fold-literals .ensures .1) _ _ _
-    (c .before .before .before .before .q .given .1)
+    let far = turn f .loop .inv .far in
+    part-fits far _ (part-more far (rested f) _ _ _ (c .before .before .before .before .q .given .1))
 
 loop-less : tie.Need-loop-less Inv-loop μ-loop
 loop-less c =
     let f = folded c in
-    inferred-less (turn f .loop .inv) (f .before .before .rest .ensures) _ _ (f .fold-literals .ensures .1) _ _ _
-    (c .before .before .before .before .q .given .1)
+    let far = turn f .loop .inv .far in
+    part-less far _ (part-more far (rested f) _ _ _ (c .before .before .before .before .q .given .1))
 
 loop-again : tie.Need-loop-again Inv-loop μ-loop
 loop-again c =
     let f = folded c in
-    inferred-again (turn f .loop .inv) (f .before .before .rest .ensures) _ _ (f .fold-literals .ensures .1) _ _ _
-    (c .before .before .before .before .q .given .1)
+    inferred-again (turn f .loop .inv) (rested f) _ _ _ (c .before .before .before .before .q .given .1)
 
 add-k : tie.Need-add-k Inv-loop μ-loop
 add-k c = inferred-count (turn (folded c) .loop .inv)
@@ -73,12 +104,12 @@ add-k c = inferred-count (turn (folded c) .loop .inv)
 same-length-2 : tie.Need-same-length-2 Inv-loop μ-loop
 same-length-2 c =
     let f = c .before .before .before .before .before .before .before .before in
-    f .fold-literals .kept .1 .0 ∙ inferred-length (turn f .loop .inv)
+    f .fold-literals .kept .1 .0 ∙ part-length (turn f .loop .inv .far)
 
 same-length-3 : tie.Need-same-length-3 Inv-loop μ-loop
 same-length-3 c =
     let f = c .before .before .before .before in
-    f .fold-literals .kept .1 .0 ∙ inferred-length (turn f .loop .inv)
+    f .fold-literals .kept .1 .0 ∙ part-length (turn f .loop .inv .far)
 
 pub infers-spec : {M : Type 1} → statement M
 infers-spec =
@@ -86,6 +117,8 @@ infers-spec =
     (tie.spec
     Inv-loop
     μ-loop
+    (λ c κs. search needs)
+    (λ c. search needs)
     (λ c κs. search needs)
     loop-holds
     rest-requires

@@ -16,8 +16,8 @@ returns-2 c =
     let look = past .before in
     let some-value = look .before .before in (
       omega arith,
-      new-inserted _ _ _ _ (sym (some-value .before .is-zero .ensures) ∙ some-value .if1 .left) _ (look .find .ensures)
-          (search needs) (past .if2 .taken) _ (put .put-entry .ensures),
+      new-inserted _ _ _ _ (sym (some-value .before .is-zero .ensures) ∙ some-value .if1 .left) (search needs)
+          _ (put .put-entry .ensures) _ (look .find .ensures) (past .if2 .taken),
     )
 
 returns-3 : tie.Need-returns-3

@@ -22,7 +22,7 @@ abbrev μ-loop : tie.MeasureT-loop
 loop-holds : tie.Need-loop-holds Inv-loop μ-loop
 loop-holds c =
     let start = c .before .before .before .before in
-    so-far-begin _ _ (start .pre .0) (start .pre .1)
+    so-far-begin _ _ (start .pre .0 .0) (start .pre .0 .1) (start .pre .1)
 
 number-in-requires : tie.Need-number-in-requires Inv-loop μ-loop
 number-in-requires c κs =

@@ -1,12 +1,12 @@
 -- The invariant is `PartSoFar` of PartialFold: the whole fold is what is left of it after the literals that are done.
 -- The measure is how many literals are left; it falls, since a fold that infers a number has done at least one.
-use mathlib.Core.Path.{_∙_}
+use mathlib.Core.Path.{sym, _∙_}
 use Prim.Native.Nat.{_-_, _/_}
 use borrow.Author.Needs.{needs}
 use lib.ListN.{length}
 use Rattle.rules.proofs.FoldedAreas.{Given}
 use Rattle.rules.proofs.PartialFold.{PartSoFar, part-unread, part-begin, part-length, part-few, part-less}
-use Rattle.rules.proofs.PartialFold.{part-fits, Rested, rest-inside, part-clear, part-more}
+use Rattle.rules.proofs.PartialFold.{part-fits, Rested, rest-inside, rest-numbers, part-clear, part-more}
 use Rattle.rules.proofs.PartialFold.{part-refused, part-done, part-again}
 use Rattle.rules.proofs.linear_arithmetic.la_generic_partial.Statement.{statement}
 use Rattle.rules.proofs.linear_arithmetic.la_generic_partial.Tie as tie
@@ -36,8 +36,8 @@ loop-holds : tie.Need-loop-holds Inv-loop μ-loop
 loop-holds c =
     let read = c .before .before in
     let start = read .before .before .before .before .before in
-    part-begin (given read) _ _ (read .read-args .ensures) (c .before .if1 .left) (start .pre .0) (start .pre .1 .0)
-    (start .pre .1 .1) _ (c .whole .ensures)
+    let numbers = sym (read .read-args .ensures (start .args .limit)) ∙ c .before .if1 .left in
+    part-begin (given read) _ numbers (start .pre .0) (start .pre .1 .0) (start .pre .1 .1) _ (c .whole .ensures)
 
 rest-requires : tie.Need-rest-requires Inv-loop μ-loop
 rest-requires c κs = part-few (c .before .loop .inv)
@@ -48,7 +48,7 @@ rest-requires-2 c κs = part-few (c .before .before .loop .inv)
 fold-literals-requires : tie.Need-fold-literals-requires Inv-loop μ-loop
 fold-literals-requires c κs =
     let far = c .before .before .before .loop .inv in
-    (far .folding, rest-inside far _ (c .before .rest .ensures))
+    ((far .folding, rest-inside far _ (c .before .rest .ensures)), rest-numbers far _ (c .rest2 .ensures))
 
 -- one turn
 abbrev turn : tie.After-fold-literals Inv-loop μ-loop → tie.At-loop Inv-loop μ-loop
@@ -65,8 +65,7 @@ rested c =
       part-is = rests .before .rest .ensures;
       given = rests .rest2 .result .now;
       given-is = rests .rest2 .ensures;
-      fold = c .fold-literals .ensures .0;
-      keeps = c .fold-literals .ensures .1;
+      fold = c .fold-literals .ensures;
     }
 
 contradiction-requires : tie.Need-contradiction-requires Inv-loop μ-loop

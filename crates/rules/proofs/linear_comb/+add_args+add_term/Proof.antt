@@ -49,11 +49,13 @@ add-term-below t =
     and 2 add-term-kinds.ps (falls 2 add-term-kinds.ps _<_ μ-add-term t) add-term.Pre
 
 abbrev add-args-Inv-loop : add-args-lts.InvT-loop
-add-args-Inv-loop book entries₀ args id others visits limit n sum₀ seen₀ coeff₀ k₀ entries sum seen coeff k =
-    Walking book entries₀ args id limit coeff₀ others sum₀ visits entries sum seen coeff k
+add-args-Inv-loop
+    book entries₀ args id others visits limit above n sum₀ seen₀ coeff₀ top₀ k₀ entries sum seen coeff top k =
+    Walking book entries₀ args id limit coeff₀ others sum₀ visits entries sum seen coeff top k
 
 abbrev add-args-μ-loop : add-args-lts.MeasureT-loop
-add-args-μ-loop book entries₀ args id others visits limit n sum₀ seen₀ coeff₀ k₀ entries sum seen coeff k =
+add-args-μ-loop
+    book entries₀ args id others visits limit above n sum₀ seen₀ coeff₀ top₀ k₀ entries sum seen coeff top k =
     n - k
 
 abbrev add-args-claims : ℕ → add-args-lts.Claims
@@ -96,7 +98,8 @@ module _ (t : ℕ) where
   add-args-returns c =
       let flat = c .before .before .before .before .before in
       let loop = flat .before .before .before .before in
-      walking-refused (search needs) (loop .loop .inv) (search needs) (flat .before .before .argument .ensures)
+      let pre = loop .before .before .before .before .pre in
+      walking-refused (pre .1) (loop .loop .inv) (search needs) (flat .before .before .argument .ensures)
       (rw (c .before .c .given .1) at (flat .add-flat .ensures)) refl
 
   add-args-add-term-requires :
@@ -121,8 +124,9 @@ module _ (t : ℕ) where
       let flat = told .before .before .before .before in
       let loop = flat .before .before .before .before in
       let deeper = rw (told .enum-told .given .1) at (flat .add-flat .ensures) in
-      let inv = walking-same (search needs) (loop .loop .inv) deeper in
-      walking-refused (search needs) inv (search needs) (flat .before .before .argument .ensures)
+      let pre = loop .before .before .before .before .pre in
+      let inv = walking-same (pre .1) (loop .loop .inv) deeper in
+      walking-refused (pre .1) inv (search needs) (flat .before .before .argument .ensures)
       (called .add-term .ensures) (search needs)
 
   add-args-loop-again :
@@ -131,16 +135,17 @@ module _ (t : ℕ) where
   add-args-loop-again c =
       let flat = c .before .before .before in
       let loop = flat .before .before .before .before in
+      let pre = loop .before .before .before .before .pre in
       let x = flat .before .before .argument .ensures in
       ⊎-elim
       (λ w.
       let walked = rw (w .1 .given .1) at (flat .add-flat .ensures) in
-      rw (w .3, w .4, w .5)
-      (walking-more (search needs) (loop .loop .inv) (search needs) x walked refl (search needs)))
+      rw (w .3, w .4, w .5, w .6)
+      (walking-more (pre .1) (loop .loop .inv) (search needs) x walked refl (search needs)))
       (λ w.
       let deeper = rw (w .1 .given .1) at (flat .add-flat .ensures) in
-      rw (w .9, w .10, w .11)
-      (walking-more (search needs) (walking-same (search needs) (loop .loop .inv) deeper) (search needs) x
+      rw (w .9, w .10, w .11, w .12)
+      (walking-more (pre .1) (walking-same (pre .1) (loop .loop .inv) deeper) (search needs) x
       (w .3 .ensures) (w .7 .given .1) (search needs)))
       (c .match .came)
 
@@ -223,7 +228,7 @@ pub +add-args+add-term-spec : {M : Type 1} → statement M
     (λ c. search needs)
     (add-args-loop-again t)
     (λ c. search needs)
-    (λ c. walking-done (search needs) (c .before .loop .inv) (search needs)))
+    (λ c. walking-done (c .before .before .before .before .before .pre .1) (c .before .loop .inv) (search needs)))
     λ t. add-term-lts.spec (add-term-claims t) (add-term-at t) add-term.Post
     (λ c κs. search needs)
     (λ c. search needs)

@@ -1,6 +1,7 @@
 -- `from_term` lends area j, which is empty, to `add_term`: the walk starts with the empty combination and the
--- coefficient 1, as that of the definition.
-use mathlib.Core.Path.{refl}
+-- coefficient 1, as that of the definition. No atom is there, so 0 is above all; what is above them in the end is
+-- dropped.
+use mathlib.Core.Path.{_≡_, refl}
 use mathlib.Core.List.{[]}
 use Prim.Native.Nat.{ℕ, _≤_, _<_}
 use borrow.Author.Needs.{needs}
@@ -11,8 +12,9 @@ use Rattle.terms.specs.Bytes.{Bytes}
 use Rattle.terms.specs.Book.{count}
 use Rattle.rules.specs.LinearComb.{fromTerm}
 use Rattle.rules.specs.LinearNodes.{WalkPre}
-use Rattle.rules.specs.WorkArea.{Laid, Held, entriesOf}
-use Rattle.rules.proofs.Areas.{lent-is, lent-back}
+use Rattle.rules.specs.WorkArea.{Laid, Below, Held, entriesOf}
+use Rattle.rules.proofs.Areas.{Back, lent-is, lent-back}
+use Rattle.rules.proofs.WalkSteps.{filled-walks, refused-walks}
 use Rattle.rules.proofs.work_area.from_term.Statement.{statement}
 use Rattle.rules.proofs.work_area.from_term.Tie as tie
 
@@ -22,13 +24,15 @@ small n h = record { numerator = h; positive = record { lt = tt }; denominator =
 -- a walk starts with no entries, the constant 0 and the coefficient 1
 starts :
     {b w : Bytes} {id : ℕ} → Laid b → id < count b → Held b w [] →
-    WalkPre b w id (whole (pos 1)) (record { len = 0; constant = whole (pos 0) })
+    WalkPre b w id (whole (pos 1)) (record { len = 0; constant = whole (pos 0) }) 0
+unfolding entriesOf Below
 starts laid inside held =
     record {
       laid = laid;
       inside = inside;
       proper = small 1 (lit≤ tt);
       sum = record { kept = record { map = []; held = held; size = refl }; proper = small 0 (lit≤ tt) };
+      atoms = tt;
     }
 
 add-term-requires : tie.Need-add-term-requires
@@ -38,14 +42,33 @@ add-term-requires c κs =
     rw (lent-is (z .args .j) (z .args .work .now), c .whole2 .ensures, c .before .before .whole .ensures)
     (starts (given .0) (given .1 .0) (given .1 .1))
 
+-- the area as `add_term` gives it back, and the two numbers that it was called with
+module _ (call : tie.After-add-term) where
+  abbrev begun : tie.Start
+  begun = call .before .before .before .before .before .before
+
+  back : Back (begun .args .j) (begun .args .work .now) (call .add-term .last .1 .0)
+  back = lent-back (begun .pre .0) (call .add-term .last .1 .0) (call .add-term .kept .1 .0)
+
+  one-is : call .before .whole2 .result ≡ whole (pos 1)
+  one-is = call .before .whole2 .ensures
+
+  none-is : call .before .before .before .whole .result ≡ whole (pos 0)
+  none-is = call .before .before .before .whole .ensures
+
 returns : tie.Need-returns
 unfolding entriesOf fromTerm
 returns c =
-    let z = c .before .before .before .before .before .before .before .before in
-    let two = c .before .before .before in
-    let m = c .before .before .add-term in
-    let back = lent-back (z .pre .0) (m .last .1 .0) (m .kept .1 .0) in
-    rw (back .put, back .is) (refl, rw (two .whole2 .ensures, two .before .before .whole .ensures) at (m .ensures))
+    let call = c .before .before .before .before .before in
+    let walks = filled-walks (rw (c .before .s .given .1) at (call .add-term .ensures)) in
+    rw (back call .put, back call .is) (refl, rw (one-is call, none-is call) at walks)
+
+returns-2 : tie.Need-returns-2
+unfolding entriesOf fromTerm
+returns-2 c =
+    let call = c .before .before .before .before .before in
+    let walks = refused-walks (rw (c .before .c .given .1) at (call .add-term .ensures)) in
+    rw (back call .put, back call .is) (refl, rw (one-is call, none-is call) at walks)
 
 pub from-term-spec : {M : Type 1} → statement M
 from-term-spec =
@@ -61,4 +84,8 @@ from-term-spec =
     (λ c κs. search needs)
     add-term-requires
     (λ c. search needs)
-    returns)
+    (λ c. search needs)
+    (λ c. search needs)
+    returns
+    (λ c. search needs)
+    returns-2)

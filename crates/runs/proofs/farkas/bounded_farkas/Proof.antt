@@ -5,8 +5,8 @@ use Prim.Native.Nat.{_-_, _/_}
 use borrow.Author.Needs.{needs}
 use lib.ListN.{length}
 use Rattle.rules.proofs.FoldedAreas.{Given}
-use Rattle.rules.proofs.PartialFold.{part-length, part-few, part-less, part-fits, Rested, rest-inside, part-clear}
-use Rattle.rules.proofs.PartialFold.{part-more, inferred-proper}
+use Rattle.rules.proofs.PartialFold.{part-length, part-few, part-less, part-fits, Rested, rest-inside, rest-numbers}
+use Rattle.rules.proofs.PartialFold.{part-clear, part-more, inferred-proper}
 use Rattle.runs.proofs.TracedFold.{TracedSoFar, traced-unread, traced-begin, traced-again, traced-refused}
 use Rattle.runs.proofs.TracedFold.{traced-done}
 use Rattle.runs.proofs.farkas.bounded_farkas.Statement.{statement}
@@ -55,7 +55,7 @@ rest-requires-2 c κs = part-few (c .before .before .loop .inv .far)
 fold-literals-requires : tie.Need-fold-literals-requires Inv-loop μ-loop
 fold-literals-requires c κs =
     let far = c .before .before .before .loop .inv .far in
-    (far .folding, rest-inside far _ (c .before .rest .ensures))
+    ((far .folding, rest-inside far _ (c .before .rest .ensures)), rest-numbers far _ (c .rest2 .ensures))
 
 -- one turn
 abbrev turn : tie.After-fold-literals Inv-loop μ-loop → tie.At-loop Inv-loop μ-loop
@@ -72,8 +72,7 @@ rested c =
       part-is = rests .before .rest .ensures;
       given = rests .rest2 .result .now;
       given-is = rests .rest2 .ensures;
-      fold = c .fold-literals .ensures .0;
-      keeps = c .fold-literals .ensures .1;
+      fold = c .fold-literals .ensures;
     }
 
 contradiction-requires : tie.Need-contradiction-requires Inv-loop μ-loop
