@@ -14,10 +14,12 @@ fn ours(book: &[u8], run: &[u8], work: &mut [u8]) -> yirtabun::Marked {
     yirtabun::check(book, run, yirtabun::MOST_VISITS, work)
 }
 
-/// Microseconds of a call, the best of many short windows: other load on the machine only adds.
+const ROUNDS: usize = 6;
+
+/// Microseconds of a call, the best of six windows of 5 ms: other load on the machine only adds.
 fn best(mut call: impl FnMut()) -> f64 {
     let mut best = f64::MAX;
-    for _ in 0..40 {
+    for _ in 0..6 {
         let (mut calls, start) = (0u32, Instant::now());
         while start.elapsed() < Duration::from_millis(5) {
             call();
@@ -188,12 +190,6 @@ fn compare(name: &str, book: &Book, steps: &[Step]) {
     let (run, count) = full_run(steps, 900_000 / of_one as usize);
     let marked = ours(&bytes, &run, &mut work);
     assert_eq!((marked.verdict, marked.steps as usize), (0, count), "{name}");
-    let whole = best(|| {
-        ours(&bytes, &run, &mut work);
-    });
-    let reading = best(|| {
-        ours(&bytes, &[], &mut work);
-    });
     let mut read = read_book(&bytes).unwrap();
     let list = read_run(&run, read.terms.len()).unwrap();
     let calls: Vec<_> = list
@@ -203,11 +199,22 @@ fn compare(name: &str, book: &Book, steps: &[Step]) {
             (checker::get_rule(RULES[s.rule as usize], false, false).unwrap(), terms(&s.clause), terms(&s.args))
         })
         .collect();
-    let rust = best(|| {
-        for (rule, clause, args) in &calls {
-            checker::call(*rule, &mut read.pool, clause, &[] as &[Premise], args).unwrap();
-        }
-    }) / count as f64;
+    // In turn, so that what disturbs the machine for a while disturbs them alike.
+    let (mut whole, mut reading, mut rust) = (f64::MAX, f64::MAX, f64::MAX);
+    for _ in 0..ROUNDS {
+        whole = whole.min(best(|| {
+            ours(&bytes, &run, &mut work);
+        }));
+        reading = reading.min(best(|| {
+            ours(&bytes, &[], &mut work);
+        }));
+        rust = rust.min(best(|| {
+            for (rule, clause, args) in &calls {
+                checker::call(*rule, &mut read.pool, clause, &[] as &[Premise], args).unwrap();
+            }
+        }));
+    }
+    rust /= count as f64;
     let step = (whole - reading) / count as f64;
     let records = book.records.len();
     println!(

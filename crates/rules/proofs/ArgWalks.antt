@@ -1,6 +1,6 @@
 -- The walk of a record's arguments, one after the other. `Walking` is the invariant of its loop: what is left to walk
--- from argument k on, from the sum that the area's bytes hold now, is the whole walk; and the record numbers of all
--- atoms in the area are below `top`.
+-- from argument k on, from the sum that the area's bytes hold now, is the whole walk; and all atoms in the area are
+-- noted.
 --     walking-none, walking-same, walking-more, walking-refused, walking-done       along the loop
 --     argument-below, argument-pre       what the walk of argument k asks
 use mathlib.Core.Path.{_≡_, refl, _∙_}
@@ -18,14 +18,14 @@ use Rattle.rules.specs.Refusal.Result.{ok, refused}
 use Rattle.rules.specs.Limits.{Limits, limited}
 use Rattle.rules.specs.IndexMap.{Walked, walked}
 use Rattle.rules.specs.LinearComb.{addTerm}
-use Rattle.rules.specs.WorkArea.{Sum, entriesOf, combOf, Below, KeptSum}
-use Rattle.rules.specs.LinearNodes.{WalkPre, ArgsPre, Fills, addEach}
-use Rattle.rules.specs.declared.linear_comb.Filled.{Filled}
-use Rattle.rules.specs.declared.linear_comb.Filled.the-variants.{Done, Refused}
+use Rattle.rules.specs.WorkArea.{Sum, entriesOf, combOf, KeptSum}
+use Rattle.rules.specs.LinearNodes.{WalkPre, ArgsPre, Noted, Fills, addEach}
+use Rattle.rules.specs.declared.linear_comb.Walk.{Walk}
+use Rattle.rules.specs.declared.linear_comb.Walk.the-variants.{Done, Refused}
 use Rattle.rules.proofs.ArgumentsLeft.{left-none, left-next, next-below}
 use Rattle.rules.proofs.Results.{refuses-as}
 use Rattle.rules.proofs.NodeWalks.{args-each}
-use Rattle.rules.proofs.WalkSteps.{done, done-kept, done-is, filled-at, filled-walks, filled-below}
+use Rattle.rules.proofs.WalkSteps.{done, done-kept, done-is, filled-at, filled-walks, filled-noted}
 
 -- ---- one argument and the others
 
@@ -48,20 +48,20 @@ eachFrom b id l limit p q w s v =
 -- k arguments have been walked, from the sum s in the bytes w₀ to the sum t in w
 pub record Walking
     (b w₀ args : Bytes) (id limit : ℕ) (first others : Rational) (s : Sum) (v₀ : ℕ)
-    (w : Bytes) (t : Sum) (v : ℕ) (coeff : Rational) (top k : ℕ) : Type 0 where
+    (w : Bytes) (t : Sum) (v : ℕ) (coeff : Rational) (ns : List ℕ) (k : ℕ) : Type 0 where
   pub inside : k ≤ length args / 2
   pub long : length w ≡ length w₀
   pub kept : KeptSum b w t
-  pub atoms : Below top (entriesOf b w (t .len))
+  pub atoms : Noted ns (entriesOf b w (t .len))
   pub proper : Proper coeff
   pub left :
       eachFrom b id (numbers args) limit first others w₀ s v₀
       ≡ eachFrom b id (drop k (numbers args)) limit coeff others w t v
 
 module _
-    {b w₀ args : Bytes} {id limit : ℕ} {first others : Rational} {s : Sum} {v₀ above : ℕ}
-    (pre : ArgsPre b w₀ args id first others s above) where
-  pub walking-none : Walking b w₀ args id limit first others s v₀ w₀ s v₀ first above 0
+    {b w₀ args : Bytes} {id limit : ℕ} {first others : Rational} {s : Sum} {v₀ : ℕ} {ns₀ : List ℕ}
+    (pre : ArgsPre b w₀ args id first others s ns₀) where
+  pub walking-none : Walking b w₀ args id limit first others s v₀ w₀ s v₀ first ns₀ 0
   walking-none =
       record {
         inside = omega arith;
@@ -73,24 +73,26 @@ module _
       }
 
   module _
-      {w : Bytes} {t : Sum} {v : ℕ} {coeff : Rational} {top k : ℕ}
-      (walking : Walking b w₀ args id limit first others s v₀ w t v coeff top k) where
+      {w : Bytes} {t : Sum} {v : ℕ} {coeff : Rational} {ns : List ℕ} {k : ℕ}
+      (walking : Walking b w₀ args id limit first others s v₀ w t v coeff ns k) where
     pub walking-done :
-        length args / 2 ≤ k → Fills b w (Done t v top) (eachFrom b id (numbers args) limit first others w₀ s v₀)
+        length args / 2 ≤ k → Fills b w ns (Done t v) (eachFrom b id (numbers args) limit first others w₀ s v₀)
     unfolding addEach
     walking-done h =
         filled-at (done (walking .kept) _ (walking .left ∙ rw (left-none b id args k h))) (walking .atoms)
 
-    -- a call has left the bytes as they were
-    pub walking-same : {w′ : Bytes} → w′ ≡ w → Walking b w₀ args id limit first others s v₀ w′ t v coeff top k
-    walking-same e = rw e walking
+    -- a call has left the bytes and the notes as they were
+    pub walking-same :
+        {w′ : Bytes} {ns′ : List ℕ} → (w′ ≡ w) × (ns′ ≡ ns) →
+        Walking b w₀ args id limit first others s v₀ w′ t v coeff ns′ k
+    walking-same e = rw (e .0, e .1) walking
 
     -- x is argument k
     module _ (h : k < length args / 2) {x : ℕ} (is : x ≡ argumentAt args k id) where
       pub argument-below : x < id
       argument-below = next-below args id h is (pre .below)
 
-      pub argument-pre : WalkPre b w x coeff t top
+      pub argument-pre : WalkPre b w x coeff t ns
       argument-pre =
           record {
             laid = pre .laid;
@@ -101,11 +103,11 @@ module _
           }
 
       module _
-          {w′ : Bytes} {answer : Filled}
-          (fills : Fills b w′ answer (addTerm (tree b x) (limited limit) coeff (walked (combOf b w t) v))) where
+          {w′ : Bytes} {ns′ : List ℕ} {answer : Walk}
+          (fills : Fills b w′ ns′ answer (addTerm (tree b x) (limited limit) coeff (walked (combOf b w t) v))) where
         pub walking-refused :
             {c : ℕ} → answer ≡ Refused c →
-            Fills b w′ (Refused c) (eachFrom b id (numbers args) limit first others w₀ s v₀)
+            Fills b w′ ns′ (Refused c) (eachFrom b id (numbers args) limit first others w₀ s v₀)
         walking-refused e =
             let was = rw e at (fills .is) in
             let left = rw (left-next args id h is b) at (walking .left) in
@@ -113,11 +115,12 @@ module _
               map = fills .map;
               held = fills .held;
               is = (refuses-as (was .0) (λ r f. left ∙ each-refused _ _ _ _ _ _ f), was .1);
+              atoms = fills .atoms;
             }
 
         pub walking-more :
-            {t′ : Sum} {v′ top′ : ℕ} → answer ≡ Done t′ v′ top′ → length w′ ≡ length w →
-            Walking b w₀ args id limit first others s v₀ w′ t′ v′ others top′ (k + 1)
+            {t′ : Sum} {v′ : ℕ} → answer ≡ Done t′ v′ → length w′ ≡ length w →
+            Walking b w₀ args id limit first others s v₀ w′ t′ v′ others ns′ (k + 1)
         walking-more e long =
             let was = rw e at fills in
             let walks = filled-walks was in
@@ -125,7 +128,7 @@ module _
               inside = omega arith;
               long = long ∙ walking .long;
               kept = done-kept walks;
-              atoms = filled-below was;
+              atoms = filled-noted was;
               proper = pre .proper .1;
               left = walking .left ∙ rw (left-next args id h is b) (each-after _ _ _ _ _ _ (done-is walks));
             }

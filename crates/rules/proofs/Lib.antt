@@ -65,7 +65,7 @@ pub mod StoredBytes
 pub mod EntrySearch
 pub mod KeySearch
 pub mod StoredEntries
-pub mod AtomsBelow
+pub mod NotedAtoms
 pub mod AreaEntry
 pub mod Areas
 pub mod Prepared

@@ -4,7 +4,7 @@
 use mathlib.Core.Path.{_≡_, refl, sym}
 use mathlib.Core.Bool.{Bool, true, false, not}
 use mathlib.Core.List.{[], _∷_, _++_}
-use Prim.Native.Nat.{ℕ, zero, suc, _≤_}
+use Prim.Native.Nat.{ℕ, zero, suc, _≤_, _<_}
 use native.Mathlib.Omega.{arith}
 use borrow.Author.Tests.{eqb-true, eqb-false, ne-eqb, not-true}
 use lib.Dec.{eqb}
@@ -15,7 +15,7 @@ use Rattle.terms.specs.Term.{Term, recordNumber}
 use Rattle.terms.specs.Book.{count}
 use Rattle.terms.proofs.Truths.{both}
 use Rattle.rules.specs.IndexMap.{Map}
-use Rattle.rules.specs.WorkArea.{absent, Entry, Below, Good}
+use Rattle.rules.specs.WorkArea.{absent, Entry, Good}
 use Rattle.rules.proofs.KeyedMaps.{Lacks, nothing, another, Look, found, missing, look}
 use Rattle.rules.proofs.MapEnds.{length-middle}
 
@@ -115,7 +115,11 @@ lacks-before b p e s good = lacks-front (keyOf e) p s (lacks-others (taken-out e
 
 -- ---- different keys below n
 
-pub good-below : (b : Bytes) (m : Map Term) → Good b m → Below (count b) m
+unfoldable Below : ℕ → Map Term → Type 0
+Below i [] = Unit {0}
+Below i (e ∷ m) = (keyOf e < i) × Below i m
+
+good-below : (b : Bytes) (m : Map Term) → Good b m → Below (count b) m
 unfolding Good Below
 good-below b [] g = tt
 good-below b (e ∷ m) g = (g .0 .inside, good-below b m (g .1))

@@ -1,17 +1,17 @@
 -- The steps of a walk. Each starts from the sum that an area's bytes hold: the area is emptied before a refusal, a
 -- number is added to the constant, a term is added as an atom; and a term is walked by the place that it leads to.
 --     cleared, done, done-kept, done-is       a refusal; a step without one leaves the sum in the bytes
---     filled-refused, refused-walks       a refusal, with and without a number above all atoms
---     filled-at, filled-all, filled-walks, filled-below       any other answer
---     constant-out, constant-added, entry-out, entry-added, entry-filled       the leaves
+--     filled-at, filled-noted, filled-walks       the same where all atoms are noted
+--     constant-out, constant-added, entry-out, entry-added       the leaves
 --     sum-small, constant-pre, insert-pre, entry-pre, args-lower, args-pre       what the steps at a place ask
---     atom-inside, atom-new, atoms-raised       an atom, and one above all others
---     at-refusal, at-constant, at-atom, at-args       the walk of a term is what is done at its place
+--     atom-inside, atom-small, atom-new       an atom, and one that is not noted
+--     at-refusal, at-constant, at-known, at-note, at-args       the walk of a term is what is done at its place
 use mathlib.Core.Path.{_≡_, refl, sym, _∙_}
-use mathlib.Core.Bool.{true}
-use mathlib.Core.List.{[]}
-use Prim.Native.Nat.{ℕ, _+_, _≤_, _<_}
+use mathlib.Core.Bool.{true, false}
+use mathlib.Core.List.{List, []}
+use Prim.Native.Nat.{ℕ, _≤_, _<_}
 use native.Mathlib.Omega.{arith}
+use lib.ListN.{length}
 use Rattle.terms.specs.Rational.{Rational, Proper, Gives, addQ, checked}
 use Rattle.terms.specs.Bytes.{Bytes}
 use Rattle.terms.specs.Term.{Term}
@@ -25,20 +25,21 @@ use Rattle.rules.specs.Refusal.Refusal.{numberRange}
 use Rattle.rules.specs.Limits.{limited, plus}
 use Rattle.rules.specs.IndexMap.{Walked, walked, insert, addEntry, addConstant}
 use Rattle.rules.specs.LinearComb.{terms, addTerm}
-use Rattle.rules.specs.WorkArea.{Sum, combOf, entriesOf, blanked, absent, Below, KeptSum}
+use Rattle.rules.specs.WorkArea.{Sum, combOf, entriesOf, blanked, absent, KeptSum}
 use Rattle.rules.specs.WorkArea.{Inserts, Refuses, Walks}
-use Rattle.rules.specs.LinearNodes.{WalkPre, ArgsPre, PlaceIs, Fills, addEach}
+use Rattle.rules.specs.LinearNodes.{WalkPre, ArgsPre, PlaceIs, isNoted, withNote, Noted, Fills, addEach}
 use Rattle.rules.specs.declared.index_map.Inserted.{Inserted}
 use Rattle.rules.specs.declared.index_map.Inserted.the-variants as inserted
+use Rattle.rules.specs.declared.linear_comb.Walk.{Walk}
 use Rattle.rules.specs.declared.linear_comb.Walk.the-variants.{Done, Refused}
-use Rattle.rules.specs.declared.linear_comb.Filled.{Filled}
-use Rattle.rules.specs.declared.linear_comb.Filled.the-variants as filled
 use Rattle.rules.specs.declared.linear_comb.Place.{Place}
 use Rattle.rules.specs.declared.linear_comb.Place.the-variants as place
 use Rattle.rules.proofs.Results.{refuses}
 use Rattle.rules.proofs.CheckedNumbers.{plus-value, plus-out}
 use Rattle.rules.proofs.StoredEntries.{held-entries, kept-entries, kept-small}
-use Rattle.rules.proofs.AtomsBelow.{below-absent, below-raised, inserted-below, kept-below}
+use Rattle.rules.proofs.Yields.{Yields, at-ok}
+use Rattle.rules.proofs.NotedAtoms.{NotedSum, note-here, noted-keeps, noted-long, noted-absent}
+use Rattle.rules.proofs.NotedAtoms.{constant-noted, entry-noted}
 use Rattle.rules.proofs.AreaSteps.{kept-cleared, sum-entries, answer-has, answer-kept}
 use Rattle.rules.proofs.NodeWalks.{args-below}
 
@@ -62,34 +63,34 @@ module _ {b w : Bytes} {s : Sum} {v : ℕ} {d : Result (Walked Term)} (walks : W
   pub done-is : d ≡ ok (walked (combOf b w s) v)
   done-is = rw (walks .is .1 .0, held-entries (walks .held)) (walks .is .0)
 
--- ---- the same with a number above the record numbers of all atoms
+-- ---- the same where all atoms are noted
 
-module _ {b w : Bytes} {c : ℕ} {d : Result (Walked Term)} where
-  pub filled-refused : Walks b w (Refused c) d → Fills b w (filled.Refused c) d
-  filled-refused walks = record { map = walks .map; held = walks .held; is = walks .is }
+module _ {b w : Bytes} {ns : List ℕ} {d : Result (Walked Term)} where
+  refused-filled : {c : ℕ} → length ns ≡ 32 → Walks b w (Refused c) d → Fills b w ns (Refused c) d
+  unfolding Noted
+  refused-filled long walks =
+      record { map = walks .map; held = walks .held; is = walks .is; atoms = rw (walks .is .1) long }
 
-  pub refused-walks : Fills b w (filled.Refused c) d → Walks b w (Refused c) d
-  refused-walks fills = record { map = fills .map; held = fills .held; is = fills .is }
+  filled : {r : Walk} → length ns ≡ 32 → Yields (NotedSum ns) d → Walks b w r d → Fills b w ns r d
+  filled {r = Done s v} long noted walks =
+      record { map = walks .map; held = walks .held; is = walks .is; atoms = at-ok noted (walks .is .0) }
+  filled {r = Refused c} long noted walks = refused-filled long walks
 
-module _ {b w : Bytes} {s : Sum} {v : ℕ} {d : Result (Walked Term)} where
-  pub filled-at :
-      {i : ℕ} → Walks b w (Done s v) d → Below i (entriesOf b w (s .len)) → Fills b w (filled.Done s v i) d
-  filled-at walks low =
-      record {
-        map = walks .map;
-        held = walks .held;
-        is = (walks .is, rw (sum-entries (walks .held) (answer-has (walks .is .1))) at low);
-      }
+  module _ {s : Sum} {v : ℕ} where
+    pub filled-at : Walks b w (Done s v) d → Noted ns (entriesOf b w (s .len)) → Fills b w ns (Done s v) d
+    filled-at walks noted =
+        record {
+          map = walks .map;
+          held = walks .held;
+          is = walks .is;
+          atoms = rw (sum-entries (walks .held) (answer-has (walks .is .1))) at noted;
+        }
 
-  pub filled-all : Walks b w (Done s v) d → Fills b w (filled.Done s v 2048) d
-  filled-all walks = filled-at walks (kept-below (done-kept walks .kept))
+    pub filled-noted : Fills b w ns (Done s v) d → Noted ns (entriesOf b w (s .len))
+    filled-noted fills = rw (sum-entries (fills .held) (answer-has (fills .is .1))) (fills .atoms)
 
-  module _ {i : ℕ} (fills : Fills b w (filled.Done s v i) d) where
-    pub filled-walks : Walks b w (Done s v) d
-    filled-walks = record { map = fills .map; held = fills .held; is = fills .is .0 }
-
-    pub filled-below : Below i (entriesOf b w (s .len))
-    filled-below = rw (sum-entries (fills .held) (answer-has (fills .is .0 .1))) (fills .is .1)
+  pub filled-walks : {r : Walk} → Fills b w ns r d → Walks b w r d
+  filled-walks fills = record { map = fills .map; held = fills .held; is = fills .is }
 
 -- ---- the leaves
 
@@ -134,48 +135,44 @@ module _ {b w : Bytes} {s : Sum} (kept : KeptSum b w s) (l v : ℕ) where
         let is = rw long at (inserts .is) in
         record { map = inserts .map; held = inserts .held; is = (rw (is .0), (is .1, kept .proper)) }
 
-    pub entry-filled :
-        {n i : ℕ} → r ≡ inserted.Length n → key < i → Below i (entriesOf b w (s .len)) →
-        Fills b w′ (filled.Done (record { len = n; constant = s .constant }) v i)
-        (addEntry terms (limited l) (tree b key) value (walked (combOf b w s) v))
-    entry-filled {i = i} long small low =
-        filled-at (entry-added long)
-        (inserted-below i (limited l) (entriesOf b w (s .len)) key value (rw long at inserts) small low)
-
 -- ---- a term, by the place that it leads to
 
 module _
-    {b w : Bytes} {id : ℕ} {coeff : Rational} {s : Sum} {above : ℕ} (pre : WalkPre b w id coeff s above) where
+    {b w : Bytes} {id : ℕ} {coeff : Rational} {s : Sum} {ns : List ℕ} (pre : WalkPre b w id coeff s ns) where
   pub sum-small : s .len ≤ 4096
   sum-small = omega (arith, kept-small (pre .sum .kept))
+
+  bits : length ns ≡ 32
+  bits = noted-long ns (entriesOf b w (s .len)) (pre .atoms)
 
   module _ {limit v : ℕ} {r : Place} (leads : PlaceIs b limit id coeff v r) where
     pub at-refusal :
         {c : ℕ} → r ≡ place.Refused c → {w′ : Bytes} → w′ ≡ blanked (s .len) w →
-        Fills b w′ (filled.Refused c) (addTerm (tree b id) (limited limit) coeff (walked (combOf b w s) v))
-    at-refusal e blank = filled-refused (cleared (pre .sum) blank (rw e at (leads .is (combOf b w s))))
+        Fills b w′ ns (Refused c) (addTerm (tree b id) (limited limit) coeff (walked (combOf b w s) v))
+    at-refusal e blank =
+        refused-filled bits (cleared (pre .sum) blank (rw e at (leads .is (combOf b w s))))
 
     module _ {q : Rational} {seen : ℕ} (e : r ≡ place.Constant q seen) where
       pub constant-pre : (s .len ≤ 4096) × (Proper (s .constant) × Proper q)
       constant-pre = (sum-small, (pre .sum .proper, rw e at (leads .proper)))
 
       pub at-constant :
-          {w′ : Bytes} {answer : Filled} →
-          Fills b w′ answer (addConstant (limited limit) q (walked (combOf b w s) seen)) →
-          Fills b w′ answer (addTerm (tree b id) (limited limit) coeff (walked (combOf b w s) v))
-      at-constant fills = rw (rw e at (leads .is (combOf b w s))) fills
+          {w′ : Bytes} {answer : Walk} →
+          Walks b w′ answer (addConstant (limited limit) q (walked (combOf b w s) seen)) →
+          Fills b w′ ns answer (addTerm (tree b id) (limited limit) coeff (walked (combOf b w s) v))
+      at-constant walks =
+          rw (rw e at (leads .is (combOf b w s)))
+          (filled bits (constant-noted ns (limited limit) (walked (combOf b w s) seen) (pre .atoms) q) walks)
 
     module _ {x : ℕ} {c : Rational} {seen : ℕ} (e : r ≡ place.Atom x c seen) where
       pub atom-inside : x < count b
       atom-inside = let h = rw e at (leads .proper) in omega (arith, h .0, pre .inside)
 
-      -- an atom above all others
-      module _ (h : above ≤ x) where
-        pub atom-new : absent x (entriesOf b w (s .len)) ≡ true
-        atom-new = below-absent above x h (entriesOf b w (s .len)) (pre .atoms)
+      pub atom-small : x < 2048
+      atom-small = omega (arith, atom-inside)
 
-        pub atoms-raised : Below (x + 1) (entriesOf b w (s .len))
-        atoms-raised = below-raised above (x + 1) (omega arith) (entriesOf b w (s .len)) (pre .atoms)
+      pub atom-new : isNoted ns x ≡ false → absent x (entriesOf b w (s .len)) ≡ true
+      atom-new new = noted-absent ns x new (entriesOf b w (s .len)) (pre .atoms)
 
       pub insert-pre : (s .len ≤ 4096) × ((x < 65536) × Proper c)
       insert-pre = let h = rw e at (leads .proper) in (sum-small, (omega (arith, atom-inside), h .1))
@@ -183,11 +180,30 @@ module _
       pub entry-pre : (s .len ≤ 4096) × (Proper (s .constant) × ((x < 65536) × Proper c))
       entry-pre = (sum-small, (pre .sum .proper, insert-pre .1))
 
-      pub at-atom :
-          {w′ : Bytes} {answer : Filled} →
-          Fills b w′ answer (addEntry terms (limited limit) (tree b x) c (walked (combOf b w s) seen)) →
-          Fills b w′ answer (addTerm (tree b id) (limited limit) coeff (walked (combOf b w s) v))
-      at-atom fills = rw (rw e at (leads .is (combOf b w s))) fills
+      module _
+          {w′ : Bytes} {answer : Walk}
+          (walks : Walks b w′ answer (addEntry terms (limited limit) (tree b x) c (walked (combOf b w s) seen))) where
+        at-noted :
+            (ns′ : List ℕ) → isNoted ns′ x ≡ true → Noted ns′ (entriesOf b w (s .len)) →
+            Fills b w′ ns′ answer (addTerm (tree b id) (limited limit) coeff (walked (combOf b w s) v))
+        at-noted ns′ key noted =
+            rw (rw e at (leads .is (combOf b w s)))
+            (filled (noted-long ns′ (entriesOf b w (s .len)) noted)
+            (entry-noted ns′ (limited limit) (walked (combOf b w s) seen) noted b x c key) walks)
+
+        pub at-known :
+            isNoted ns x ≡ true →
+            Fills b w′ ns answer (addTerm (tree b id) (limited limit) coeff (walked (combOf b w s) v))
+        at-known key = at-noted ns key (pre .atoms)
+
+        -- the atom is noted now
+        pub at-note :
+            {ns′ : List ℕ} → ns′ ≡ withNote ns x →
+            Fills b w′ ns′ answer (addTerm (tree b id) (limited limit) coeff (walked (combOf b w s) v))
+        at-note is =
+            rw is
+            (at-noted (withNote ns x) (note-here ns bits x atom-small)
+            (noted-keeps ns bits x atom-small (entriesOf b w (s .len)) (pre .atoms)))
 
     module _ {x : ℕ} {p q : Rational} {seen : ℕ} (e : r ≡ place.Args x p q seen) where
       pub args-lower : x ≤ id
@@ -195,7 +211,7 @@ module _
 
       -- the record's arguments are those that the bytes hold
       module _ (args : Bytes) (is : forest (tree b) (arguments x (numbers args)) ≡ argumentsOf (tree b x)) where
-        pub args-pre : ArgsPre b w args x p q s above
+        pub args-pre : ArgsPre b w args x p q s ns
         args-pre =
             let inside : x < count b = omega (arith, args-lower, pre .inside) in
             record {
@@ -208,8 +224,8 @@ module _
             }
 
         pub at-args :
-            {w′ : Bytes} {answer : Filled} →
-            Fills b w′ answer
+            {w′ : Bytes} {ns′ : List ℕ} {answer : Walk} →
+            Fills b w′ ns′ answer
             (addEach (forest (tree b) (arguments x (numbers args))) (limited limit) p q (walked (combOf b w s) seen)) →
-            Fills b w′ answer (addTerm (tree b id) (limited limit) coeff (walked (combOf b w s) v))
+            Fills b w′ ns′ answer (addTerm (tree b id) (limited limit) coeff (walked (combOf b w s) v))
         at-args fills = rw (rw e at (leads .is (combOf b w s))) (rw is at fills)

@@ -1,8 +1,12 @@
 -- What `add_term` does at a term, as one value: the code looks at a record first, and then walks.
 use mathlib.Core.Path.{_≡_}
-use mathlib.Core.Bool.{true}
+use mathlib.Core.Bool.{Bool, true}
+use mathlib.Core.List.{List, [], _∷_}
 use mathlib.Core.Option.{some, none}
-use Prim.Native.Nat.{ℕ, _≤_, _<_}
+use Prim.Native.Nat.{ℕ, _/_, _%_, _^_, _≤_, _<_}
+use lib.Bits.{bitOr}
+use lib.Dec.{eqb}
+use lib.ListN.{length, getD, set}
 use Rattle.terms.specs.Rational.{Rational, Proper, mulQ, negQ, checked}
 use Rattle.terms.specs.Bytes.{Bytes}
 use Rattle.terms.specs.Term.{Term, Terms, recordNumber, two?}
@@ -20,16 +24,15 @@ use Rattle.rules.specs.Limits.{Limits, limited}
 use Rattle.rules.specs.IndexMap.{Map, Walked, walked, addEntry, addConstant}
 use Rattle.rules.specs.LinearComb.{LinearComb, terms, armOf, addTerm, addArgs}
 use Rattle.rules.specs.LinearComb.Arm.{sum, negation, difference, product, leaf}
-use Rattle.rules.specs.WorkArea.{Sum, entriesOf, Below, Held, KeptSum, Laid, Refuses, WalkIs}
+use Rattle.rules.specs.WorkArea.{Sum, entriesOf, Held, KeptSum, Laid, Refuses, WalkIs}
 use Rattle.rules.specs.declared.linear_comb.Node.{Node}
 use Rattle.rules.specs.declared.linear_comb.Node.the-variants as node
 use Rattle.rules.specs.declared.linear_comb.Place.{Place}
 use Rattle.rules.specs.declared.linear_comb.Place.the-variants as place
 use Rattle.rules.specs.declared.linear_comb.Flat.{Flat}
 use Rattle.rules.specs.declared.linear_comb.Flat.the-variants as flat
+use Rattle.rules.specs.declared.linear_comb.Walk.{Walk}
 use Rattle.rules.specs.declared.linear_comb.Walk.the-variants as walk
-use Rattle.rules.specs.declared.linear_comb.Filled.{Filled}
-use Rattle.rules.specs.declared.linear_comb.Filled.the-variants as filled
 
 -- a constant, where it is in range
 abbrev pub constantNode : Checked → Node
@@ -86,6 +89,19 @@ addEach (t ▹ ts) l first others w = do
   w ← addTerm t l first w
   addArgs ts l others w
 
+-- ---- records that are noted: a bit for each, 64 to a number
+
+unfoldable pub isNoted : List ℕ → ℕ → Bool
+isNoted ns x = eqb (getD ns (x / 64) 0 / 2 ^ (x % 64) % 2) 1
+
+unfoldable pub withNote : List ℕ → ℕ → List ℕ
+withNote ns x = set ns (x / 64) (bitOr (getD ns (x / 64) 0) (2 ^ (x % 64)))
+
+-- all keys of a map are noted, where there is a bit for each of 2,048 records
+unfoldable pub Noted : List ℕ → Map Term → Type 0
+Noted ns [] = length ns ≡ 32
+Noted ns (e ∷ m) = (isNoted ns (recordNumber (e .0)) ≡ true) × Noted ns m
+
 -- ---- what the code asks and promises
 
 abbrev pub NodeProper : Node → Type 0
@@ -100,20 +116,20 @@ pub record NodeIs (r d : Node) : Type 0 where
   pub is : r ≡ d
   pub proper : NodeProper r
 
-pub record WalkPre (b w : Bytes) (id : ℕ) (coeff : Rational) (s : Sum) (above : ℕ) : Type 0 where
+pub record WalkPre (b w : Bytes) (id : ℕ) (coeff : Rational) (s : Sum) (ns : List ℕ) : Type 0 where
   pub laid : Laid b
   pub inside : id < count b
   pub proper : Proper coeff
   pub sum : KeptSum b w s
-  pub atoms : Below above (entriesOf b w (s .len))
+  pub atoms : Noted ns (entriesOf b w (s .len))
 
-pub record ArgsPre (b w args : Bytes) (id : ℕ) (first others : Rational) (s : Sum) (above : ℕ) : Type 0 where
+pub record ArgsPre (b w args : Bytes) (id : ℕ) (first others : Rational) (s : Sum) (ns : List ℕ) : Type 0 where
   pub laid : Laid b
   pub inside : id < count b
   pub below : allBelow id (numbers args) ≡ true
   pub proper : Proper first × Proper others
   pub sum : KeptSum b w s
-  pub atoms : Below above (entriesOf b w (s .len))
+  pub atoms : Noted ns (entriesOf b w (s .len))
 
 -- ---- where a term leads
 
@@ -136,19 +152,17 @@ pub record PlaceIs (b : Bytes) (l i : ℕ) (coeff : Rational) (visits : ℕ) (r 
   pub is : (s : LinearComb) → AtPlace b (limited l) r s (addTerm (tree b i) (limited l) coeff (walked s visits))
   pub proper : PlaceProper i r
 
--- ---- a walk that knows a number above the record numbers of all atoms
+-- ---- a walk that notes the atoms that it enters
 
-abbrev pub FilledIs : Filled → Map Term → Result (Walked Term) → Type 0
-FilledIs (filled.Done s v above) m d = WalkIs (walk.Done s v) m d × Below above m
-FilledIs (filled.Refused c) m d = WalkIs (walk.Refused c) m d
-
-pub record Fills (b w : Bytes) (r : Filled) (d : Result (Walked Term)) : Type 0 where
+-- what a walk leaves in an area, with all its atoms noted
+pub record Fills (b w : Bytes) (ns : List ℕ) (r : Walk) (d : Result (Walked Term)) : Type 0 where
   pub map : Map Term
   pub held : Held b w map
-  pub is : FilledIs r map d
+  pub is : WalkIs r map d
+  pub atoms : Noted ns map
 
--- a walk from the bytes w of an area to w′, unless there are arguments to walk
-abbrev pub FlatWalks : Bytes → Bytes → Bytes → Flat → Result (Walked Term) → Type 0
-FlatWalks b w w′ (flat.Done s v above) d = Fills b w′ (filled.Done s v above) d
-FlatWalks b w w′ (flat.Refused c) d = Fills b w′ (filled.Refused c) d
-FlatWalks b w w′ flat.Deeper d = w′ ≡ w
+-- a walk from the bytes w of an area to w′ and from the notes ns to ns′, unless there are arguments to walk
+abbrev pub FlatWalks : Bytes → Bytes → Bytes → List ℕ → List ℕ → Flat → Result (Walked Term) → Type 0
+FlatWalks b w w′ ns ns′ (flat.Done s v) d = Fills b w′ ns′ (walk.Done s v) d
+FlatWalks b w w′ ns ns′ (flat.Refused c) d = Fills b w′ ns′ (walk.Refused c) d
+FlatWalks b w w′ ns ns′ flat.Deeper d = (w′ ≡ w) × (ns′ ≡ ns)

@@ -93,11 +93,6 @@ pub record Entry (b : Bytes) (e : Term × Rational) (m : Map Term) : Type 0 wher
   pub proper : Proper (e .1)
   pub once : absent (recordNumber (e .0)) m ≡ true
 
--- the record numbers of all keys are below i
-unfoldable pub Below : ℕ → Map Term → Type 0
-Below i [] = Unit {0}
-Below i (e ∷ m) = (recordNumber (e .0) < i) × Below i m
-
 unfoldable pub Good : Bytes → Map Term → Type 0
 Good b [] = Unit {0}
 Good b (e ∷ m) = Entry b e m × Good b m

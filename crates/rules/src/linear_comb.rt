@@ -10,8 +10,8 @@ ghost use Rattle.terms.specs.Readers.{Finds};
 ghost use Rattle.rules.specs.Limits.{limited};
 ghost use Rattle.rules.specs.IndexMap.{negAll, scaleAll, walked, addConstant, addEntry};
 ghost use Rattle.rules.specs.LinearComb.{terms, mul, gcdFrom, coefficientsGcd, addTerm};
-ghost use Rattle.rules.specs.WorkArea.{entriesOf, combOf, Held, Kept, KeptSum, Laid, negated, Inserts, Sums};
-ghost use Rattle.rules.specs.LinearNodes.{NodeIs, WalkPre, ArgsPre, PlaceIs, Fills, FlatWalks};
+ghost use Rattle.rules.specs.WorkArea.{entriesOf, combOf, Held, Kept, KeptSum, Laid, negated, Inserts, Sums, Walks};
+ghost use Rattle.rules.specs.LinearNodes.{NodeIs, WalkPre, ArgsPre, PlaceIs, isNoted, withNote, Fills, FlatWalks};
 ghost use Rattle.rules.specs.LinearNodes.{addEach, nodeOf, readNode, productNode, factorNode};
 use crate::index_map::Inserted;
 use crate::index_map::append;
@@ -297,55 +297,66 @@ fn descend(book: &[u8], id: usize, coeff: Number, visits: u32, limit: u32) -> Pl
     Place::Refused(10)
 }
 
-// A number that is above the record numbers of all atoms: a book has no more records.
-const ABOVE_ALL: usize = 2048;
+// A bit for each record of a book. A walk notes the records that it enters as atoms: one that is not noted is new, and
+// need not be sought.
 
-// The same as a walk, with a number that is above the record numbers of all atoms so far.
-pub(crate) enum Filled {
-    Done(LinearComb, u32, usize),
-    // Document 01's number of the refusal.
-    Refused(u8),
+// Whether record x is noted.
+fn is_noted(noted: &[u64; 32], x: usize) -> bool
+    requires { ⌜ x < 2048 ⌝ }
+    ensures { λ r. ⌜ r ≡ isNoted (now (noted .entry)) x ⌝ }
+{
+    let q = x / 64;
+    let k = x % 64;
+    (noted[q] >> k) % 2 == 1
 }
 
-fn add_constant(entries: &mut [u8], s: LinearComb, visits: u32, q: Number) -> Filled
+// Notes record x.
+fn note(noted: &mut [u64; 32], x: usize)
+    requires { ⌜ x < 2048 ⌝ }
+    ensures { λ _. ⌜ now (noted .exit) ≡ withNote (now (noted .entry)) x ⌝ }
+{
+    let q = x / 64;
+    let k = x % 64;
+    noted[q] = noted[q] | (1 << k);
+}
+
+fn add_constant(entries: &mut [u8], s: LinearComb, visits: u32, q: Number) -> Walk
     requires { ⌜ (s .len ≤ 4096) × (Proper (s .constant) × Proper q) ⌝ }
     ensures { λ r. ⌜ ((b : Bytes) → KeptSum b (now (entries .entry)) s → (l : ℕ) →
-        Fills b (now (entries .exit)) r (addConstant (limited l) q (walked (combOf b (now (entries .entry)) s) visits))) ⌝ }
+        Walks b (now (entries .exit)) r (addConstant (limited l) q (walked (combOf b (now (entries .entry)) s) visits))) ⌝ }
 {
     let n = s.len;
     let c = s.constant;
     let Checked::Value(constant) = c.add(q) else {
         clear(entries, n);
-        return Filled::Refused(11);
+        return Walk::Refused(11);
     };
-    Filled::Done(LinearComb { len: n, constant }, visits, ABOVE_ALL)
+    Walk::Done(LinearComb { len: n, constant }, visits)
 }
 
-fn add_entry(entries: &mut [u8], s: LinearComb, visits: u32, key: usize, value: Number) -> Filled
+fn add_entry(entries: &mut [u8], s: LinearComb, visits: u32, key: usize, value: Number) -> Walk
     requires { ⌜ (s .len ≤ 4096) × (Proper (s .constant) × ((key < 65536) × Proper value)) ⌝ }
     ensures { λ r. ⌜ ((b : Bytes) → KeptSum b (now (entries .entry)) s → key < count b → (l : ℕ) →
-        Fills b (now (entries .exit)) r (addEntry terms (limited l) (tree b key) value (walked (combOf b (now (entries .entry)) s) visits))) ⌝ }
+        Walks b (now (entries .exit)) r (addEntry terms (limited l) (tree b key) value (walked (combOf b (now (entries .entry)) s) visits))) ⌝ }
 {
     let n = s.len;
     let constant = s.constant;
     let Inserted::Length(len) = insert(entries, n, key, value) else {
-        return Filled::Refused(11);
+        return Walk::Refused(11);
     };
-    Filled::Done(LinearComb { len, constant }, visits, ABOVE_ALL)
+    Walk::Done(LinearComb { len, constant }, visits)
 }
 
 // What the walk of a term leaves that has no arguments to walk.
 pub(crate) enum Flat {
-    Done(LinearComb, u32, usize),
+    Done(LinearComb, u32),
     // Document 01's number of the refusal.
     Refused(u8),
     // There are arguments to walk, and nothing is changed.
     Deeper,
 }
 
-// Adds coeff times the term of record `id`, unless there are arguments to walk. The record numbers of all atoms are below
-// `above`: an atom that is not is the first of its kind, and need not be sought. Sums often name atoms in the order of
-// their numbers.
+// Adds coeff times the term of record `id`, unless there are arguments to walk. All atoms so far are noted.
 fn add_flat(
     book: &[u8],
     entries: &mut [u8],
@@ -354,10 +365,11 @@ fn add_flat(
     s: LinearComb,
     visits: u32,
     limit: u32,
-    above: usize,
+    noted: &mut [u64; 32],
 ) -> Flat
-    requires { ⌜ WalkPre (now book) (now entries) id coeff s above ⌝ }
-    ensures { λ r. ⌜ FlatWalks (now (book .entry)) (now (entries .entry)) (now (entries .exit)) r
+    requires { ⌜ WalkPre (now book) (now entries) id coeff s (now noted) ⌝ }
+    ensures { λ r. ⌜ FlatWalks (now (book .entry)) (now (entries .entry)) (now (entries .exit)) (now (noted .entry))
+        (now (noted .exit)) r
         (addTerm (tree (now (book .entry)) id) (limited limit) coeff (walked (combOf (now (book .entry)) (now (entries .entry)) s) visits)) ⌝ }
 {
     let n = s.len;
@@ -365,20 +377,22 @@ fn add_flat(
     match descend(book, id, coeff, visits, limit) {
         Place::Args(_, _, _, _) => Flat::Deeper,
         Place::Constant(q, seen) => match c.add(q) {
-            Checked::Value(constant) => Flat::Done(LinearComb { len: n, constant }, seen, above),
+            Checked::Value(constant) => Flat::Done(LinearComb { len: n, constant }, seen),
             Checked::OutOfRange => {
                 clear(entries, n);
                 Flat::Refused(11)
             }
         },
         Place::Atom(x, value, seen) => {
-            if above <= x {
+            if is_noted(noted, x) {
+                match insert(entries, n, x, value) {
+                    Inserted::Length(len) => Flat::Done(LinearComb { len, constant: c }, seen),
+                    Inserted::OutOfRange => Flat::Refused(11),
+                }
+            } else {
+                note(noted, x);
                 let len = append(entries, n, x, value);
-                return Flat::Done(LinearComb { len, constant: c }, seen, x + 1);
-            }
-            match insert(entries, n, x, value) {
-                Inserted::Length(len) => Flat::Done(LinearComb { len, constant: c }, seen, above),
-                Inserted::OutOfRange => Flat::Refused(11),
+                Flat::Done(LinearComb { len, constant: c }, seen)
             }
         }
         Place::Refused(code) => {
@@ -388,7 +402,7 @@ fn add_flat(
     }
 }
 
-// Adds coeff times the term of record `id`. The record numbers of all atoms are below `above`.
+// Adds coeff times the term of record `id`. All atoms so far are noted.
 pub(crate) fn add_term(
     book: &[u8],
     entries: &mut [u8],
@@ -397,10 +411,10 @@ pub(crate) fn add_term(
     s: LinearComb,
     visits: u32,
     limit: u32,
-    above: usize,
-) -> Filled
-    requires { ⌜ WalkPre (now book) (now entries) id coeff s above ⌝ }
-    ensures { λ r. ⌜ Fills (now (book .entry)) (now (entries .exit)) r
+    noted: &mut [u64; 32],
+) -> Walk
+    requires { ⌜ WalkPre (now book) (now entries) id coeff s (now noted) ⌝ }
+    ensures { λ r. ⌜ Fills (now (book .entry)) (now (entries .exit)) (now (noted .exit)) r
         (addTerm (tree (now (book .entry)) id) (limited limit) coeff (walked (combOf (now (book .entry)) (now (entries .entry)) s) visits)) ⌝ }
 {
     let n = s.len;
@@ -415,13 +429,16 @@ pub(crate) fn add_term(
             s,
             seen,
             limit,
-            above,
+            noted,
         ),
         Place::Constant(q, seen) => add_constant(entries, s, seen, q),
-        Place::Atom(x, c, seen) => add_entry(entries, s, seen, x, c),
+        Place::Atom(x, c, seen) => {
+            note(noted, x);
+            add_entry(entries, s, seen, x, c)
+        }
         Place::Refused(c) => {
             clear(entries, n);
-            Filled::Refused(c)
+            Walk::Refused(c)
         }
     }
 }
@@ -438,10 +455,10 @@ fn add_args(
     s: LinearComb,
     visits: u32,
     limit: u32,
-    above: usize,
-) -> Filled
-    requires { ⌜ ArgsPre (now book) (now entries) (now args) id first others s above ⌝ }
-    ensures { λ r. ⌜ Fills (now (book .entry)) (now (entries .exit)) r
+    noted: &mut [u64; 32],
+) -> Walk
+    requires { ⌜ ArgsPre (now book) (now entries) (now args) id first others s (now noted) ⌝ }
+    ensures { λ r. ⌜ Fills (now (book .entry)) (now (entries .exit)) (now (noted .exit)) r
         (addEach (forest (tree (now (book .entry))) (arguments id (numbers (now (args .entry))))) (limited limit) first others
         (walked (combOf (now (book .entry)) (now (entries .entry)) s) visits)) ⌝ }
 {
@@ -449,32 +466,29 @@ fn add_args(
     let mut sum = s;
     let mut seen = visits;
     let mut coeff = first;
-    let mut top = above;
     let mut k = 0;
     while k < n {
         let x = argument(args, k, id);
-        match add_flat(book, entries, x, coeff, sum, seen, limit, top) {
-            Flat::Done(t, v, w) => {
+        match add_flat(book, entries, x, coeff, sum, seen, limit, noted) {
+            Flat::Done(t, v) => {
                 sum = t;
                 seen = v;
-                top = w;
             }
             Flat::Refused(c) => {
-                return Filled::Refused(c);
+                return Walk::Refused(c);
             }
-            Flat::Deeper => match add_term(book, entries, x, coeff, sum, seen, limit, top) {
-                Filled::Done(t, v, w) => {
+            Flat::Deeper => match add_term(book, entries, x, coeff, sum, seen, limit, noted) {
+                Walk::Done(t, v) => {
                     sum = t;
                     seen = v;
-                    top = w;
                 }
-                Filled::Refused(c) => {
-                    return Filled::Refused(c);
+                Walk::Refused(c) => {
+                    return Walk::Refused(c);
                 }
             },
         }
         coeff = others;
         k += 1;
     }
-    Filled::Done(sum, seen, top)
+    Walk::Done(sum, seen)
 }

@@ -22,7 +22,6 @@ use crate::index_map::clear;
 use crate::index_map::insert;
 use crate::index_map::key_at;
 use crate::index_map::value_at;
-use crate::linear_comb::Filled;
 use crate::linear_comb::LinearComb;
 use crate::linear_comb::Summed;
 use crate::linear_comb::Walk;
@@ -147,7 +146,8 @@ pub(crate) fn from_term(
         len: 0,
         constant: Number::whole(0),
     };
-    match add_term(
+    let mut noted = [0u64; 32];
+    add_term(
         book,
         &mut work[start..end],
         id,
@@ -155,11 +155,8 @@ pub(crate) fn from_term(
         none,
         visits,
         limit,
-        0,
-    ) {
-        Filled::Done(s, seen, _) => Walk::Done(s, seen),
-        Filled::Refused(c) => Walk::Refused(c),
-    }
+        &mut noted,
+    )
 }
 
 // ---- two areas

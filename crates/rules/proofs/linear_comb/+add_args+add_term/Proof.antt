@@ -6,8 +6,8 @@ use mathlib.Core.Logic.{⊎-elim}
 use Prim.Native.Nat.{ℕ, _+_, _*_, _-_, _<_}
 use native.Mathlib.Omega.{arith}
 use borrow.Author.Needs.{needs}
-use Rattle.rules.proofs.WalkSteps.{sum-small, constant-pre, atom-inside, entry-pre, args-lower, args-pre}
-use Rattle.rules.proofs.WalkSteps.{at-refusal, at-constant, at-atom, at-args}
+use Rattle.rules.proofs.WalkSteps.{sum-small, constant-pre, atom-inside, atom-small, entry-pre}
+use Rattle.rules.proofs.WalkSteps.{args-lower, args-pre, at-refusal, at-constant, at-note, at-args}
 use Rattle.rules.proofs.ArgWalks.{Walking, walking-none, walking-same, walking-more}
 use Rattle.rules.proofs.ArgWalks.{walking-refused, walking-done, argument-below, argument-pre}
 use borrow.Fn.Kinds.{In}
@@ -23,39 +23,40 @@ use Rattle.rules.proofs.linear_comb.add_constant.Reads as add-constant-
 use Rattle.rules.proofs.linear_comb.add_entry.Reads as add-entry-reads
 use Rattle.rules.proofs.linear_comb.add_flat.Reads as add-flat-reads
 use Rattle.rules.proofs.linear_comb.descend.Reads as descend-reads
+use Rattle.rules.proofs.linear_comb.note.Reads as note-reads
 use Rattle.terms.proofs.book.argument.Reads as argument-reads
 use Rattle.terms.proofs.term.args.Reads as args-reads
 use Rattle.rules.proofs.linear_comb.+add_args+add_term.{statement}
 use Rattle.rules.proofs.linear_comb.+add_args+add_term.Tie.{close}
 
-abbrev μ-add-args : Measures 3 add-args-kinds.ps ℕ
+abbrev μ-add-args : Measures 4 add-args-kinds.ps ℕ
 μ-add-args κs a = 2 * a .1 .1 .1 .0
 
-abbrev μ-add-term : Measures 2 add-term-kinds.ps ℕ
+abbrev μ-add-term : Measures 3 add-term-kinds.ps ℕ
 μ-add-term κs a = 2 * a .1 .1 .0 + 1
 
-abbrev add-args-at : ℕ → In 3 add-args-kinds.ps
-add-args-at t = and 3 add-args-kinds.ps (is 3 add-args-kinds.ps μ-add-args t) add-args.Pre
+abbrev add-args-at : ℕ → In 4 add-args-kinds.ps
+add-args-at t = and 4 add-args-kinds.ps (is 4 add-args-kinds.ps μ-add-args t) add-args.Pre
 
-abbrev add-args-below : ℕ → In 3 add-args-kinds.ps
+abbrev add-args-below : ℕ → In 4 add-args-kinds.ps
 add-args-below t =
-    and 3 add-args-kinds.ps (falls 3 add-args-kinds.ps _<_ μ-add-args t) add-args.Pre
+    and 4 add-args-kinds.ps (falls 4 add-args-kinds.ps _<_ μ-add-args t) add-args.Pre
 
-abbrev add-term-at : ℕ → In 2 add-term-kinds.ps
-add-term-at t = and 2 add-term-kinds.ps (is 2 add-term-kinds.ps μ-add-term t) add-term.Pre
+abbrev add-term-at : ℕ → In 3 add-term-kinds.ps
+add-term-at t = and 3 add-term-kinds.ps (is 3 add-term-kinds.ps μ-add-term t) add-term.Pre
 
-abbrev add-term-below : ℕ → In 2 add-term-kinds.ps
+abbrev add-term-below : ℕ → In 3 add-term-kinds.ps
 add-term-below t =
-    and 2 add-term-kinds.ps (falls 2 add-term-kinds.ps _<_ μ-add-term t) add-term.Pre
+    and 3 add-term-kinds.ps (falls 3 add-term-kinds.ps _<_ μ-add-term t) add-term.Pre
 
 abbrev add-args-Inv-loop : add-args-lts.InvT-loop
 add-args-Inv-loop
-    book entries₀ args id others visits limit above n sum₀ seen₀ coeff₀ top₀ k₀ entries sum seen coeff top k =
-    Walking book entries₀ args id limit coeff₀ others sum₀ visits entries sum seen coeff top k
+    book entries₀ args id others visits limit noted₀ n sum₀ seen₀ coeff₀ k₀ entries noted sum seen coeff k =
+    Walking book entries₀ args id limit coeff₀ others sum₀ visits entries sum seen coeff noted k
 
 abbrev add-args-μ-loop : add-args-lts.MeasureT-loop
 add-args-μ-loop
-    book entries₀ args id others visits limit above n sum₀ seen₀ coeff₀ top₀ k₀ entries sum seen coeff top k =
+    book entries₀ args id others visits limit noted₀ n sum₀ seen₀ coeff₀ k₀ entries noted sum seen coeff k =
     n - k
 
 abbrev add-args-claims : ℕ → add-args-lts.Claims
@@ -78,6 +79,8 @@ add-term-claims t = (
   add-args.Post,
   add-constant-reads.Asked,
   add-constant-reads.Learnt,
+  note-reads.Asked,
+  note-reads.Learnt,
   add-entry-reads.Asked,
   add-entry-reads.Learnt,
   clear-reads.Asked,
@@ -89,28 +92,28 @@ module _ (t : ℕ) where
       add-args-lts.Need-add-flat-requires (add-args-claims t) (add-args-at t) add-args.Post add-args-Inv-loop
       add-args-μ-loop
   add-args-add-flat-requires c κs =
-      argument-pre (c .before .before .before .before .before .before .before .pre .1)
-      (c .before .before .before .loop .inv) (search needs) (c .before .argument .ensures)
+      argument-pre (c .before .before .before .before .before .before .before .before .pre .1)
+      (c .before .before .before .before .loop .inv) (search needs) (c .before .before .argument .ensures)
 
   add-args-returns :
       add-args-lts.Need-returns (add-args-claims t) (add-args-at t) add-args.Post add-args-Inv-loop
       add-args-μ-loop
   add-args-returns c =
       let flat = c .before .before .before .before .before in
-      let loop = flat .before .before .before .before in
+      let loop = flat .before .before .before .before .before in
       let pre = loop .before .before .before .before .pre in
-      walking-refused (pre .1) (loop .loop .inv) (search needs) (flat .before .before .argument .ensures)
+      walking-refused (pre .1) (loop .loop .inv) (search needs) (flat .before .before .before .argument .ensures)
       (rw (c .before .c .given .1) at (flat .add-flat .ensures)) refl
 
   add-args-add-term-requires :
       add-args-lts.Need-add-term-requires (add-args-claims t) (add-args-at t) add-args.Post add-args-Inv-loop
       add-args-μ-loop
   add-args-add-term-requires c κs =
-      let flat = c .before .before .before .before .before in
-      let loop = flat .before .before .before .before in
+      let flat = c .before .before .before .before .before .before in
+      let loop = flat .before .before .before .before .before in
       let pre = loop .before .before .before .before .pre in
-      let x = flat .before .before .argument .ensures in
-      let deeper = rw (c .before .enum-told .given .1) at (flat .add-flat .ensures) in
+      let x = flat .before .before .before .argument .ensures in
+      let deeper = rw (c .before .before .enum-told .given .1) at (flat .add-flat .ensures) in
       let inv = walking-same (pre .1) (loop .loop .inv) deeper in
       let below = argument-below (pre .1) (loop .loop .inv) (search needs) x in
       (omega (arith, pre .0, below), argument-pre (pre .1) inv (search needs) x)
@@ -120,13 +123,13 @@ module _ (t : ℕ) where
       add-args-μ-loop
   add-args-returns-2 c =
       let called = c .before .before .before .before .before in
-      let told = called .before .before in
+      let told = called .before .before .before in
       let flat = told .before .before .before .before in
-      let loop = flat .before .before .before .before in
+      let loop = flat .before .before .before .before .before in
       let deeper = rw (told .enum-told .given .1) at (flat .add-flat .ensures) in
       let pre = loop .before .before .before .before .pre in
       let inv = walking-same (pre .1) (loop .loop .inv) deeper in
-      walking-refused (pre .1) inv (search needs) (flat .before .before .argument .ensures)
+      walking-refused (pre .1) inv (search needs) (flat .before .before .before .argument .ensures)
       (called .add-term .ensures) (search needs)
 
   add-args-loop-again :
@@ -134,9 +137,9 @@ module _ (t : ℕ) where
       add-args-μ-loop
   add-args-loop-again c =
       let flat = c .before .before .before in
-      let loop = flat .before .before .before .before in
+      let loop = flat .before .before .before .before .before in
       let pre = loop .before .before .before .before .pre in
-      let x = flat .before .before .argument .ensures in
+      let x = flat .before .before .before .argument .ensures in
       ⊎-elim
       (λ w.
       let walked = rw (w .1 .given .1) at (flat .add-flat .ensures) in
@@ -144,9 +147,9 @@ module _ (t : ℕ) where
       (walking-more (pre .1) (loop .loop .inv) (search needs) x walked refl (search needs)))
       (λ w.
       let deeper = rw (w .1 .given .1) at (flat .add-flat .ensures) in
-      rw (w .9, w .10, w .11, w .12)
+      rw (w .10, w .11, w .12, w .13)
       (walking-more (pre .1) (walking-same (pre .1) (loop .loop .inv) deeper) (search needs) x
-      (w .3 .ensures) (w .7 .given .1) (search needs)))
+      (w .4 .ensures) (w .8 .given .1) (search needs)))
       (c .match .came)
 
   -- what the walk of a term asks, seen from where its place is known
@@ -157,11 +160,11 @@ module _ (t : ℕ) where
 
   add-term-add-args-requires : add-term-lts.Need-add-args-requires (add-term-claims t) (add-term-at t) add-term.Post
   add-term-add-args-requires c κs =
-      let place = c .before .before .before .before .before in
+      let place = c .before .before .before .before .before .before in
       let pre = begun place .pre in
-      let e = c .before .before .before .x .given .1 in
+      let e = c .before .before .before .before .x .given .1 in
       let low = args-lower (pre .1) (place .descend .ensures) e in
-      (omega (arith, pre .0, low), args-pre (pre .1) (place .descend .ensures) e _ (c .args2 .ensures))
+      (omega (arith, pre .0, low), args-pre (pre .1) (place .descend .ensures) e _ (c .before .args2 .ensures))
 
   add-term-add-constant-requires :
       add-term-lts.Need-add-constant-requires (add-term-claims t) (add-term-at t) add-term.Post
@@ -169,14 +172,21 @@ module _ (t : ℕ) where
       let place = c .before .before .before .before in
       constant-pre (begun place .pre .1) (place .descend .ensures) (c .before .before .q .given .1)
 
+  add-term-note-requires : add-term-lts.Need-note-requires (add-term-claims t) (add-term-at t) add-term.Post
+  add-term-note-requires c κs =
+      let x = c .before .before in
+      let place = x .before .before in
+      atom-small (begun place .pre .1) (place .descend .ensures) (x .x2 .given .1)
+
   add-term-add-entry-requires : add-term-lts.Need-add-entry-requires (add-term-claims t) (add-term-at t) add-term.Post
   add-term-add-entry-requires c κs =
-      let place = c .before .before .before .before in
-      entry-pre (begun place .pre .1) (place .descend .ensures) (c .before .before .x2 .given .1)
+      let x = c .before .before .before .before in
+      let place = x .before .before in
+      entry-pre (begun place .pre .1) (place .descend .ensures) (x .x2 .given .1)
 
   add-term-returns : add-term-lts.Need-returns (add-term-claims t) (add-term-at t) add-term.Post
   add-term-returns c =
-      let args = c .before .before .before in
+      let args = c .before .before .before .before in
       let x = args .before .before .before in
       let place = x .before .before in
       at-args (begun place .pre .1) (place .descend .ensures) (x .x .given .1) _ (args .args2 .ensures)
@@ -192,12 +202,15 @@ module _ (t : ℕ) where
 
   add-term-returns-3 : add-term-lts.Need-returns-3 (add-term-claims t) (add-term-at t) add-term.Post
   add-term-returns-3 c =
-      let x = c .before .before .before .before .before in
+      let entry = c .before .before in
+      let note = entry .before .before in
+      let x = note .before .before .before in
       let place = x .before .before in
       let pre = begun place .pre .1 in
+      let leads = place .descend .ensures in
       let atom = x .x2 .given .1 in
-      at-atom pre (place .descend .ensures) atom
-      (c .before .before .add-entry .ensures _ (pre .sum) (atom-inside pre (place .descend .ensures) atom) _)
+      at-note pre leads atom (entry .add-entry .ensures _ (pre .sum) (atom-inside pre leads atom) _)
+      (note .note .ensures)
 
   add-term-returns-4 : add-term-lts.Need-returns-4 (add-term-claims t) (add-term-at t) add-term.Post
   add-term-returns-4 c =
@@ -237,6 +250,7 @@ pub +add-args+add-term-spec : {M : Type 1} → statement M
     (λ c. search needs)
     (add-term-add-constant-requires t)
     (λ c. search needs)
+    (add-term-note-requires t)
     (add-term-add-entry-requires t)
     (λ c. search needs)
     (λ c κs. sum-small (c .before .before .before .before .before .before .before .pre .1))

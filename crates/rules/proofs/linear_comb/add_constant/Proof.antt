@@ -1,18 +1,16 @@
--- The sum of the constants is in range and takes the constant's place, or it is not and the area is emptied. No atom's
--- record number reaches the number that is answered.
+-- The sum of the constants is in range and takes the constant's place, or it is not and the area is emptied.
 use borrow.Author.Needs.{needs}
-use Rattle.rules.proofs.WalkSteps.{constant-out, constant-added, filled-refused, filled-all}
+use Rattle.rules.proofs.WalkSteps.{constant-out, constant-added}
 use Rattle.rules.proofs.linear_comb.add_constant.Statement.{statement}
 use Rattle.rules.proofs.linear_comb.add_constant.Tie as tie
 
 returns : tie.Need-returns
 returns c b kept l =
     let sum = c .before .before .before .before .before .before .add in
-    filled-refused (constant-out kept l _ _ _ (sum .ensures) (search needs) (search needs))
+    constant-out kept l _ _ _ (sum .ensures) (search needs) (search needs)
 
 returns-2 : tie.Need-returns-2
-returns-2 c b kept l =
-    filled-all (constant-added kept l _ _ _ (c .before .before .before .add .ensures) (search needs))
+returns-2 c b kept l = constant-added kept l _ _ _ (c .before .before .before .add .ensures) (search needs)
 
 pub add-constant-spec : {M : Type 1} → statement M
 add-constant-spec =

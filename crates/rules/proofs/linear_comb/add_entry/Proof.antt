@@ -1,19 +1,19 @@
 -- The map after the insertion is the combination's, with the constant as it was. An insertion that is refused has
--- emptied the area. No atom's record number reaches the number that is answered.
+-- emptied the area.
 use borrow.Author.Needs.{needs}
-use Rattle.rules.proofs.WalkSteps.{entry-out, entry-added, filled-refused, filled-all}
+use Rattle.rules.proofs.WalkSteps.{entry-out, entry-added}
 use Rattle.rules.proofs.linear_comb.add_entry.Statement.{statement}
 use Rattle.rules.proofs.linear_comb.add_entry.Tie as tie
 
 returns : tie.Need-returns
 returns c b kept inside l =
     let insert = c .before .before .before .before .insert in
-    filled-refused (entry-out kept l _ _ _ _ (insert .ensures .1 b (kept .kept) inside l) (search needs))
+    entry-out kept l _ _ _ _ (insert .ensures .1 b (kept .kept) inside l) (search needs)
 
 returns-2 : tie.Need-returns-2
 returns-2 c b kept inside l =
     let insert = c .before .before .before .before .before .insert in
-    filled-all (entry-added kept l _ _ _ _ (insert .ensures .1 b (kept .kept) inside l) (search needs))
+    entry-added kept l _ _ _ _ (insert .ensures .1 b (kept .kept) inside l) (search needs)
 
 pub add-entry-spec : {M : Type 1} → statement M
 add-entry-spec =

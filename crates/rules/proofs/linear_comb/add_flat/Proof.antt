@@ -1,13 +1,13 @@
 -- The term's place says what is added: a number to the constant as in `add_constant`, an atom as in `add_entry`. A
--- refusal empties the area. An atom whose record number is at least `above` is no key yet, so `append` may enter it,
--- and then the next number is above all atoms. Any other is below `above`, which stays above all when it is inserted.
-use mathlib.Core.Path.{refl}
-use native.Mathlib.Omega.{arith}
+-- refusal empties the area. An atom that is not noted is no key yet, so `append` may enter it once it is noted.
+use mathlib.Core.Path.{refl, sym, _∙_}
+use Prim.Native.Nat.{_≤_, _<_}
 use borrow.Author.Needs.{needs}
-use Rattle.rules.proofs.WalkSteps.{filled-refused, filled-at}
-use Rattle.rules.proofs.WalkSteps.{constant-out, constant-added, entry-out, entry-filled}
-use Rattle.rules.proofs.WalkSteps.{sum-small, constant-pre, insert-pre, atom-inside, atom-new, atoms-raised}
-use Rattle.rules.proofs.WalkSteps.{at-refusal, at-constant, at-atom}
+use Rattle.terms.specs.Rational.{Proper}
+use Rattle.terms.specs.Book.{count}
+use Rattle.rules.proofs.WalkSteps.{constant-out, constant-added, entry-out, entry-added}
+use Rattle.rules.proofs.WalkSteps.{sum-small, constant-pre, insert-pre, atom-inside, atom-small, atom-new}
+use Rattle.rules.proofs.WalkSteps.{at-refusal, at-constant, at-known, at-note}
 use Rattle.rules.proofs.linear_comb.add_flat.Statement.{statement}
 use Rattle.rules.proofs.linear_comb.add_flat.Tie as tie
 
@@ -20,80 +20,72 @@ add-requires c κs =
     let place = c .before .before .before in
     constant-pre (start place .pre) (place .descend .ensures) (c .before .q .given .1) .1
 
-append-requires : tie.Need-append-requires
-append-requires c κs =
-    let place = c .before .before .before .before .before in
-    insert-pre (start place .pre) (place .descend .ensures) (c .before .before .before .x .given .1)
+-- the term leads to an atom
+module _ (x : tie.After-x) where
+  abbrev begun : tie.Start
+  begun = start (x .before .before)
 
-add-t32 : tie.Need-add-t32
-add-t32 c =
-    let x = c .before .before .before .before .before .before in
-    let place = x .before .before in
-    omega (arith, atom-inside (start place .pre) (place .descend .ensures) (x .x .given .1))
+  small : x .x .given .0 .0 < 2048
+  small = atom-small (begun .pre) (x .before .before .descend .ensures) (x .x .given .1)
 
-returns : tie.Need-returns
-returns c =
-    let append = c .before .before in
-    let test = append .before .before in
-    let x = test .before .before in
-    let place = x .before .before in
-    let pre = start place .pre in
-    let leads = place .descend .ensures in
-    let atom = x .x .given .1 in
-    let inside = atom-inside pre leads atom in
-    let new = atom-new pre leads atom (test .if1 .taken) in
-    at-atom pre leads atom
-    (entry-filled (pre .sum) _ _ _ _ _ (append .append .ensures .1 _ (pre .sum .kept) inside new _) refl (omega arith)
-    (atoms-raised pre leads atom (test .if1 .taken)))
+  inside : x .x .given .0 .0 < count (begun .args .book .now)
+  inside = atom-inside (begun .pre) (x .before .before .descend .ensures) (x .x .given .1)
 
-insert-requires : tie.Need-insert-requires
-insert-requires c κs =
-    let place = c .before .before .before .before .before in
-    insert-pre (start place .pre) (place .descend .ensures) (c .before .before .before .x .given .1)
+  ready : (begun .args .s .len ≤ 4096) × ((x .x .given .0 .0 < 65536) × Proper (x .x .given .0 .1 .0))
+  ready = insert-pre (begun .pre) (x .before .before .descend .ensures) (x .x .given .1)
 
-returns-3 : tie.Need-returns-3
-returns-3 c =
+returns-2 : tie.Need-returns-2
+returns-2 c =
     let sum = c .before .before .before in
     let q = sum .before .before in
     let place = q .before .before in
     let pre = start place .pre in
     at-constant pre (place .descend .ensures) (q .q .given .1)
-    (filled-at (constant-added (pre .sum) _ _ _ _ (sum .add .ensures) (c .before .constant .given .1)) (pre .atoms))
+    (constant-added (pre .sum) _ _ _ _ (sum .add .ensures) (c .before .constant .given .1))
 
-returns-4 : tie.Need-returns-4
-returns-4 c =
+returns-3 : tie.Need-returns-3
+returns-3 c =
     let told = c .before .before .before .before in
     let sum = told .before .before in
     let q = sum .before .before in
     let place = q .before .before in
     let pre = start place .pre in
     at-constant pre (place .descend .ensures) (q .q .given .1)
-    (filled-refused (constant-out (pre .sum) _ _ _ _ (sum .add .ensures) (told .enum-told2 .given .1) (search needs)))
+    (constant-out (pre .sum) _ _ _ _ (sum .add .ensures) (told .enum-told2 .given .1) (search needs))
+
+returns-4 : tie.Need-returns-4
+returns-4 c =
+    let insert = c .before .before .before .before .before in
+    let test = insert .before .before in
+    let x = test .before .before .before .before in
+    let pre = begun x .pre in
+    at-known pre (x .before .before .descend .ensures) (x .x .given .1)
+    (entry-added (pre .sum) _ _ _ _ _ (insert .insert .ensures .1 _ (pre .sum .kept) (inside x) _) (search needs))
+    (sym (test .before .is-noted .ensures) ∙ test .if1 .taken)
 
 returns-5 : tie.Need-returns-5
 returns-5 c =
-    let insert = c .before .before .before .before .before in
+    let insert = c .before .before .before .before in
     let test = insert .before .before in
-    let x = test .before .before in
-    let place = x .before .before in
-    let pre = start place .pre in
-    let atom = x .x .given .1 in
-    let inside = atom-inside pre (place .descend .ensures) atom in
-    at-atom pre (place .descend .ensures) atom
-    (entry-filled (pre .sum) _ _ _ _ _ (insert .insert .ensures .1 _ (pre .sum .kept) inside _) (search needs)
-    (test .if1 .left) (pre .atoms))
+    let x = test .before .before .before .before in
+    let pre = begun x .pre in
+    at-known pre (x .before .before .descend .ensures) (x .x .given .1)
+    (entry-out (pre .sum) _ _ _ _ _ (insert .insert .ensures .1 _ (pre .sum .kept) (inside x) _) (search needs))
+    (sym (test .before .is-noted .ensures) ∙ test .if1 .taken)
 
 returns-6 : tie.Need-returns-6
 returns-6 c =
-    let insert = c .before .before .before .before in
-    let x = insert .before .before .before .before in
-    let place = x .before .before in
-    let pre = start place .pre in
+    let append = c .before .before in
+    let note = append .before .before in
+    let test = note .before .before in
+    let x = test .before .before .before .before in
+    let pre = begun x .pre in
+    let leads = x .before .before .descend .ensures in
     let atom = x .x .given .1 in
-    let inside = atom-inside pre (place .descend .ensures) atom in
-    at-atom pre (place .descend .ensures) atom
-    (filled-refused
-    (entry-out (pre .sum) _ _ _ _ _ (insert .insert .ensures .1 _ (pre .sum .kept) inside _) (search needs)))
+    let new = atom-new pre leads atom (sym (test .before .is-noted .ensures) ∙ test .if1 .left) in
+    at-note pre leads atom
+    (entry-added (pre .sum) _ _ _ _ _ (append .append .ensures .1 _ (pre .sum .kept) (inside x) new _) refl)
+    (note .note .ensures)
 
 returns-7 : tie.Need-returns-7
 returns-7 c =
@@ -113,15 +105,16 @@ add-flat-spec =
     (λ c. search needs)
     (λ c κs. sum-small (start (c .before .before .before .before .before .before .before) .pre))
     (λ c. search needs)
-    append-requires
-    add-t32
-    (λ c. search needs)
-    returns
-    insert-requires
+    (λ c κs. small (c .before .before))
+    (λ c κs. ready (c .before .before .before .before .before))
     (λ c. search needs)
     (λ c. search needs)
+    (λ c κs. small (c .before .before .before .before .before))
+    (λ c κs. ready (c .before .before .before .before .before .before .before))
     (λ c. search needs)
     (λ c κs. sum-small (start (c .before .before .before .before) .pre))
+    (λ c. search needs)
+    returns-2
     (λ c. search needs)
     returns-3
     (λ c. search needs)

@@ -1,20 +1,21 @@
 -- `from_term` lends area j, which is empty, to `add_term`: the walk starts with the empty combination and the
--- coefficient 1, as that of the definition. No atom is there, so 0 is above all; what is above them in the end is
+-- coefficient 1, as that of the definition. No atom is there, so all are noted; what is noted in the end is
 -- dropped.
 use mathlib.Core.Path.{_≡_, refl}
-use mathlib.Core.List.{[]}
+use mathlib.Core.List.{List, []}
 use Prim.Native.Nat.{ℕ, _≤_, _<_}
 use borrow.Author.Needs.{needs}
 use lib.Dec.{lit≤}
 use lib.IntN.{pos}
+use lib.ListN.{length}
 use Rattle.terms.specs.Rational.{whole, Proper, limit}
 use Rattle.terms.specs.Bytes.{Bytes}
 use Rattle.terms.specs.Book.{count}
 use Rattle.rules.specs.LinearComb.{fromTerm}
-use Rattle.rules.specs.LinearNodes.{WalkPre}
-use Rattle.rules.specs.WorkArea.{Laid, Below, Held, entriesOf}
+use Rattle.rules.specs.LinearNodes.{WalkPre, Noted}
+use Rattle.rules.specs.WorkArea.{Laid, Held, entriesOf}
 use Rattle.rules.proofs.Areas.{Back, lent-is, lent-back}
-use Rattle.rules.proofs.WalkSteps.{filled-walks, refused-walks}
+use Rattle.rules.proofs.WalkSteps.{filled-walks}
 use Rattle.rules.proofs.work_area.from_term.Statement.{statement}
 use Rattle.rules.proofs.work_area.from_term.Tie as tie
 
@@ -23,51 +24,45 @@ small n h = record { numerator = h; positive = record { lt = tt }; denominator =
 
 -- a walk starts with no entries, the constant 0 and the coefficient 1
 starts :
-    {b w : Bytes} {id : ℕ} → Laid b → id < count b → Held b w [] →
-    WalkPre b w id (whole (pos 1)) (record { len = 0; constant = whole (pos 0) }) 0
-unfolding entriesOf Below
-starts laid inside held =
+    {b w : Bytes} {id : ℕ} {ns : List ℕ} → length ns ≡ 32 → Laid b → id < count b → Held b w [] →
+    WalkPre b w id (whole (pos 1)) (record { len = 0; constant = whole (pos 0) }) ns
+unfolding entriesOf Noted
+starts long laid inside held =
     record {
       laid = laid;
       inside = inside;
       proper = small 1 (lit≤ tt);
       sum = record { kept = record { map = []; held = held; size = refl }; proper = small 0 (lit≤ tt) };
-      atoms = tt;
+      atoms = long;
     }
 
 add-term-requires : tie.Need-add-term-requires
 add-term-requires c κs =
-    let z = c .before .before .before .before .before in
+    let z = c .before .before .before .before .before .before in
     let given = z .pre .1 in
-    rw (lent-is (z .args .j) (z .args .work .now), c .whole2 .ensures, c .before .before .whole .ensures)
-    (starts (given .0) (given .1 .0) (given .1 .1))
+    let one = c .before in
+    rw (lent-is (z .args .j) (z .args .work .now), one .whole2 .ensures, one .before .before .whole .ensures)
+    (starts refl (given .0) (given .1 .0) (given .1 .1))
 
 -- the area as `add_term` gives it back, and the two numbers that it was called with
 module _ (call : tie.After-add-term) where
   abbrev begun : tie.Start
-  begun = call .before .before .before .before .before .before
+  begun = call .before .before .before .before .before .before .before
 
   back : Back (begun .args .j) (begun .args .work .now) (call .add-term .last .1 .0)
   back = lent-back (begun .pre .0) (call .add-term .last .1 .0) (call .add-term .kept .1 .0)
 
-  one-is : call .before .whole2 .result ≡ whole (pos 1)
-  one-is = call .before .whole2 .ensures
+  one-is : call .before .before .whole2 .result ≡ whole (pos 1)
+  one-is = call .before .before .whole2 .ensures
 
-  none-is : call .before .before .before .whole .result ≡ whole (pos 0)
-  none-is = call .before .before .before .whole .ensures
+  none-is : call .before .before .before .before .whole .result ≡ whole (pos 0)
+  none-is = call .before .before .before .before .whole .ensures
 
 returns : tie.Need-returns
 unfolding entriesOf fromTerm
 returns c =
-    let call = c .before .before .before .before .before in
-    let walks = filled-walks (rw (c .before .s .given .1) at (call .add-term .ensures)) in
-    rw (back call .put, back call .is) (refl, rw (one-is call, none-is call) at walks)
-
-returns-2 : tie.Need-returns-2
-unfolding entriesOf fromTerm
-returns-2 c =
-    let call = c .before .before .before .before .before in
-    let walks = refused-walks (rw (c .before .c .given .1) at (call .add-term .ensures)) in
+    let call = c .before .before in
+    let walks = filled-walks (call .add-term .ensures) in
     rw (back call .put, back call .is) (refl, rw (one-is call, none-is call) at walks)
 
 pub from-term-spec : {M : Type 1} → statement M
@@ -84,8 +79,4 @@ from-term-spec =
     (λ c κs. search needs)
     add-term-requires
     (λ c. search needs)
-    (λ c. search needs)
-    (λ c. search needs)
-    returns
-    (λ c. search needs)
-    returns-2)
+    returns)
