@@ -1,6 +1,6 @@
-"""Writes crates/runs/specs/Marked.antt, the table of marked cases, from tools/marked.txt.
+"""Writes crates/runs/specs/Marked.antt, the table of marked cases, and MarkedPremises.antt beside it, from tools/marked.txt.
 
-    python3 tools/marked.py                     writes the file
+    python3 tools/marked.py                     writes both files
     python3 tools/marked.py --oracle PROGRAM    compares the expected answers with the Rust's, and writes nothing
     python3 tools/marked.py --cases FILE        writes the cases for tools/try_definitions.py
     python3 tools/marked.py --examples          writes K1 to K12 and a run that stops as files to examples/, and their answers
@@ -19,6 +19,7 @@ from books import Book, argument, batch, expressions, listed, record_text, run_b
 HERE = os.path.dirname(os.path.abspath(__file__))
 TEXT = os.path.join(HERE, "marked.txt")
 TABLE = os.path.join(HERE, "..", "crates", "runs", "specs", "Marked.antt")
+PREMISES = os.path.join(HERE, "..", "crates", "runs", "specs", "MarkedPremises.antt")
 
 EXAMPLES = os.path.join(HERE, "..", "examples")
 
@@ -34,6 +35,7 @@ class Case:
         self.limit, self.work, *self.out = USUAL
         self.answer = None
         self.inferred = {}
+        self.premises = {}
 
     # ---- reading a line
 
@@ -57,6 +59,9 @@ class Case:
         elif word == "infers":
             step, *numbers = rest.split()
             self.inferred[int(step)] = [tuple(map(int, n.split("/"))) for n in numbers]
+        elif word == "premises":
+            step, *tests = rest.split()
+            self.premises[int(step)] = ["-+".index(t) == 1 for t in tests]
         else:
             raise ValueError(word)
 
@@ -128,6 +133,17 @@ class Case:
         ]
 
 
+    def tested(self):
+        """Which premises each accepted step meets."""
+        if sorted(self.premises) != list(range(self.answer[1])):
+            raise ValueError("premises of some accepted steps of the case " + self.name)
+        return [
+            listed(map(record_text, self.book.records)),
+            listed(map(run_text, self.run)),
+            listed("(" + ", ".join(str(t).lower() for t in self.premises[i]) + ")" for i in range(self.answer[1])),
+        ]
+
+
 def read_cases():
     """Sections, each with a title and its cases."""
     sorts, sections = {}, []
@@ -167,6 +183,20 @@ use Rattle.terms.specs.BookExamples.{blank, integerRecord, realRecord, vectorRe
 use Rattle.runs.specs.Cases.{Case, marked, usual, answers, runRecord, stepRecords, allMarked, marks}
 """
 
+PREMISES_HEAD = """-- Written by tools/marked.py from tools/marked.txt: do not edit.
+-- Which of demand 3's premises each accepted step of K1 to K12 meets, one accepted step of each rule, and others that tell a stronger or
+-- a weaker premise from the right one: even divs, whole numbers, no surplus arguments. Worked out by hand.
+use mathlib.Core.Path.{_≡_, refl}
+use mathlib.Core.Bool.{true, false}
+use mathlib.Core.List.{List, [], _∷_}
+use lib.IntN.{pos, negsuc}
+use Rattle.terms.specs.Operator.{Not, And, Or, Equals, LessThan, LessEq, GreaterThan, GreaterEq}
+use Rattle.terms.specs.Operator.{Add, Sub, Mult, IntDiv, RealDiv, BvAdd, BvMul}
+use Rattle.terms.specs.BookExamples.{integerRecord, realRecord, vectorRecord, atomRecord, operationRecord}
+use Rattle.runs.specs.Cases.{stepRecords, marks}
+use Rattle.runs.specs.PremiseTests.{Tested, tested, allTested, tests}
+"""
+
 
 def pieces(text):
     """The text, parted before each cons that stands in the outermost parentheses."""
@@ -193,28 +223,39 @@ def filled(words):
     return lines + ["    " + line]
 
 
-def laid_out(cons, case):
+def laid_out(word, parts):
     """A case on one line, or its book and what follows on lines of their own."""
-    book, *others = map(argument, case.antt())
-    whole = filled([cons + "marked", book, *others])
+    book, *others = map(argument, parts)
+    whole = filled([word, book, *others])
     if len(whole) == 1:
         return whole
-    return ["    " + cons + "marked"] + filled(pieces(book)) + filled(others)
+    return ["    " + word] + filled(pieces(book)) + filled(others)
 
 
-def write_table(sections):
-    lines = [HEAD, "cases : List Case", "unfolding marks", "cases ="]
-    cons = ""
+def write_list(path, head, sections, word, parts, tail):
+    """A file with a list of cases, each with its words as a comment."""
+    lines, cons = head[:], ""
     for title, cases in sections:
         lines.append("    -- ---- " + title)
         for case in cases:
             said = ": ".join([case.name] + ["; ".join(case.text)] * bool(case.text))
             lines += textwrap.wrap(said, 110, initial_indent="    -- ", subsequent_indent="    -- ", break_on_hyphens=False)
-            lines += laid_out(cons, case)
+            lines += laid_out(cons + word, parts(case))
             cons = "∷ "
-    lines += ["    ∷ []", "", "all-marked : allMarked cases ≡ true", "unfolding marks cases", "all-marked = refl", ""]
-    with open(TABLE, "w") as f:
-        f.write("\n".join(lines))
+    with open(path, "w") as f:
+        f.write("\n".join(lines + ["    ∷ []", ""] + tail + [""]))
+
+
+def write_table(sections):
+    write_list(
+        TABLE, [HEAD, "cases : List Case", "unfolding marks", "cases ="], sections, "marked", Case.antt,
+        ["all-marked : allMarked cases ≡ true", "unfolding marks cases", "all-marked = refl"],
+    )
+    told = [(title, [c for c in cases if c.premises]) for title, cases in sections]
+    write_list(
+        PREMISES, [PREMISES_HEAD, "cases : List Tested", "unfolding marks", "cases ="], [t for t in told if t[1]], "tested",
+        Case.tested, ["all-tested : allTested cases ≡ true", "unfolding marks tests cases", "all-tested = refl"],
+    )
 
 
 def compare(sections, oracle):

@@ -1,5 +1,5 @@
--- The five forms (or phi1 phi2) of la_tautology: a step that is accepted has one of them, and one of phi1 and phi2 is true in every
--- model, since the two bounds are numbers that compare as the form says.
+-- The five forms (or phi1 phi2) of la_tautology: a step that is accepted has one of them, and one of phi1 and phi2 is
+-- true in every model, since the two bounds are numbers that compare as the form says.
 --     case-form       what `tautologyCase` accepts
 --     form-says       why it is true
 use mathlib.Core.Path.{_≡_, refl, sym, _∙_, ap, ap₂}
@@ -12,27 +12,28 @@ use Rattle.terms.specs.Pair.{Pair, lessEqP, _≈_, _≤P_, _<P_}
 use Rattle.terms.specs.Rational as Rational
 use Rattle.terms.specs.Rational.{Rational, Lowest, lessQ, lessEqQ}
 use Rattle.terms.specs.Operator.{LessEq, GreaterEq}
-use Rattle.terms.specs.Term.{Term, Terms, same}
-use Rattle.terms.specs.Readers.{unbounded, asSignedNumber}
+use Rattle.terms.specs.Term.{Term}
+use Rattle.terms.specs.Readers.{asSignedNumber}
 use Rattle.terms.specs.Smtlib.{Assignment}
 use Rattle.terms.specs.declared.term.Reading.{Reading}
 use Rattle.terms.specs.declared.term.Reading.the-variants.{Value, NotNumber, OutOfRange}
 use Rattle.terms.proofs.Pairs.{≤P-trans, ≤P-resp, <P-resp}
 use Rattle.terms.proofs.Rationals.{less-value, lessEq-value}
-use Rattle.terms.proofs.Readings.{signed-fraction}
-use Rattle.terms.proofs.WellFormed.{WellFormed, AllWellFormed}
+use Rattle.terms.proofs.WellFormed.{WellFormed}
 use Rattle.terms.proofs.Fractions.{asFraction-value}
 use Rattle.terms.proofs.BookTerms.{Closed}
 use Rattle.rules.specs.Refusal.{Result, _>>=_, orElse}
 use Rattle.rules.specs.Refusal.Refusal.{expectedAnyNumber}
 use Rattle.rules.specs.Limits.{numberOr, signedNumberErr}
 use Rattle.rules.specs.LinearArithmetic as LA
-use Rattle.rules.specs.LinearArithmetic.{assertEq, assertLessEq, assertLessThan, boundsCase}
-use Rattle.rules.specs.LinearArithmetic.{tautologyCase}
-use Rattle.rules.specs.Alethe.{Is, Is2, is, IsNot2, IsNumber, BoundsForm, lessEq, greaterEq}
+use Rattle.rules.specs.LinearArithmetic.{assertEq, assertLessEq, assertLessThan, boundsCase, tautologyCase}
+use Rattle.rules.specs.Alethe.{Departures, carcara, Is2, IsNot2, Written, BoundsForm, lessEq, greaterEq}
 use Rattle.rules.specs.Alethe.BoundsForm.{below, belowOrNot, above, aboveOrNot, apart}
+use Rattle.rules.specs.Alethe.Bound.{anyBound}
 use Rattle.rules.proofs.Yields.{Yields, gives, refuses, and-then, weaker}
-use Rattle.rules.proofs.Shapes.{NotFound, asserted, binary-found, negated-found, nothing-found}
+use Rattle.rules.proofs.WrittenNumbers.{read-signed, signed-written, written-read}
+use Rattle.rules.proofs.Shapes.{NotFound, asserted, binary-found, negated-found, nothing-found, equal-yields}
+use Rattle.rules.proofs.Shapes.{arguments-formed}
 use Rattle.terms.proofs.Truths.{T-true, true-T}
 use Rattle.terms.proofs.Comparisons.{of-lessP, of-lessEqP, lessEqP-true}
 use Rattle.rules.proofs.Literals.{at, says, relation-says, negated-says}
@@ -52,8 +53,10 @@ both-found :
     {A B : Type 0} (o q : Option (Term × Term)) (r : (Term × Term) × (Term × Term)) → (o ≡ some (r .0) → A) →
     (q ≡ some (r .1) → B) → LA.both o q ≡ some r → A × B
 both-found (some a) (some b) r f g e =
-    let h : _≡_ {A = (Term × Term) × (Term × Term)} (a, b) r = cc in
-    (f (ap (λ (r : (Term × Term) × (Term × Term)). some (r .0)) h), g (ap (λ (r : (Term × Term) × (Term × Term)). some (r .1)) h))
+    let h : _≡_ {A = (Term × Term) × (Term × Term)} (a, b) r = cc in (
+      f (ap (λ (r : (Term × Term) × (Term × Term)). some (r .0)) h),
+      g (ap (λ (r : (Term × Term) × (Term × Term)). some (r .1)) h),
+    )
 both-found (some a) none r f g e = nothing-found e
 both-found none q r f g e = nothing-found e
 
@@ -61,18 +64,18 @@ both-found none q r f g e = nothing-found e
 record Compared (test : Rational → Rational → Bool) (a b : Term) : Type 0 where
   q1 : Rational
   q2 : Rational
-  first : IsNumber a q1
-  second : IsNumber b q2
+  first : Written a q1
+  second : Written b q2
   compare : T (test q1 q2)
 
-signed-yields : (t : Term) → Yields (IsNumber t) (signedNumberErr t)
+signed-yields : (t : Term) → Yields (Written t) (signedNumberErr t)
 unfolding signedNumberErr _>>=_ orElse
 signed-yields t = go (asSignedNumber t) refl
   where
     go :
         (r : Reading) → asSignedNumber t ≡ r →
-        Yields (IsNumber t) (numberOr r >>= λ q. orElse q expectedAnyNumber)
-    go (Value q) e = gives e
+        Yields (Written t) (numberOr r >>= λ q. orElse q expectedAnyNumber)
+    go (Value q) e = gives (signed-written (read-signed t q e))
     go NotNumber e = refuses
     go OutOfRange e = refuses
 
@@ -97,58 +100,68 @@ denied : {P : Term → Type 0} {o : ℕ} {t : Term} {q : Term × Term} → NotFo
 denied h = record { body = h .body; relation = h .relation .shape; negation = h .negation }
 
 module _ {P : Term → Type 0} (closed : Closed P) where
-  pub equal-yields : (a b : Term) → P a → P b → Yields (λ u. a ≡ b) (assertEq a b)
-  unfolding assertEq
-  equal-yields a b p q = asserted (same a b) _ (closed .known a b p q)
-
   bounds-yields :
       {R Q : Type 0} (test : Term → Term → Result (Unit {0})) (p : (Term × Term) × (Term × Term)) →
       P (p .0 .0) → P (p .1 .0) → Yields (λ u. R) (test (p .0 .1) (p .1 .1)) → (p .1 .0 ≡ p .0 .0 → R → Q) →
       Yields (λ u. Q) (boundsCase test p)
   unfolding boundsCase
   bounds-yields test p a b h k =
-      and-then (equal-yields (p .0 .0) (p .1 .0) a b) λ u e.
+      and-then (equal-yields closed (p .0 .0) (p .1 .0) a b) λ u e.
       weaker (λ v r. k (sym e) r) h
 
   module _ (first second : Term) (pf : P first) (ps : P second) where
-    pub case-form : Yields (λ u. BoundsForm first second) (tautologyCase first second)
+    pub case-form : Yields (λ u. BoundsForm carcara first second) (tautologyCase first second)
     unfolding tautologyCase
     case-form =
         by-found _
         (λ r e.
-        let h = both-found _ _ r (negated-found closed LessEq first pf (r .0)) (binary-found closed LessEq second ps (r .1)) e in
-        bounds-yields assertLessEq r (h .0 .relation .inside .0) (h .1 .inside .0) (lessEq-yields (r .0 .1) (r .1 .1)) λ s c.
-        below (r .0 .0) (r .0 .1) (r .1 .1) (c .q1) (c .q2) (denied (h .0)) (rw s at (h .1 .shape)) (c .first) (c .second)
+        let h =
+        both-found _ _ r (negated-found closed LessEq first pf (r .0))
+        (binary-found closed LessEq second ps (r .1)) e in
+        bounds-yields assertLessEq r (h .0 .relation .inside .0) (h .1 .inside .0) (lessEq-yields (r .0 .1) (r .1 .1))
+        λ s c.
+        below (r .0 .0) (r .0 .1) (r .1 .1) (c .q1) (c .q2) (denied (h .0)) (rw s at (h .1 .shape)) (c .first)
+        (c .second)
         (c .compare))
         (by-found _
         (λ r e.
-        let h = both-found _ _ r (binary-found closed LessEq first pf (r .0)) (negated-found closed LessEq second ps (r .1)) e in
-        let ds = equal-yields (r .0 .1) (r .1 .1) (h .0 .inside .1 .0) (h .1 .relation .inside .1 .0) in
+        let h =
+        both-found _ _ r (binary-found closed LessEq first pf (r .0))
+        (negated-found closed LessEq second ps (r .1)) e in
+        let ds = equal-yields closed (r .0 .1) (r .1 .1) (h .0 .inside .1 .0) (h .1 .relation .inside .1 .0) in
         bounds-yields assertEq r (h .0 .inside .0) (h .1 .relation .inside .0) ds λ s d.
-        belowOrNot (r .0 .0) (r .0 .1) (h .0 .shape) (rw (s, ← d) at (denied (h .1))))
+        belowOrNot (r .0 .0) (r .0 .1) (h .0 .shape) (rw (s, ← d) at (denied (h .1))) (anyBound tt))
         (by-found _
         (λ r e.
-        let h = both-found _ _ r (negated-found closed GreaterEq first pf (r .0)) (binary-found closed GreaterEq second ps (r .1)) e in
+        let h =
+        both-found _ _ r (negated-found closed GreaterEq first pf (r .0))
+        (binary-found closed GreaterEq second ps (r .1)) e in
         bounds-yields (λ d1 d2. assertLessEq d2 d1) r (h .0 .relation .inside .0) (h .1 .inside .0)
         (lessEq-yields (r .1 .1) (r .0 .1)) λ s c.
-        above (r .0 .0) (r .0 .1) (r .1 .1) (c .q2) (c .q1) (denied (h .0)) (rw s at (h .1 .shape)) (c .second) (c .first)
+        above (r .0 .0) (r .0 .1) (r .1 .1) (c .q2) (c .q1) (denied (h .0)) (rw s at (h .1 .shape)) (c .second)
+        (c .first)
         (c .compare))
         (by-found _
         (λ r e.
-        let h = both-found _ _ r (binary-found closed GreaterEq first pf (r .0)) (negated-found closed GreaterEq second ps (r .1)) e in
-        let ds = equal-yields (r .0 .1) (r .1 .1) (h .0 .inside .1 .0) (h .1 .relation .inside .1 .0) in
+        let h =
+        both-found _ _ r (binary-found closed GreaterEq first pf (r .0))
+        (negated-found closed GreaterEq second ps (r .1)) e in
+        let ds = equal-yields closed (r .0 .1) (r .1 .1) (h .0 .inside .1 .0) (h .1 .relation .inside .1 .0) in
         bounds-yields assertEq r (h .0 .inside .0) (h .1 .relation .inside .0) ds λ s d.
-        aboveOrNot (r .0 .0) (r .0 .1) (h .0 .shape) (rw (s, ← d) at (denied (h .1))))
+        aboveOrNot (r .0 .0) (r .0 .1) (h .0 .shape) (rw (s, ← d) at (denied (h .1))) (anyBound tt))
         (by-found _
         (λ r e.
-        let h = both-found _ _ r (negated-found closed LessEq first pf (r .0)) (negated-found closed GreaterEq second ps (r .1)) e in
+        let h =
+        both-found _ _ r (negated-found closed LessEq first pf (r .0))
+        (negated-found closed GreaterEq second ps (r .1)) e in
         bounds-yields assertLessThan r (h .0 .relation .inside .0) (h .1 .relation .inside .0)
         (less-yields (r .0 .1) (r .1 .1)) λ s c.
-        apart (r .0 .0) (r .0 .1) (r .1 .1) (c .q1) (c .q2) (denied (h .0)) (rw s at (denied (h .1))) (c .first) (c .second)
+        apart (r .0 .0) (r .0 .1) (r .1 .1) (c .q1) (c .q2) (denied (h .0)) (rw s at (denied (h .1))) (c .first)
+        (c .second)
         (c .compare))
         refuses))))
 
--- ---- Bools and well-formed arguments
+-- ---- Bools and well-formed bounds
 
 implies-or : (s t : Bool) → (s ≡ true → t ≡ true) → (not s || t) ≡ true
 implies-or true t h = h refl
@@ -158,10 +171,6 @@ not-both : (s t : Bool) → (s ≡ true → t ≡ true → ⊥) → (not s || no
 not-both true true h = absurd (h refl refl)
 not-both true false h = refl
 not-both false t h = refl
-
-pub arguments-formed : {o : ℕ} {ts : Terms} {t : Term} → Is o ts t → WellFormed t → AllWellFormed ts
-unfolding WellFormed
-arguments-formed (is i) w = w .1
 
 -- the bound of a relation, negated or not
 bound-formed : {o : ℕ} {a b t : Term} → Is2 o a b t → WellFormed t → WellFormed b
@@ -175,11 +184,12 @@ negated-bound-formed h w = bound-formed (h .relation) (arguments-formed (h .nega
 -- ---- bounds compare as the numbers that they are
 
 number-at :
-    (ρ : Assignment) (d : Term) → WellFormed d → (q : Rational) → IsNumber d q →
+    (ρ : Assignment) (d : Term) → WellFormed d → (q : Rational) → Written d q →
     (at ρ d ≈ Rational.value q) × Lowest q
-number-at ρ d w q n = asFraction-value d w q (signed-fraction unbounded d q n) ρ
+number-at ρ d w q n = asFraction-value d w q (written-read n) ρ
 
-module _ (ρ : Assignment) (d1 d2 : Term) (w1 : WellFormed d1) (w2 : WellFormed d2) (q1 q2 : Rational) (n1 : IsNumber d1 q1) (n2 : IsNumber d2 q2) where
+module _ (ρ : Assignment) (d1 d2 : Term) (w1 : WellFormed d1) (w2 : WellFormed d2) (q1 q2 : Rational)
+    (n1 : Written d1 q1) (n2 : Written d2 q2) where
   -- an order of pairs that respects equality, and its test
   bounds-ordered :
       {_<_ : Pair → Pair → Type 0} (resp : (a a′ b b′ : Pair) → a ≈ a′ → b ≈ b′ → _<_ a b → _<_ a′ b′) →
@@ -192,17 +202,22 @@ module _ (ρ : Assignment) (d1 d2 : Term) (w1 : WellFormed d1) (w2 : WellFormed 
   bounds-le : T (lessEqQ q1 q2) → at ρ d1 ≤P at ρ d2
   bounds-le e =
       bounds-ordered {_<_ = _≤P_} ≤P-resp
-      (λ l1 l2. of-lessEqP (Rational.value q1) (Rational.value q2) (sym (lessEq-value q1 q2 l1 l2) ∙ T-true (lessEqQ q1 q2) e))
+      (λ l1 l2.
+      of-lessEqP (Rational.value q1) (Rational.value q2)
+      (sym (lessEq-value q1 q2 l1 l2) ∙ T-true (lessEqQ q1 q2) e))
 
   bounds-lt : T (lessQ q1 q2) → at ρ d1 <P at ρ d2
   bounds-lt e =
       bounds-ordered {_<_ = _<P_} <P-resp
-      (λ l1 l2. of-lessP (Rational.value q1) (Rational.value q2) (sym (less-value q1 q2 l1 l2) ∙ T-true (lessQ q1 q2) e))
+      (λ l1 l2.
+      of-lessP (Rational.value q1) (Rational.value q2)
+      (sym (less-value q1 q2 l1 l2) ∙ T-true (lessQ q1 q2) e))
 
 -- ---- why it is true
 
 pub form-says :
-    {phi1 phi2 : Term} → WellFormed phi1 → WellFormed phi2 → BoundsForm phi1 phi2 → (ρ : Assignment) →
+    {by : Departures} {phi1 phi2 : Term} → WellFormed phi1 → WellFormed phi2 → BoundsForm by phi1 phi2 →
+    (ρ : Assignment) →
     (says ρ phi1 || says ρ phi2) ≡ true
 form-says w1 w2 (below s d1 d2 q1 q2 f g n1 n2 c) ρ =
     let x = at ρ s in
@@ -211,7 +226,7 @@ form-says w1 w2 (below s d1 d2 q1 q2 f g n1 n2 c) ρ =
     let l = bounds-le ρ d1 d2 (negated-bound-formed f w1) (bound-formed g w2) q1 q2 n1 n2 c in
     ap₂ _||_ (negated-says ρ lessEq f) (relation-says ρ lessEq g)
     ∙ implies-or (lessEqP x y) (lessEqP x z) (λ e. lessEqP-true x z (≤P-trans x y z (of-lessEqP x y e) l))
-form-says w1 w2 (belowOrNot s d f g) ρ =
+form-says w1 w2 (belowOrNot s d f g b) ρ =
     ap₂ _||_ (relation-says ρ lessEq f) (negated-says ρ lessEq g) ∙ or-not-self (lessEqP (at ρ s) (at ρ d))
 form-says w1 w2 (above s d1 d2 q1 q2 f g n1 n2 c) ρ =
     let x = at ρ s in
@@ -220,7 +235,7 @@ form-says w1 w2 (above s d1 d2 q1 q2 f g n1 n2 c) ρ =
     let l = bounds-le ρ d2 d1 (bound-formed g w2) (negated-bound-formed f w1) q2 q1 n2 n1 c in
     ap₂ _||_ (negated-says ρ greaterEq f) (relation-says ρ greaterEq g)
     ∙ implies-or (lessEqP y x) (lessEqP z x) (λ e. lessEqP-true z x (≤P-trans z y x l (of-lessEqP y x e)))
-form-says w1 w2 (aboveOrNot s d f g) ρ =
+form-says w1 w2 (aboveOrNot s d f g b) ρ =
     ap₂ _||_ (relation-says ρ greaterEq f) (negated-says ρ greaterEq g) ∙ or-not-self (lessEqP (at ρ d) (at ρ s))
 form-says w1 w2 (apart s d1 d2 q1 q2 f g n1 n2 c) ρ =
     let x = at ρ s in

@@ -1,59 +1,61 @@
--- Steps 1 to 3 of la_generic: what `negate_disequality` makes of a literal, with all atoms on the left and the constant on the
--- right, is a constraint that states the literal's opposite (`disequality-states`). The walks of the two sides give combinations
--- of their values, and the difference of the two is what the constraint's sides differ by.
---     constraintOf       the constraint that a disequality stands for
---     Negated       it states the opposite; its atoms are terms of P, and its numbers are in lowest terms
-use mathlib.Core.Path.{_≡_, refl, sym, _∙_, subst}
+-- Steps 1 to 3 of la_generic. What `negate_disequality` makes of a literal, with all atoms on the left and the
+-- constant on the right, is a constraint that states the literal's opposite: there is one (`disequality-states`),
+-- every one agrees with it (`states-agree`), a literal that has one is not refused without limits
+-- (`states-answered`), and where the literal is false it holds (`states-false`).
+use mathlib.Core.Path.{_≡_, refl, sym, _∙_, ap, subst}
 use mathlib.Core.Bool.{true, false}
 use mathlib.Core.List.{[], _∷_}
 use Prim.Native.Nat.{ℕ}
+use borrow.Author.Tests.{not-false}
 use lib.Dec.{eqb}
-use Rattle.terms.specs.Pair.{addP, _≈_}
-use Rattle.terms.specs.Rational as Rational
-use Rattle.terms.specs.Rational.{Rational, Lowest, negQ}
+use Rattle.terms.specs.Rational.{Lowest, negQ}
 use Rattle.terms.specs.Operator.{Equals, GreaterThan, GreaterEq}
 use Rattle.terms.specs.Term.{Term, Terms, if_then_else_}
 use Rattle.terms.specs.Term.Terms.{nil, _▹_}
-use Rattle.terms.specs.Smtlib.{Assignment}
-use Rattle.terms.proofs.Ring.{_⊕_, _⊖_, neg, 𝟙, _≐_, _·_, _and_, _from_, derive}
-use Rattle.terms.proofs.Quotient.{mk, ℚring, mk-add, mk-eq, ≈-of-mk-eq}
+use Rattle.terms.specs.Smtlib.{Assignment, isTrue, value}
+use Rattle.terms.proofs.Comparisons.{of-eqP, of-lessP, of-lessEqP}
+use Rattle.terms.proofs.Ring.{_⊕_, _⊖_, neg, 𝟘, 𝟙, _≐_, _·_, _and_, _from_, derive}
+use Rattle.terms.proofs.Quotient.{ℚ, mk, ℚring, mk-eq}
+use Rattle.terms.proofs.Sums.{meant}
 use Rattle.terms.proofs.BookTerms.{Each, Closed}
-use Rattle.rules.specs.Limits.{Limits}
-use Rattle.rules.specs.IndexMap as IndexMap
-use Rattle.rules.specs.IndexMap.{combination}
+use Rattle.rules.specs.Refusal.Result.{ok}
+use Rattle.rules.specs.Limits.{Limits, theRust}
+use Rattle.rules.specs.IndexMap.{combination, sub}
 use Rattle.rules.specs.LinearComb.{LinearComb, terms, fromTerm}
 use Rattle.rules.specs.LinearArithmetic as LA
-use Rattle.rules.specs.LinearArithmetic.{Disequality, disequality, twoSides, inner, negateDisequality}
-use Rattle.rules.specs.LinearArithmetic.{disequalityOf}
-use Rattle.rules.specs.Alethe.{Constraint, Relation, sumAt, IsRelation, equals, lessThan, lessEq}
+use Rattle.rules.specs.LinearArithmetic.{Disequality, disequalityOf, inner, twoSides, negateDisequality}
+use Rattle.rules.specs.AletheTerms.{Departures, carcara, Sum, Linear}
+use Rattle.rules.specs.Alethe.{Constraint, constraint, Relation, States, IsRelation, equals, lessThan, lessEq}
 use Rattle.rules.specs.Alethe.{greaterThan, greaterEq}
-use Rattle.rules.specs.Alethe.Relation.{eq, ge, gt}
-use Rattle.rules.proofs.Yields.{Yields, gives, refuses, at-ok, and-then, by-answer}
-use Rattle.rules.proofs.Valuations.{numberℚ, rationals}
-use Rattle.rules.proofs.IndexMaps.{CombinationOf, Amounts, total, worth, sub-amounts, neg-amounts}
-use Rattle.rules.proofs.LinearWalk.{atoms}
-use Rattle.rules.proofs.LinearMeaning.{some-assignment, termsOf, combinationAt, Represents, worth-is}
-use Rattle.rules.proofs.LinearMeaning.{linear-meaning}
-use Rattle.rules.proofs.Shapes.{or-else}
-use Rattle.rules.proofs.Literals.{at}
-use Rattle.rules.proofs.Oppositions.{inner-opposite, opposite-relation}
 use Rattle.rules.specs.Alethe.{Opposite, Oriented, as-equals, as-greater, as-greaterEq, turned-less}
-use Rattle.rules.specs.Alethe.{turned-lessEq, States}
-
--- ---- the constraint
+use Rattle.rules.specs.Alethe.{turned-lessEq, Numbers}
+use Rattle.rules.specs.Alethe.Relation.{eq, ge, gt}
+use Rattle.rules.proofs.Yields.{Yields, gives, refuses, at-ok, and-then, past}
+use Rattle.rules.proofs.Valuations.{numberℚ}
+use Rattle.rules.proofs.IndexMaps.{CombinationOf}
+use Rattle.rules.proofs.Signs.{_less_, at-most, below}
+use Rattle.rules.proofs.Says.{Says, is-zero, is-nonneg, is-positive, says-as}
+use Rattle.rules.proofs.Shapes.{or-else}
+use Rattle.rules.proofs.Literals.{test, at}
+use Rattle.rules.proofs.Oppositions.{inner-opposite, opposite-relation, opposite-says}
+use Rattle.rules.proofs.Weights.{weigh, numbered, EntriesFor}
+use Rattle.rules.proofs.NormalForms.{Normal}
+use Rattle.rules.proofs.LinearForms.{linear-form, linear-kept, linear-gathers, linear-value}
+use Rattle.rules.proofs.LinearSums.{SumOf}
+use Rattle.rules.proofs.Unlimited.{answer-of}
+use Rattle.rules.proofs.LiteralSides.{opposite-inside, SideWalks, literal-walks, literal-free}
+use Rattle.rules.proofs.NoZero.{disequalityOf-nonzero}
+use Rattle.rules.proofs.SumsApart.{apartTerms, apartBound, apart-kept, apart-weighs, apart-bound, Apart}
+use Rattle.rules.proofs.SumsApart.{sub-apart, neg-apart}
+use Rattle.rules.proofs.SumsApart.{apart-sums, apart-constant}
 
 abbrev pub relationOf : ℕ → Relation
 relationOf o = elim (eqb o GreaterThan) [ true ↦ gt | false ↦ elim (eqb o GreaterEq) [ true ↦ ge | false ↦ eq ] ]
 
-abbrev pub constraintOf : Disequality → Constraint
-constraintOf d =
-    record {
-      terms = termsOf (d .sum .entries);
-      relation = relationOf (d .operator);
-      bound = Rational.value (d .sum .constant);
-    }
-
--- ---- two sides and their difference
+abbrev pub operatorOf : Relation → ℕ
+operatorOf eq = Equals
+operatorOf ge = GreaterEq
+operatorOf gt = GreaterThan
 
 -- the operator has been turned to =, >= or >
 pub data Upward : ℕ → Type 0 where
@@ -61,10 +63,16 @@ pub data Upward : ℕ → Type 0 where
   is-greater : Upward GreaterThan
   is-greaterEq : Upward GreaterEq
 
-pub record Negated (P : Term → Type 0) (phi : Term) (d : Disequality) : Type 0 where
-  pub kept : CombinationOf P Lowest (d .sum)
+-- the Rust's disequality is the constraint, its atoms gathered
+pub record Agrees (P : Term → Type 0) (d : Disequality) (k : Constraint) : Type 0 where
   pub upward : Upward (d .operator)
-  pub states : States phi (constraintOf d)
+  pub relation : relationOf (d .operator) ≡ k .relation
+  pub kept : CombinationOf P Lowest (d .sum)
+  pub normal : Normal P (k .terms) (d .sum .entries)
+  pub bound : d .sum .constant ≡ k .bound
+  pub entries : EntriesFor P (k .terms)
+
+-- ---- a constraint for the literal
 
 two-sides : (ts : Terms) → Yields (λ p. ts ≡ p .0 ▹ p .1 ▹ nil) (twoSides ts)
 two-sides nil = refuses
@@ -72,144 +80,184 @@ two-sides (a ▹ nil) = refuses
 two-sides (a ▹ b ▹ nil) = gives refl
 two-sides (a ▹ b ▹ c ▹ ts) = refuses
 
+-- two terms in the order of =, >= or >
+record Turned (a b : Term) (o : ℕ) : Type 0 where
+  relation : Relation
+  x : Term
+  y : Term
+  oriented : Oriented a b o relation x y
+
+turned-round : (a b : Term) {o : ℕ} → IsRelation o → Turned a b o
+turned-round a b equals = record { relation = eq; x = a; y = b; oriented = as-equals }
+turned-round a b greaterThan = record { relation = gt; x = a; y = b; oriented = as-greater }
+turned-round a b greaterEq = record { relation = ge; x = a; y = b; oriented = as-greaterEq }
+turned-round a b lessThan = record { relation = gt; x = b; y = a; oriented = turned-less }
+turned-round a b lessEq = record { relation = ge; x = b; y = a; oriented = turned-lessEq }
+
+-- what holds of both terms holds of both sides
+sides-inside : (P : Term → Type 0) {a b x y : Term} {o : ℕ} {r : Relation} → Oriented a b o r x y → P a → P b →
+    P x × P y
+sides-inside P as-equals pa pb = (pa, pb)
+sides-inside P as-greater pa pb = (pa, pb)
+sides-inside P as-greaterEq pa pb = (pa, pb)
+sides-inside P turned-less pa pb = (pb, pa)
+sides-inside P turned-lessEq pa pb = (pb, pa)
+
+-- ---- what a constraint's relation says
+
+-- the operator that a relation is turned to
+turned-operator : {a b x y : Term} {o : ℕ} {r : Relation} → Oriented a b o r x y → (s : LinearComb) (n : ℕ) →
+    Upward (LA.turned o s n .operator) × (relationOf (LA.turned o s n .operator) ≡ r)
+unfolding LA.turned if_then_else_
+turned-operator as-equals s n = (is-equals, refl)
+turned-operator as-greater s n = (is-greater, refl)
+turned-operator as-greaterEq s n = (is-greaterEq, refl)
+turned-operator turned-less s n = (is-greater, refl)
+turned-operator turned-lessEq s n = (is-greaterEq, refl)
+
+-- what a and b are apart, turned, is what x and y are apart
+turned-apart : (P : Term → Type 0) {a b x y : Term} {o : ℕ} {r : Relation} → Oriented a b o r x y →
+    (c : LinearComb) (n : ℕ) →
+    ((s t : Sum) → Linear a s → Linear b t → Apart P s t c) → (left right : Sum) → Linear x left → Linear y right →
+    Apart P left right (LA.turned o c n .sum)
+unfolding LA.turned if_then_else_
+turned-apart P as-equals c n h left right hx hy = h left right hx hy
+turned-apart P as-greater c n h left right hx hy = h left right hx hy
+turned-apart P as-greaterEq c n h left right hx hy = h left right hx hy
+turned-apart P turned-less c n h left right hx hy = neg-apart right left c (h right left hy hx)
+turned-apart P turned-lessEq c n h left right hx hy = neg-apart right left c (h right left hy hx)
+
+-- the test of a relation, passed, says what the operator says of the difference
+oriented-says : {a b x y : Term} {o : ℕ} {r : Relation} (q : IsRelation o) → Oriented a b o r x y → (ρ : Assignment) →
+    test q (at ρ a) (at ρ b) ≡ true → Says (operatorOf r) (mk (at ρ x) less mk (at ρ y))
+oriented-says {a} {b} equals as-equals ρ e =
+    is-zero
+    (derive ℚring (mk (at ρ a) ∷ mk (at ρ b) ∷ []) (λ a b. a ⊖ b ≐ 𝟘 from 𝟙 · a ≐ b) tt
+    (mk-eq (at ρ a) (at ρ b) (of-eqP (at ρ a) (at ρ b) e)))
+oriented-says {a} {b} greaterThan as-greater ρ e =
+    is-positive (below (at ρ b) (at ρ a) (of-lessP (at ρ b) (at ρ a) e .lt))
+oriented-says {a} {b} greaterEq as-greaterEq ρ e =
+    is-nonneg (at-most (at ρ b) (at ρ a) (of-lessEqP (at ρ b) (at ρ a) e .le))
+oriented-says {a} {b} lessThan turned-less ρ e =
+    is-positive (below (at ρ a) (at ρ b) (of-lessP (at ρ a) (at ρ b) e .lt))
+oriented-says {a} {b} lessEq turned-lessEq ρ e =
+    is-nonneg (at-most (at ρ a) (at ρ b) (of-lessEqP (at ρ a) (at ρ b) e .le))
+
+-- ---- the theorems
+
 module _ {P : Term → Type 0} (closed : Closed P) where
-  -- s, whose constant stands on the right, has its two sides as far apart as a and b
-  record Apart (a b : Term) (s : LinearComb) : Type 0 where
-    kept : CombinationOf P Lowest s
-    is : (ρ : Assignment) →
-        worth (atoms closed ρ) s
-        ≡ ℚring .add (ℚring .add (mk (at ρ a)) (ℚring .neg (mk (at ρ b)))) (ℚring .add (numberℚ (s .constant)) (numberℚ (s .constant)))
+  module _ {a b : Term} {o : ℕ} (pa : P a) (pb : P b) (l : Limits) (n : ℕ) (d : Disequality) (w : SideWalks l o a b n d)
+    where
+      abbrev difference : LinearComb
+      difference = combination (w .difference .entries) (negQ (w .difference .constant))
 
-  represented :
-      (t : Term) (s : LinearComb) → Represents P t s → (ρ : Assignment) →
-      worth (atoms closed ρ) s ≡ mk (at ρ t)
-  represented t s h ρ = worth-is closed ρ s ∙ sym (mk-eq (at ρ t) (combinationAt ρ s) (h .meant ρ))
+      walks-apart : (s r : Sum) → Linear a s → Linear b r → Apart P s r difference
+      walks-apart s r hs hr =
+          sub-apart s r l (w .left .sum) (w .right .sum) (linear-gathers closed a pa s hs l n (w .left) (w .first))
+          (linear-gathers closed b pb r hr l (w .left .visits) (w .right) (w .second)) (w .difference) (w .apart)
 
-  apart-balanced :
-      (a b : Term) (s : LinearComb) → Apart a b s → (ρ : Assignment) →
-      addP (Rational.value (s .constant)) (at ρ a) ≈ addP (at ρ b) (sumAt ρ (termsOf (s .entries)))
-  unfolding combinationAt
-  apart-balanced a b s h ρ =
-      let c = Rational.value (s .constant) in
-      let m = sumAt ρ (termsOf (s .entries)) in
-      ≈-of-mk-eq (addP c (at ρ a)) (addP (at ρ b) m)
-      (mk-add c (at ρ a)
-      ∙ derive ℚring (mk c ∷ mk (at ρ a) ∷ mk (at ρ b) ∷ mk m ∷ worth (atoms closed ρ) s ∷ [])
-      (λ c a b m w. c ⊕ a ≐ b ⊕ m from neg 𝟙 · w ≐ (a ⊕ neg b) ⊕ (c ⊕ c) and 𝟙 · w ≐ m ⊕ c) tt (h .is ρ)
-      (worth-is closed ρ s ∙ mk-add m c)
-      ∙ sym (mk-add (at ρ b) m))
+      sides-agree : {x y : Term} {r : Relation} → Oriented a b o r x y → (left right : Sum) → Linear x left →
+          Linear y right →
+          Upward (d .operator) × (relationOf (d .operator) ≡ r) × Apart P left right (d .sum)
+      sides-agree {x} {y} {r} t left right hx hy =
+          let h = turned-operator t difference (w .right .visits) in
+          subst
+          (λ (d : Disequality). Upward (d .operator) × (relationOf (d .operator) ≡ r) × Apart P left right (d .sum))
+          (sym (w .is)) (h .0, h .1, turned-apart P t difference (w .right .visits) walks-apart left right hx hy)
 
-  negated-apart : (a b : Term) (s : LinearComb) → Apart a b s → Apart b a (IndexMap.neg s)
-  unfolding IndexMap.neg
-  negated-apart a b s h =
-      record {
-        kept = neg-amounts (atoms closed some-assignment) s (h .kept) .good;
-        is = λ ρ.
-            let n = neg-amounts (atoms closed ρ) s (h .kept) in
-            derive ℚring
-            (mk (at ρ a) ∷ mk (at ρ b) ∷ numberℚ (s .constant) ∷ numberℚ (negQ (s .constant)) ∷ worth (atoms closed ρ) s
-            ∷ worth (atoms closed ρ) (IndexMap.neg s) ∷ [])
-            (λ a b c d w v.
-            v ≐ (b ⊕ neg a) ⊕ (d ⊕ d) from
-            𝟙 · v ≐ neg w and neg 𝟙 · w ≐ (a ⊕ neg b) ⊕ (c ⊕ c) and (neg 𝟙 ⊖ 𝟙) · d ≐ neg c) tt
-            (n .is) (h .is ρ) (rationals .number-neg (s .constant) (h .kept .constant));
-      }
-
-  module _ (a b : Term) (s1 s2 : LinearComb) (left : Represents P a s1) (right : Represents P b s2) where
-    difference-apart :
-        (l : Limits) →
-        Yields (λ s. Apart a b (combination (s .entries) (negQ (s .constant)))) (IndexMap.sub terms l s1 s2)
-    difference-apart l =
-        by-answer (IndexMap.sub terms l s1 s2) λ s e.
-        let amounts : (ρ : Assignment) → Amounts (atoms closed ρ) s (ℚring .add (worth (atoms closed ρ) s1) (ℚring .neg (worth (atoms closed ρ) s2))) =
-        λ ρ. at-ok (sub-amounts (atoms closed ρ) l s1 s2 (left .kept) (right .kept)) e in
-        let good = amounts some-assignment .good in
+module _ {P : Term → Type 0} (closed : Closed P) (phi : Term) (p : P phi) where
+  stated : {a b : Term} {o : ℕ} → Opposite (a ▹ b ▹ nil) phi o → P a → P b → (k : Constraint) × States carcara phi k
+  stated {a} {b} {o} h pa pb =
+      let t = turned-round a b (opposite-relation h) in
+      let ps = sides-inside P (t .oriented) pa pb in
+      let left = linear-form closed (t .x) (ps .0) in
+      let right = linear-form closed (t .y) (ps .1) in (
+        constraint (apartTerms (left .0) (right .0)) (t .relation) (apartBound (left .0) (right .0)),
         record {
-          kept = record { entries = good .entries; constant = rationals .good-neg (s .constant) (good .constant) };
-          is = λ ρ.
-              derive ℚring
-              (mk (at ρ a) ∷ mk (at ρ b) ∷ numberℚ (s .constant) ∷ numberℚ (negQ (s .constant))
-              ∷ worth (atoms closed ρ) s1 ∷ worth (atoms closed ρ) s2 ∷ total (atoms closed ρ) (s .entries) ∷ [])
-              (λ a b c d u v m.
-              m ⊕ d ≐ (a ⊕ neg b) ⊕ (d ⊕ d) from
-              𝟙 · m ⊕ c ≐ u ⊕ neg v and 𝟙 · u ≐ a and neg 𝟙 · v ≐ b and neg 𝟙 · d ≐ neg c) tt
-              (amounts ρ .is) (represented a s1 left ρ) (represented b s2 right ρ)
-              (rationals .number-neg (s .constant) (good .constant));
+          o = o;
+          a = a;
+          b = b;
+          x = t .x;
+          y = t .y;
+          left = left .0;
+          right = right .0;
+          opposite = h;
+          sorts = Numbers.otherSort tt;
+          oriented = t .oriented;
+          leftSum = left .1;
+          rightSum = right .1;
+          terms = refl;
+          bound = refl;
+        },
+      )
+
+  pub disequality-states : (l : Limits) (n : ℕ) →
+      Yields (λ d. (k : Constraint) × States carcara phi k) (disequalityOf l phi n)
+  unfolding disequalityOf negateDisequality
+  disequality-states l n =
+      and-then {P = λ r. (k : Constraint) × States carcara phi k}
+      (and-then (or-else (inner phi) _ (inner-opposite closed phi p)) λ q f.
+      and-then (two-sides (q .1)) λ ab e.
+      let ps = subst (Each P) e (f .inside) in
+      past (fromTerm l (ab .0) n) λ w1.
+      past (fromTerm l (ab .1) (w1 .visits)) λ w2.
+      gives (stated (subst (λ (ts : Terms). Opposite ts phi (q .0)) e (f .literal)) (ps .0) (ps .1 .0)))
+      (λ r k. past (sub terms l (r .1) (r .2)) λ s. gives k)
+
+  module _ (by : Departures) (k : Constraint) (h : States by phi k) where
+    inside : P (h .x) × P (h .y)
+    inside = let ps = opposite-inside closed phi p (h .opposite) in sides-inside P (h .oriented) (ps .0) (ps .1 .0)
+
+    left-kept : SumOf P (h .left)
+    left-kept = linear-kept closed (h .x) (inside .0) (h .left) (h .leftSum)
+
+    right-kept : SumOf P (h .right)
+    right-kept = linear-kept closed (h .y) (inside .1) (h .right) (h .rightSum)
+
+    -- its atoms and its bound
+    pub states-kept : EntriesFor P (k .terms) × Lowest (k .bound)
+    states-kept =
+        let g = apart-kept (h .left) (h .right) left-kept right-kept in
+        (rw (h .terms) (g .0), rw (h .bound) (g .1))
+
+    pub states-agree : (l : Limits) (n : ℕ) (d : Disequality) → disequalityOf l phi n ≡ ok d → Agrees P d k
+    states-agree l n d e =
+        let ps = opposite-inside closed phi p (h .opposite) in
+        let w = literal-walks l (h .o) (h .a) (h .b) n phi (h .opposite) d e in
+        let g =
+        sides-agree closed (ps .0) (ps .1 .0) l n d w (h .oriented) (h .left) (h .right) (h .leftSum) (h .rightSum) in
+        let sums = apart-sums (h .left) (h .right) left-kept right-kept (d .sum) (g .2) in
+        record {
+          upward = g .0;
+          relation = g .1;
+          kept = g .2 .kept;
+          normal = record {
+            tidy = at-ok (disequalityOf-nonzero l phi n) e;
+            kept = g .2 .kept .entries;
+            sums = λ v. sums v ∙ ap (weigh (numbered v)) (sym (h .terms));
+          };
+          bound = apart-constant (h .left) (h .right) left-kept right-kept (d .sum) (g .2) ∙ sym (h .bound);
+          entries = states-kept .0;
         }
 
-  -- ---- the literal
+    pub states-answered : (n : ℕ) → (d : Disequality) × (disequalityOf theRust phi n ≡ ok d)
+    states-answered n = let (d, (e, t)) = answer-of (literal-free (h .opposite) n) in (d, e)
 
-  module _ (phi a b : Term) where
-    upward-states :
-        {o p : ℕ} → Opposite (a ▹ b ▹ nil) phi o → Upward p → (x y : Term) →
-        Oriented a b o (relationOf p) x y → (s : LinearComb) → Apart x y s → (n : ℕ) →
-        Negated P phi (disequality p s n)
-    upward-states {o} {p} opposite u x y turn s h n =
-        record {
-          kept = h .kept;
-          upward = u;
-          states =
-              record {
-                o = o;
-                a = a;
-                b = b;
-                x = x;
-                y = y;
-                opposite = opposite;
-                oriented = turn;
-                balanced = apart-balanced x y s h;
-              };
-        }
-
-    -- turned to =, >= or >, the relation says the same
-    turned-states :
-        {o : ℕ} → IsRelation o → Opposite (a ▹ b ▹ nil) phi o → (s : LinearComb) → Apart a b s → (n : ℕ) →
-        Negated P phi (LA.turned o s n)
-    unfolding LA.turned if_then_else_
-    turned-states equals opposite s h n = upward-states opposite is-equals a b as-equals s h n
-    turned-states lessThan opposite s h n = upward-states opposite is-greater b a turned-less (IndexMap.neg s) (negated-apart a b s h) n
-    turned-states lessEq opposite s h n =
-        upward-states opposite is-greaterEq b a turned-lessEq (IndexMap.neg s) (negated-apart a b s h) n
-    turned-states greaterThan opposite s h n = upward-states opposite is-greater a b as-greater s h n
-    turned-states greaterEq opposite s h n = upward-states opposite is-greaterEq a b as-greaterEq s h n
-
-  -- ---- the theorem
-
-  module _ (l : Limits) where
-    from-term : (t : Term) → P t → (n : ℕ) → Yields (λ w. Represents P t (w .sum)) (fromTerm l t n)
-    from-term t p n = by-answer (fromTerm l t n) (linear-meaning closed l t p n)
-
-    module _ (phi : Term) (p : P phi) (n : ℕ) where
-      -- phi is the opposite of a relation of two terms, which s1 and s2 stand for
-      record Sides (o : ℕ) (s1 s2 : LinearComb) : Type 0 where
-        a : Term
-        b : Term
-        opposite : Opposite (a ▹ b ▹ nil) phi o
-        left : Represents P a s1
-        right : Represents P b s2
-
-      sides : Yields (λ r. Sides (r .0) (r .1) (r .2)) (negateDisequality l phi n)
-      unfolding negateDisequality
-      sides =
-          and-then (or-else (inner phi) _ (inner-opposite closed phi p)) λ q f.
-          and-then (two-sides (q .1)) λ ab e.
-          let inside = subst (Each P) e (f .inside) in
-          and-then (from-term (ab .0) (inside .0) n) λ w1 left.
-          and-then (from-term (ab .1) (inside .1 .0) (w1 .visits)) λ w2 right.
-          gives
-          (record {
-            a = ab .0;
-            b = ab .1;
-            opposite = subst (λ (ts : Terms). Opposite ts phi (q .0)) e (f .literal);
-            left = left;
-            right = right;
-          })
-
-      pub disequality-states : Yields (Negated P phi) (disequalityOf l phi n)
-      unfolding disequalityOf
-      disequality-states =
-          and-then sides λ r h.
-          and-then (difference-apart (h .a) (h .b) (r .1) (r .2) (h .left) (h .right) l) λ s k.
-          gives
-          (turned-states phi (h .a) (h .b) (opposite-relation (h .opposite)) (h .opposite)
-          (combination (s .entries) (negQ (s .constant))) k (r .3))
+    pub states-false : (ρ : Assignment) → isTrue (value ρ phi) ≡ false →
+        Says (operatorOf (k .relation)) (weigh (λ t. meant (value ρ t)) (k .terms) less numberℚ (k .bound))
+    states-false ρ e =
+        let f : Term → ℚ = λ t. meant (value ρ t) in
+        let q = opposite-relation (h .opposite) in
+        says-as
+        (derive ℚring
+        (meant (value ρ (h .x)) ∷ meant (value ρ (h .y)) ∷ weigh f (h .left .terms) ∷ weigh f (h .right .terms)
+        ∷ numberℚ (h .left .constant) ∷ numberℚ (h .right .constant) ∷ weigh f (k .terms) ∷ numberℚ (k .bound) ∷ [])
+        (λ x y l r c d w b.
+        x ⊖ y ≐ w ⊖ b from
+        𝟙 · x ≐ l ⊕ c and neg 𝟙 · y ≐ r ⊕ d and neg 𝟙 · w ≐ l ⊕ neg r and 𝟙 · b ≐ d ⊕ neg c) tt
+        (linear-value closed (h .x) (inside .0) (h .left) (h .leftSum) ρ)
+        (linear-value closed (h .y) (inside .1) (h .right) (h .rightSum) ρ)
+        (ap (weigh f) (h .terms) ∙ apart-weighs (h .left) (h .right) left-kept right-kept f)
+        (ap numberℚ (h .bound) ∙ apart-bound (h .left) (h .right) left-kept right-kept))
+        (oriented-says q (h .oriented) ρ
+        (not-false (test q (at ρ (h .a)) (at ρ (h .b))) (sym (opposite-says ρ (h .opposite)) ∙ e)))

@@ -17,7 +17,7 @@ use Rattle.rules.specs.PolynomialArea.{keyAt, Key, partAt, Towers, Enter
 use Rattle.rules.specs.declared.monomials.Entered.{Entered}
 use Rattle.rules.specs.declared.monomials.Entered.the-variants.{Length, Refused}
 use Rattle.rules.proofs.TowerAreas.{tower-part}
-use Rattle.rules.proofs.Refusals.{refuses, refuses-then}
+use Rattle.rules.proofs.Results.{refuses, refused-then}
 use Rattle.rules.proofs.ProductEntries.{ClearSays, InsertSays, ProductSays, EachSays, EntrySays, ScaledSays}
 use Rattle.rules.proofs.ProductEntries.{key-there, value-there}
 use Rattle.rules.proofs.ProductEntries.{scaled-out, scaled-value, product-long, product-out, product-value}
@@ -114,7 +114,7 @@ module _
       record {
         map = made .map;
         held = made .held;
-        is = (refuses-then _ (rw (value-read read tower (omega arith) h) at (made .is .0)), made .is .1);
+        is = (refused-then _ (rw (value-read read tower (omega arith) h) at (made .is .0)), made .is .1);
       }
 
   module _ {len : ℕ} (e : r ≡ Length len) {w2 : Bytes} where

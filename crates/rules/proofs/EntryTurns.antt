@@ -18,7 +18,7 @@ use Rattle.rules.specs.PolynomialArea.{places, Towers, EntersAt, Few, no
 use Rattle.rules.specs.WorkArea.{Refuses}
 use Rattle.rules.specs.declared.monomials.Entered.{Entered}
 use Rattle.rules.specs.declared.monomials.Entered.the-variants.{Length, Refused}
-use Rattle.rules.proofs.Refusals.{refuses-then}
+use Rattle.rules.proofs.Results.{refused-then}
 
 abbrev pub Turn : Type 0
 Turn = Monomial × Rational → Map Monomial → Result (Map Monomial)
@@ -86,7 +86,7 @@ module _ {t : Task} {w : Bytes} {len k : ℕ} (left : Left t w len k) where
       record {
         map = made .map;
         held = at-once (made .map) (made .held);
-        is = (subst (Refuses c) (next h) (refuses-then _ (made .is .0)), made .is .1);
+        is = (subst (Refuses c) (next h) (refused-then _ (made .is .0)), made .is .1);
       }
 
   left-none : length (t .all) ≤ k → Does t w (Length len)

@@ -1,192 +1,182 @@
--- An accepted la_generic or bounded_farkas step is one in the wording of the Alethe specification
--- (`laGeneric-form`, `laGenericPartial-form`): literal by literal the fold adds a line's constraint to the
--- sum, so at the end the sum is that of all constraints. It has no atoms left, and 0 does not stand in the
--- relation to its bound. The premises on even divs and whole numbers are what lets a strengthened bound
--- follow.
+-- An accepted la_generic or bounded_farkas step is one in the wording of the Alethe specification with Carcara's
+-- departures (`laGeneric-form`, `laGenericPartial-form`), without a premise on its terms: literal by literal the fold
+-- adds a line's constraint to the sum, so at the end the sum is that of all constraints. It has no atoms left, and 0
+-- does not stand in the relation to its bound. The numbers given and inferred are in lowest terms
+-- (`Arguments.arguments-lowest`, `trace-lowest`).
 use mathlib.Core.Path.{_≡_, refl, sym, _∙_, ap, ap₂, subst}
 use mathlib.Core.Bool.{Bool, true, not, _&&_}
 use mathlib.Core.List.{List, [], _∷_, _++_}
-use Prim.Native.Nat.{ℕ, _≤_}
+use mathlib.Core.Logic.{_⊎_, inl, inr, ⊎-elim}
+use Prim.Native.Nat.{ℕ}
 use native.Mathlib.Omega.{arith}
 use lib.Dec.{eqb}
 use lib.IntN.{pos}
 use lib.ListN.{length}
 use borrow.Author.Tests.{eqb-true}
-use Rattle.terms.specs.Pair.{wholeP, _≈_}
-use Rattle.terms.specs.Rational.{Rational}
-use Rattle.terms.specs.Operator.{Equals}
+use Rattle.terms.specs.Rational.{Rational, Lowest}
 use Rattle.terms.specs.Term.{Term}
-use Rattle.terms.specs.Smtlib.{Assignment, divsEven}
-use Rattle.terms.specs.declared.term.Reading.{Reading}
-use Rattle.terms.specs.declared.term.Reading.the-variants.{Value, NotNumber, OutOfRange}
-use Rattle.terms.proofs.Truths.{both, never}
+use Rattle.terms.proofs.Truths.{both}
 use Rattle.terms.proofs.Ring.{_⊕_, 𝟘, 𝟙, neg, _≐_, _·_, _and_, _from_, derive}
-use Rattle.terms.proofs.Quotient.{mk, ℚring, sum, ι, mk-whole, ≈-of-mk-eq}
-use Rattle.terms.proofs.WellFormed.{WellFormed}
-use Rattle.terms.proofs.BookTerms.{Closed, closed-and, even-below}
+use Rattle.terms.proofs.Quotient.{ℚring}
+use Rattle.terms.proofs.BookTerms.{Closed}
 use Rattle.rules.specs.Refusal.{assert}
 use Rattle.rules.specs.Refusal.Result.{ok}
 use Rattle.rules.specs.Refusal.Refusal.{wrongNumberOfArgs, disequalityIsNotContradiction}
 use Rattle.rules.specs.Limits.{Limits}
-use Rattle.rules.specs.IndexMap.{Map, isEmpty, new}
-use Rattle.rules.specs.LinearArithmetic.{Clause, Progress, progress, readArgs}
+use Rattle.rules.specs.IndexMap.{isEmpty, new}
+use Rattle.rules.specs.LinearArithmetic.{Clause, Progress, readArgs}
 use Rattle.rules.specs.LinearArithmetic.{foldLiterals, isTrueAtZero, laGenericPartial, laGeneric}
-use Rattle.rules.specs.Premises.{allEven, wholeLiterals, givenArgs}
-use Rattle.rules.specs.Alethe.{Constraint, Relation, Related, Lines, sumRelation}
-use Rattle.rules.specs.Alethe.{sumBound, sumTerms, LaGeneric}
-use Rattle.rules.proofs.Yields.{at-ok}
-use Rattle.rules.proofs.Yields.{through}
+use Rattle.rules.specs.AletheTerms.{carcara, Cancels}
+use Rattle.rules.specs.Alethe.{Constraint, allTerms, sumBound, stronger, joined, join, contradicts}
+use Rattle.rules.specs.Alethe.{LaGeneric, Arguments, BoundedFarkas, completed, surplusArguments}
+use Rattle.rules.specs.Alethe.Relation.{eq}
+use Rattle.rules.proofs.Yields.{at-ok, through}
 use Rattle.rules.proofs.Valuations.{numberℚ, rationals}
-use Rattle.rules.proofs.IndexMaps.{total, new-amounts}
-use Rattle.rules.proofs.LinearWalk.{atoms}
-use Rattle.rules.proofs.LinearMeaning.{some-assignment}
-use Rattle.rules.proofs.Disequalities.{is-equals}
-use Rattle.rules.proofs.Signs.{_less_}
-use Rattle.rules.proofs.Says.{says-as, stands-at-zero}
-use Rattle.rules.proofs.Arguments.{EachOf, Read, wholeNumbers, whole-numbers}
-use Rattle.rules.proofs.Arguments.{lowest-of-read}
-use Rattle.rules.proofs.Arguments.{asserted-true, args-read, each-even, each-formed}
-use Rattle.rules.proofs.ConstraintSums.{atomsSum, related-says}
-use Rattle.rules.proofs.GenericLines.{Kept}
-use Rattle.rules.proofs.GenericFold.{Summed, Folded, fold-lines}
+use Rattle.rules.proofs.NoZero as NoZero
+use Rattle.rules.proofs.IndexMaps.{total}
+use Rattle.rules.proofs.MapEntries.{no-entries}
+use Rattle.rules.proofs.Weights.{weigh, numbered, weights, number-unique}
+use Rattle.rules.proofs.NormalForms.{normal-cancels}
+use Rattle.rules.proofs.Arguments.{EachOf, EachLowest, asserted-true, arguments-found, arguments-lowest}
+use Rattle.rules.proofs.Arguments.{arguments-length}
+use Rattle.rules.proofs.ConstraintLaws.{lines-length}
+use Rattle.rules.proofs.ConstraintSums.{contradicts-is}
+use Rattle.rules.proofs.ConstraintFolds.{start}
+use Rattle.rules.proofs.GenericFold.{Summed, Assigned, no-literal, no-argument, given, fold-lines}
 
--- ---- the arguments as numbers
+-- ---- the arguments
 
-given-read : (args : List Term) (qs : List Rational) → Read args qs → givenArgs args ≡ qs
-unfolding givenArgs
-given-read [] [] h = refl
-given-read [] (q ∷ qs) h = absurd h
-given-read (a ∷ args) [] h = absurd h
-given-read (a ∷ args) (q ∷ qs) (e, h) =
-    ap
-    (λ (v : Reading). elim v as (λ x. List Rational) [
-      | Value q ↦ q ∷ givenArgs args
-      | NotNumber ↦ givenArgs args
-      | OutOfRange ↦ givenArgs args
-    ]) e
-    ∙ ap (_∷_ q) (given-read args qs h)
+all-or-surplus : {qs taken surplus inferred : List Rational} → Assigned qs taken surplus inferred →
+    (taken ≡ qs ++ inferred) ⊎ ((inferred ≡ []) × (qs ≡ taken ++ surplus))
+all-or-surplus (no-literal []) = inl refl
+all-or-surplus (no-literal (q ∷ qs)) = inr (refl, refl)
+all-or-surplus (no-argument inferred) = inl refl
+all-or-surplus (given q h) =
+    ⊎-elim (λ e. inl (ap (_∷_ q) e)) (λ e. inr (e .0, ap (_∷_ q) (e .1))) (all-or-surplus h)
 
-read-length : (args : List Term) (qs : List Rational) → Read args qs → length qs ≡ length args
-read-length [] [] h = refl
-read-length [] (q ∷ qs) h = absurd h
-read-length (a ∷ args) [] h = absurd h
-read-length (a ∷ args) (q ∷ qs) (e, h) = rw (read-length args qs h)
+-- where there are as many arguments as literals, none is inferred and none is left
+none-inferred : {qs taken surplus inferred : List Rational} → Assigned qs taken surplus inferred →
+    length qs ≡ length taken →
+    (taken ≡ qs) × (inferred ≡ [])
+none-inferred (no-literal []) e = (refl, refl)
+none-inferred (no-literal (q ∷ qs)) e = absurd (omega arith)
+none-inferred (no-argument []) e = (refl, refl)
+none-inferred (no-argument (q ∷ inferred)) e = absurd (omega arith)
+none-inferred (given q h) e = let r = none-inferred h (omega arith) in (ap (_∷_ q) (r .0), r .1)
 
 -- ---- the end
 
-module _ {P : Term → Type 0} (closed : Closed P) (even : (t : Term) → P t → divsEven t ≡ true) (l : Limits) where
-  abbrev start : ℕ → Progress
-  start n = progress Equals new [] n
+module _ {P : Term → Type 0} (closed : Closed P) (l : Limits) where
+  module _ (n : ℕ) (r : Progress) (ks : List Constraint) (s : Summed P (start n) r ks) where
+    sum-cancels : isEmpty (r .acc .entries) ≡ true → Cancels (allTerms ks)
+    unfolding total
+    sum-cancels e =
+        normal-cancels closed (allTerms ks) (s .joins .entries)
+        (record {
+          tidy = NoZero.empty;
+          kept = tt;
+          sums = λ v.
+              derive ℚring
+              (total (weights P v) (r .acc .entries) ∷ total (weights P v) [] ∷ weigh (numbered v) (allTerms ks) ∷ [])
+              (λ a z w. z ≐ w from 𝟙 · a ≐ z ⊕ w and neg 𝟙 · a ≐ z and 𝟙 · z ≐ 𝟘) tt (s .joins .terms v)
+              (ap (total (weights P v)) (no-entries (r .acc .entries) e)) refl;
+        })
 
-  nothing-yet : (n : ℕ) → Kept P (start n)
-  nothing-yet n = record { upward = is-equals; sum = new-amounts (atoms closed some-assignment) .good }
+    bound-is : Lowest (r .acc .constant) → r .acc .constant ≡ sumBound ks
+    bound-is lr =
+        number-unique (r .acc .constant) (sumBound ks) lr (s .joins .lowest)
+        (derive ℚring (numberℚ (r .acc .constant) ∷ numberℚ (new {K = Term} .constant) ∷ numberℚ (sumBound ks) ∷ [])
+        (λ c z b. c ≐ b from 𝟙 · c ≐ z ⊕ b and 𝟙 · z ≐ 𝟘) tt (s .bound) (rationals .number-whole (pos 0)))
 
-  empty-sum : (ρ : Assignment) (m : Map Term) → isEmpty m ≡ true → total (atoms closed ρ) m ≡ ι (pos 0)
-  unfolding total
-  empty-sum ρ [] e = refl
-  empty-sum ρ (x ∷ m) e = never e
-
-  module _ (n : ℕ) (r : Progress) (ks : List Constraint) (s : Summed closed (start n) r ks) where
-    sum-cancels : isEmpty (r .acc .entries) ≡ true → (ρ : Assignment) → sumTerms ρ ks ≈ wholeP (pos 0)
-    sum-cancels e ρ =
-        ≈-of-mk-eq (sumTerms ρ ks) (wholeP (pos 0))
-        (derive ℚring (atomsSum closed ρ (r .acc) ∷ atomsSum closed ρ new ∷ mk (sumTerms ρ ks) ∷ [])
-        (λ a b s. s ≐ 𝟘 from neg 𝟙 · a ≐ b ⊕ s and 𝟙 · a ≐ 𝟘 and neg 𝟙 · b ≐ 𝟘) tt
-        (s .terms ρ) (empty-sum ρ (r .acc .entries) e) (empty-sum ρ [] refl)
-        ∙ sym (mk-whole (pos 0)))
-
-    bound-is : mk (sumBound ks) ≡ numberℚ (r .acc .constant)
-    bound-is =
-        derive ℚring (numberℚ (r .acc .constant) ∷ numberℚ (new {K = Term} .constant) ∷ mk (sumBound ks) ∷ [])
-        (λ c z b. b ≐ c from neg 𝟙 · c ≐ z ⊕ b and neg 𝟙 · z ≐ 𝟘) tt (s .bound)
-        (rationals .number-whole (pos 0))
-
-    sum-contradicts : Kept P r → not (isTrueAtZero (r .operator) (r .acc .constant)) ≡ true →
-        Related (sumRelation ks) (wholeP (pos 0)) (sumBound ks) → ⊥
-    sum-contradicts k t h =
-        let says =
-        related-says (wholeP (pos 0)) (sumBound ks) (k .upward)
-        (subst (λ (o : Relation). Related o (wholeP (pos 0)) (sumBound ks)) (sym (s .relation)) h) in
-        let stands =
-        stands-at-zero (r .acc .constant) (k .sum .constant)
-        (says-as (ap₂ _less_ (mk-whole (pos 0)) bound-is) says) in
-        never (sym (ap not stands) ∙ t)
+    sum-contradicts : Lowest (r .acc .constant) → not (isTrueAtZero (r .operator) (r .acc .constant)) ≡ true →
+        contradicts (joined stronger ks) (sumBound ks) ≡ true
+    sum-contradicts lr t =
+        contradicts-is (joined stronger ks) (sumBound ks)
+        ∙ ap not (ap₂ isTrueAtZero (sym (s .joins .relation eq refl)) (sym (bound-is lr)))
+        ∙ t
 
   abbrev refutes : Progress → Bool
   refutes p = isEmpty (p .acc .entries) && not (isTrueAtZero (p .operator) (p .acc .constant))
 
   -- what an accepted step goes through
-  record Accepted (c : Clause) (args : List Term) (n : ℕ) (r : Progress) : Type 0 where
-    numbers : List Rational
-    read : Read args numbers
-    folded : Folded closed c numbers (start n) r
-    empty : isEmpty (r .acc .entries) ≡ true
-    refuted : not (isTrueAtZero (r .operator) (r .acc .constant)) ≡ true
+  pub record Accepted (c : Clause) (args : List Term) (r : Progress) : Type 0 where
+    pub numbers : List Rational
+    pub arguments : Arguments args numbers
+    pub taken : List Rational
+    pub surplus : List Rational
+    pub assigned : Assigned numbers taken surplus (r .trace)
+    pub lowest : EachLowest (r .trace)
+    pub form : LaGeneric carcara c taken
 
-  accepted : (c : Clause) → EachOf P c → (args : List Term) → EachOf WellFormed args → (n : ℕ) →
-      (r : Progress) → laGenericPartial l c args n ≡ ok r → Accepted c args n r
+  pub accepted : (c : Clause) → EachOf P c → (args : List Term) → EachOf P args → (n : ℕ) (r : Progress) →
+      laGenericPartial l c args n ≡ ok r → Accepted c args r
   unfolding laGenericPartial
   accepted c ps args fs n r e =
       let t = through (readArgs l args) _ r e in
       let qs = t .middle in
-      let read = at-ok (args-read l args) (t .first) in
+      let given = at-ok (arguments-found l args) (t .first) in
       let u = through (foldLiterals l c qs (start n)) _ r (t .then) in
       let p = u .middle in
       let v = through (assert (refutes p) disequalityIsNotContradiction) _ r (u .then) in
       let b = both (isEmpty (p .acc .entries)) _ (asserted-true _ _ _ (v .first)) in
-      subst (Accepted c args n) (let h = v .then in let same : p ≡ r = cc in same)
+      let f =
+      fold-lines closed l c ps qs (arguments-lowest closed args fs qs given) (start n) p (u .first)
+      (record { entries = tt; constant = rationals .good-whole (pos 0) }) in
+      let ks = f .constraints in
+      subst (Accepted c args) (let h = v .then in let same : p ≡ r = cc in same)
       (record {
         numbers = qs;
-        read = read;
-        folded =
-            fold-lines closed even l c ps qs (lowest-of-read args qs fs read) (start n) p (u .first)
-            (nothing-yet n);
-        empty = b .0;
-        refuted = b .1;
-      })
-
-  module _ (c : Clause) (args : List Term) (n : ℕ) (r : Progress) (a : Accepted c args n r) where
-    -- the arguments given, with those inferred behind them
-    arguments : a .numbers ++ a .folded .numbers ≡ givenArgs args ++ r .trace
-    arguments =
-        ap₂ (λ (x y : List Rational). x ++ y) (sym (given-read args (a .numbers) (a .read)))
-        (sym (a .folded .traced))
-
-    form : wholeLiterals c args (r .trace) ≡ true → length args ≤ length c →
-        LaGeneric c (givenArgs args ++ r .trace)
-    form w h =
-        let f = a .folded in
-        let ks = f .constraints in
-        let whole : wholeNumbers c (a .numbers) (f .numbers) ≡ true =
-        sym (whole-numbers c args (a .numbers) (f .numbers) (a .read))
-        ∙ ap (wholeLiterals c args) (sym (f .traced))
-        ∙ w in
-        record {
+        arguments = given;
+        taken = f .taken;
+        surplus = f .surplus;
+        assigned = subst (Assigned qs (f .taken) (f .surplus)) (sym (f .traced)) (f .assigned);
+        lowest = subst EachLowest (sym (f .traced)) (f .lowest);
+        form = record {
           constraints = ks;
-          lines =
-              subst (λ (as′ : List Rational). Lines c as′ ks) arguments
-              (f .lines whole (omega (arith, h, read-length args (a .numbers) (a .read))));
-          cancels = sum-cancels n r ks (f .summed) (a .empty);
-          contradicts = sum-contradicts n r ks (f .summed) (f .left) (a .refuted);
-        }
+          lines = f .lines;
+          cancels = sum-cancels n p ks (f .summed) (b .0);
+          relation = joined stronger ks;
+          joins = join tt;
+          contradiction = sum-contradicts n p ks (f .summed) (f .left .constant) (b .1);
+        };
+      })
 
 -- ---- the theorem
 
-module _ {P : Term → Type 0} (closed : Closed P) (c : Clause) (terms-of-P : EachOf P c) (even : allEven c ≡ true) (l : Limits) (args : List Term) (args-of-P : EachOf P args) (n : ℕ) (p : Progress) where
-  step : laGenericPartial l c args n ≡ ok p →
-      Accepted (closed-and closed even-below) (λ t k. k .1) l c args n p
-  step =
-      accepted (closed-and closed even-below) (λ t k. k .1) l c (each-even P c terms-of-P even) args
-      (each-formed closed args args-of-P) n p
+-- the step's numbers, none of which is inferred
+pub record GenericStep (c : Clause) (args : List Term) (p : Progress) : Type 0 where
+  pub numbers : List Rational
+  pub arguments : Arguments args numbers
+  pub form : LaGeneric carcara c numbers
+  pub nothing-inferred : p .trace ≡ []
 
-  pub laGenericPartial-form : laGenericPartial l c args n ≡ ok p → wholeLiterals c args (p .trace) ≡ true →
-      length args ≤ length c → LaGeneric c (givenArgs args ++ p .trace)
-  laGenericPartial-form e = form (closed-and closed even-below) (λ t k. k .1) l c args n p (step e)
+module _ {P : Term → Type 0} (closed : Closed P) (c : Clause) (terms-of-P : EachOf P c) (l : Limits) (args : List Term)
+    (args-of-P : EachOf P args) (n : ℕ) (p : Progress) where
+  step : laGenericPartial l c args n ≡ ok p → Accepted closed l c args p
+  step = accepted closed l c terms-of-P args args-of-P n p
 
-  pub laGeneric-form : laGeneric l c args n ≡ ok p → wholeLiterals c args (p .trace) ≡ true →
-      LaGeneric c (givenArgs args ++ p .trace)
+  pub laGenericPartial-form : laGenericPartial l c args n ≡ ok p → BoundedFarkas carcara c args (p .trace)
+  laGenericPartial-form e =
+      let a = step e in
+      ⊎-elim (λ all. completed (a .numbers) (a .arguments) (subst (LaGeneric carcara c) all (a .form)))
+      (λ left.
+      surplusArguments tt (a .taken) (a .surplus) (subst (Arguments args) (left .1) (a .arguments)) (left .0) (a .form))
+      (all-or-surplus (a .assigned))
+
+  pub trace-lowest : laGenericPartial l c args n ≡ ok p → EachLowest (p .trace)
+  trace-lowest e = step e .lowest
+
+  pub laGeneric-form : laGeneric l c args n ≡ ok p → GenericStep c args p
   unfolding laGeneric
-  laGeneric-form e w =
+  laGeneric-form e =
       let t = through (assert (eqb (length args) (length c)) wrongNumberOfArgs) _ p e in
-      laGenericPartial-form (t .then) w
-      (omega (arith, eqb-true (length args) (length c) (asserted-true _ _ _ (t .first))))
+      let a = step (t .then) in
+      let same = eqb-true (length args) (length c) (asserted-true _ _ _ (t .first)) in
+      let r =
+      none-inferred (a .assigned) (arguments-length (a .arguments) ∙ same ∙ sym (lines-length (a .form .lines))) in
+      record {
+        numbers = a .numbers;
+        arguments = a .arguments;
+        form = subst (LaGeneric carcara c) (r .0) (a .form);
+        nothing-inferred = r .1;
+      }

@@ -1,123 +1,138 @@
--- A clause that is a la_generic step in the wording of the Alethe specification has a true literal under
--- every assignment (`laGeneric-valid`): if every literal were false, each line's constraint would hold, so
--- would its multiple, and so would the sum of all, which 0 refutes.
---     related-sum, related-scaled       sums and multiples of what stands in a relation
+-- A clause that is a la_generic step in the wording of the Alethe specification, with argument 0 as Carcara has it
+-- and whichever other departures, has a true literal under every assignment (`laGeneric-valid`): if every literal
+-- were false, the sum of the lines' constraints would hold, which 0 refutes. Demand 3's premise on whole numbers is
+-- what it asks of the coefficients (`whole-lines`), so the steps of rules 5 and 6 that meet the specification are
+-- true (`generic-step-valid`, `bounded-farkas-valid`).
 use mathlib.Core.Path.{_≡_, refl, sym, _∙_, ap, subst}
 use mathlib.Core.Bool.{Bool, true, false}
-use mathlib.Core.List.{List, [], _∷_}
+use mathlib.Core.List.{List, [], _∷_, _++_, append-nil}
 use Prim.Native.Nat.{ℕ}
+use native.Mathlib.Omega.{arith}
 use lib.Dec.{T}
-use lib.IntN.{pos}
-use Rattle.terms.specs.Pair.{Pair, wholeP, addP}
-use Rattle.terms.specs.Rational.{Rational, Lowest}
-use Rattle.terms.specs.Operator.{Equals, GreaterThan, GreaterEq}
+use lib.ListN.{length}
+use Rattle.terms.specs.Rational.{Rational}
 use Rattle.terms.specs.Term.{Term}
-use Rattle.terms.specs.Smtlib.{Assignment, isTrue, value, holds}
-use Rattle.terms.proofs.Ring.{_⊕_, _⊖_, _⊗_, neg, 𝟙, _≐_, _·_, _and_, _from_, derive}
-use Rattle.terms.proofs.Quotient.{ℚ, mk, ℚring, product, mk-add, mk-mul, mk-eq}
-use Rattle.rules.specs.Alethe.{Clause, Valid, Constraint, Relation, Related, sumAt, HoldsAt}
-use Rattle.rules.specs.Alethe.{Strengthens, unchanged, raised}
-use Rattle.rules.specs.Alethe.{factor, scaledRelation, scaled, joins, Line, Lines, end, line}
-use Rattle.rules.specs.Alethe.{sumRelation}
-use Rattle.rules.specs.Alethe.{sumBound, sumTerms, LaGeneric}
-use Rattle.rules.specs.Alethe.Relation.{eq, ge, gt}
-use Rattle.rules.proofs.Constraints.{states-negates}
-use Rattle.rules.proofs.Disequalities.{relationOf, Upward, is-equals, is-greater, is-greaterEq}
-use Rattle.rules.proofs.Signs.{_less_}
-use Rattle.rules.proofs.Says.{says-as, says-add, says-scaled}
-use Rattle.rules.proofs.Arguments.{either-false}
-use Rattle.rules.proofs.ConstraintSums.{says-related, related-says, joined, weakened-scaled}
-use Rattle.rules.proofs.ConstraintSums.{scalar-factor}
-use Rattle.rules.proofs.ConstraintSums.{scaled-sum}
+use Rattle.terms.specs.Smtlib.{Assignment, holds, divsEven}
+use Rattle.terms.proofs.Truths.{both}
+use Rattle.terms.proofs.Quotient.{ℚ}
+use Rattle.terms.proofs.BookTerms.{Closed, closed-and, even-below}
+use Rattle.rules.specs.Limits.{theRust}
+use Rattle.rules.specs.Premises.{allEven, wholeLiteral, wholeLiterals}
+use Rattle.rules.specs.AletheTerms.{Departure, Departures, carcara}
+use Rattle.rules.specs.Alethe as Alethe
+use Rattle.rules.specs.Alethe.{Clause, Valid, Relation, allTerms, sumBound}
+use Rattle.rules.specs.Alethe.{LaGeneric, Arguments, BoundedFarkas, completed, surplusArguments}
+use Rattle.rules.specs.Alethe.{WholeLine, WholeLines, also}
+use Rattle.rules.proofs.NormalForms.{normal-allInt, normal-whole}
+use Rattle.rules.proofs.Disequalities.{operatorOf, states-agree, states-answered}
+use Rattle.rules.proofs.Signs.{nonneg-of-positive}
+use Rattle.rules.proofs.Says.{Says, is-nonneg, is-positive}
+use Rattle.rules.proofs.LiteralSteps.{literal-whole}
+use Rattle.rules.proofs.Arguments.{EachOf, EachLowest, wholeNumbers, whole-numbers, each-even}
+use Rattle.rules.proofs.Arguments.{arguments-lowest}
+use Rattle.rules.proofs.ConstraintLaws.{Fits, same, raised, joins-fit, lines-length}
+use Rattle.rules.proofs.AtZero.{refuted-at-zero}
+use Rattle.rules.proofs.LinesHold.{lines-hold}
 
--- ---- what stands in a relation
+-- ---- the relation of the sum
 
--- every relation is that of an operator
-by-operator : (Q : Relation → Type 0) → ((o : ℕ) → Upward o → Q (relationOf o)) → (r : Relation) → Q r
-by-operator Q f eq = f Equals is-equals
-by-operator Q f ge = f GreaterEq is-greaterEq
-by-operator Q f gt = f GreaterThan is-greater
+says-weaker : {r s : Relation} {x : ℚ} → Fits r s → Says (operatorOf s) x → Says (operatorOf r) x
+says-weaker (same r) h = h
+says-weaker raised (is-positive h) = is-nonneg (nonneg-of-positive _ h)
 
-related-as : (a b x : Pair) → mk a ≡ mk x → (r : Relation) → Related r a b → Related r x b
-related-as a b x e =
-    by-operator (λ r. Related r a b → Related r x b)
-    λ o u h. says-related x b (says-as (ap (λ (y : ℚ). y less mk b) e) (related-says a b u h))
+-- ---- numbers in lowest terms
 
-module _ (a b x y : Pair) where
-  related-sum : (r s : Relation) → Related r a b → Related s x y → Related (joins r s) (addP a x) (addP b y)
-  related-sum =
-      by-operator
-      (λ r. (s : Relation) → Related r a b → Related s x y → Related (joins r s) (addP a x) (addP b y))
-      λ o u.
-      by-operator
-      (λ s.
-      Related (relationOf o) a b → Related s x y → Related (joins (relationOf o) s) (addP a x) (addP b y))
-      λ p v h k.
-      subst (λ (t : Relation). Related t (addP a x) (addP b y)) (joined u v .1)
-      (says-related (addP a x) (addP b y)
-      (says-as
-      (derive ℚring (mk a ∷ mk b ∷ mk x ∷ mk y ∷ mk (addP a x) ∷ mk (addP b y) ∷ [])
-      (λ a b x y s t. (a ⊖ b) ⊕ (x ⊖ y) ≐ s ⊖ t from neg 𝟙 · s ≐ a ⊕ x and 𝟙 · t ≐ b ⊕ y) tt
-      (mk-add a x) (mk-add b y))
-      (says-add (related-says a b u h) (related-says x y v k))))
+append-lowest : (qs rs : List Rational) → EachLowest qs → EachLowest rs → EachLowest (qs ++ rs)
+append-lowest [] rs ls ms = ms
+append-lowest (q ∷ qs) rs (l, ls) ms = (l, append-lowest qs rs ls ms)
 
--- x and y are a and b times the factor
-related-scaled : (a b x y : Pair) (q : Rational) → Lowest q → (r : Relation) →
-    mk x ≡ product (mk a) (mk (factor r q)) → mk y ≡ product (mk b) (mk (factor r q)) → Related r a b →
-    Related (scaledRelation r q) x y
-related-scaled a b x y q lq =
-    by-operator
-    (λ r.
-    mk x ≡ product (mk a) (mk (factor r q)) → mk y ≡ product (mk b) (mk (factor r q)) → Related r a b →
-    Related (scaledRelation r q) x y)
-    λ o u e f h.
-    let k = mk (factor (relationOf o) q) in
-    subst (λ (t : Relation). Related t x y) (weakened-scaled u q .1)
-    (says-related x y
-    (says-as
-    (ap (product (mk a less mk b)) (ap mk (scalar-factor u q))
-    ∙ derive ℚring (mk a ∷ mk b ∷ mk x ∷ mk y ∷ k ∷ [])
-    (λ a b x y k. (a ⊖ b) ⊗ k ≐ x ⊖ y from neg 𝟙 · x ≐ a ⊗ k and 𝟙 · y ≐ b ⊗ k) tt e f)
-    (says-scaled q lq (related-says a b u h))))
-
--- ---- the lines
-
-module _ (ρ : Assignment) where
-  strengthened-holds : {k k′ : Constraint} → Strengthens k k′ → HoldsAt ρ k → HoldsAt ρ k′
-  strengthened-holds (unchanged k) h = h
-  strengthened-holds (raised k k′ i e f) h = f ρ h
-
-  scaled-holds : (k : Constraint) (q : Rational) → Lowest q → HoldsAt ρ k → HoldsAt ρ (scaled k q)
-  scaled-holds k q lq =
-      let f = factor (k .relation) q in
-      related-scaled (sumAt ρ (k .terms)) (k .bound) _ _ q lq (k .relation) (scaled-sum ρ f (k .terms))
-      (mk-mul f (k .bound) ∙ ℚring .mul-comm (mk f) (mk (k .bound)))
-
-  line-holds : {phi : Term} {q : Rational} {k : Constraint} → Line phi q k →
-      isTrue (value ρ phi) ≡ false → HoldsAt ρ k
-  line-holds {q = q} m h =
-      subst (HoldsAt ρ) (sym (m .scales))
-      (scaled-holds (m .strong) q (m .number)
-      (strengthened-holds (m .strengthens) (states-negates (m .states) ρ .0 h)))
-
-  lines-hold : {c : Clause} {qs : List Rational} {ks : List Constraint} → Lines c qs ks →
-      holds ρ c ≡ false → Related (sumRelation ks) (sumTerms ρ ks) (sumBound ks)
-  unfolding holds sumRelation sumTerms sumBound
-  lines-hold end h = refl
-  lines-hold (line {phi} {k = k} {c = c} {ks = ks} m rest) h =
-      let b = either-false (isTrue (value ρ phi)) (holds ρ c) h in
-      related-sum (sumAt ρ (k .terms)) (k .bound) (sumTerms ρ ks) (sumBound ks) (k .relation) (sumRelation ks)
-      (line-holds m (b .0)) (lines-hold rest (b .1))
+lowest-before : (qs rs : List Rational) → EachLowest (qs ++ rs) → EachLowest qs
+lowest-before [] rs ls = tt
+lowest-before (q ∷ qs) rs (l, ls) = (l, lowest-before qs rs ls)
 
 -- ---- the theorem
 
-pub laGeneric-valid : (c : Clause) (qs : List Rational) → LaGeneric c qs → Valid c
-laGeneric-valid c qs g ρ = go (holds ρ c) refl
-  where
-    go : (b : Bool) → holds ρ c ≡ b → T b
-    go true h = tt
-    go false h =
+module _ {P : Term → Type 0} (closed : Closed P) where
+  module _ (even : (t : Term) → P t → divsEven t ≡ true) (by : Departures) (granted : by Departure.argumentZero) where
+    not-all-false : (c : Clause) → EachOf P c → (qs : List Rational) → EachLowest qs → WholeLines by c qs →
+        LaGeneric by c qs → (ρ : Assignment) → holds ρ c ≡ false → ⊥
+    not-all-false c ps qs ls ws g ρ e =
         let ks = g .constraints in
-        g .contradicts
-        (related-as (sumTerms ρ ks) (sumBound ks) (wholeP (pos 0)) (mk-eq _ _ (g .cancels ρ)) (sumRelation ks)
-        (lines-hold ρ (g .lines) h))
+        let h = lines-hold closed even ρ by granted ps ls ws (g .lines) e in
+        refuted-at-zero closed (allTerms ks) (h .entries) (g .cancels) (g .relation) (sumBound ks) (h .lowest)
+        (g .contradiction) ρ (says-weaker (joins-fit (g .joins)) (h .says))
+
+module _ {P : Term → Type 0} (closed : Closed P) where
+  pub laGeneric-valid : (by : Departures) → by Departure.argumentZero → (c : Clause) → EachOf P c → allEven c ≡ true →
+      (qs : List Rational) → EachLowest qs → WholeLines by c qs → LaGeneric by c qs → Valid c
+  laGeneric-valid by granted c ps even qs ls ws g ρ = go (holds ρ c) refl
+    where
+      go : (b : Bool) → holds ρ c ≡ b → T b
+      go true e = tt
+      go false e =
+          not-all-false (closed-and closed even-below) (λ t k. k .1) by granted c (each-even P c ps even) qs ls ws g ρ e
+
+  -- ---- the premise on whole numbers
+
+  whole-line : (by : Departures) (phi : Term) → P phi → (a : Rational) → wholeLiteral phi a ≡ true → WholeLine by phi a
+  whole-line by phi p a w k h i =
+      let (d, answered) = states-answered closed phi p by k h 0 in
+      let agrees = states-agree closed phi p by k h theRust 0 d answered in
+      let m = d .sum .entries in
+      let whole =
+      literal-whole theRust phi 0 d answered a w
+      (normal-allInt closed (k .terms) (agrees .entries) m (agrees .normal) ∙ i) in
+      (normal-whole closed (k .terms) (agrees .entries) m (agrees .normal) (whole .0), λ b. whole .1)
+
+  -- the literals take the first of the numbers given and inferred
+  whole-taken : (by : Departures) (c : Clause) → EachOf P c → (taken rest qs inferred : List Rational) →
+      taken ++ rest ≡ qs ++ inferred → length taken ≡ length c → wholeNumbers c qs inferred ≡ true →
+      WholeLines by c taken
+  unfolding wholeNumbers
+  whole-taken by [] ps [] rest qs inferred e n w = Alethe.end
+  whole-taken by [] ps (a ∷ taken) rest qs inferred e n w = absurd (omega arith)
+  whole-taken by (phi ∷ c) ps [] rest qs inferred e n w = absurd (omega arith)
+  whole-taken by (phi ∷ c) (p, ps) (a ∷ taken) rest (q ∷ qs) inferred e n w =
+      let b = both (wholeLiteral phi q) _ w in
+      let same : q ≡ a = cc in
+      also (subst (WholeLine by phi) same (whole-line by phi p q (b .0)))
+      (whole-taken by c ps taken rest qs inferred (cc) (omega arith) (b .1))
+  whole-taken by (phi ∷ c) (p, ps) (a ∷ taken) rest [] (q ∷ inferred) e n w =
+      let b = both (wholeLiteral phi q) _ w in
+      let same : q ≡ a = cc in
+      also (subst (WholeLine by phi) same (whole-line by phi p q (b .0)))
+      (whole-taken by c ps taken rest [] inferred (cc) (omega arith) (b .1))
+  whole-taken by (phi ∷ c) ps (a ∷ taken) rest [] [] e n w = let z : _≡_ {A = ℕ} 0 1 = cc in absurd (omega arith)
+
+  pub whole-lines : (by : Departures) (c : Clause) → EachOf P c → (args : List Term) (qs : List Rational) →
+      Arguments args qs → (inferred : List Rational) → wholeLiterals c args inferred ≡ true →
+      (taken rest : List Rational) →
+      taken ++ rest ≡ qs ++ inferred → length taken ≡ length c → WholeLines by c taken
+  whole-lines by c ps args qs h inferred w taken rest e n =
+      whole-taken by c ps taken rest qs inferred e n
+      (sym (whole-numbers c inferred h) ∙ w)
+
+  -- ---- the steps of rules 5 and 6
+
+  module _ (c : Clause) (ps : EachOf P c) (even : allEven c ≡ true) (args : List Term) (as-of-P : EachOf P args) where
+    pub bounded-farkas-valid : (inferred : List Rational) → EachLowest inferred → wholeLiterals c args inferred ≡ true →
+        BoundedFarkas carcara c args inferred → Valid c
+    bounded-farkas-valid inferred ls w (completed qs h g) =
+        laGeneric-valid carcara tt c ps even (qs ++ inferred)
+        (append-lowest qs inferred (arguments-lowest closed args as-of-P qs h) ls)
+        (whole-lines carcara c ps args qs h inferred w (qs ++ inferred) [] (append-nil (qs ++ inferred))
+        (lines-length (g .lines)))
+        g
+    bounded-farkas-valid inferred ls w (surplusArguments b qs surplus h e g) =
+        let all = qs ++ surplus in
+        laGeneric-valid carcara tt c ps even qs (lowest-before qs surplus (arguments-lowest closed args as-of-P all h))
+        (whole-lines carcara c ps args all h inferred w qs surplus (sym (append-nil all) ∙ ap (_++_ all) (sym e))
+        (lines-length (g .lines)))
+        g
+
+    -- there are as many arguments as literals, so none is inferred
+    pub generic-step-valid : (inferred : List Rational) → wholeLiterals c args inferred ≡ true → (qs : List Rational) →
+        Arguments args qs → LaGeneric carcara c qs → Valid c
+    generic-step-valid inferred w qs h g =
+        laGeneric-valid carcara tt c ps even qs (arguments-lowest closed args as-of-P qs h)
+        (whole-lines carcara c ps args qs h inferred w qs inferred refl (lines-length (g .lines))) g

@@ -2,11 +2,12 @@
 -- (`_≼_`). Limits are tested by `bounded` and by `assert`; all else is made of these by `>>=` and by cases,
 -- which keep the relation, so each proof has the shape of its definition. Here: the relation, numbers,
 -- readers, and maps with their walks.
-use mathlib.Core.Path.{_≡_, refl}
+use mathlib.Core.Path.{_≡_, refl, subst}
 use mathlib.Core.Bool.{Bool, true, false, cond, _&&_}
 use mathlib.Core.Option.{Option, some, none}
 use mathlib.Core.List.{[], _∷_}
 use Prim.Native.Nat.{ℕ, suc}
+use native.Mathlib.Omega.{arith}
 use lib.IntN.{natAbs}
 use Rattle.terms.specs.Rational.{Rational, isZero}
 use Rattle.terms.specs.Term.{Term, unary}
@@ -35,6 +36,11 @@ infix 4 _≼_
 pub data _≼_ {A : Type 0} : Result A → Result A → Type 0 where
   equal : (r : Result A) → r ≼ r
   stopped : {r : Refusal} {u : Result A} → IsLimit r → refused r ≼ u
+
+-- what answers without limits is refused for a limit alone
+pub limit-alone : {A : Type 0} {x y : Result A} {a : A} {r : Refusal} → x ≼ y → y ≡ ok a → x ≡ refused r → IsLimit r
+limit-alone {r = r} (stopped {r = s} h) e f = let same : s ≡ r = cc in subst IsLimit same h
+limit-alone (equal x) e f = let z : _≡_ {A = ℕ} 0 1 = cc in absurd (omega arith)
 
 pub bind : {A B : Type 0} {m m′ : Result A} {f f′ : A → Result B} → m ≼ m′ → ((a : A) → f a ≼ f′ a) →
     (m >>= f) ≼ (m′ >>= f′)

@@ -1,6 +1,6 @@
--- One literal of rules 5 and 6: what an accepted one goes through (`steps`), that strengthening is right under
--- demand 3's premise on whole numbers (`stronger-holds`), and that the argument is the one given, or one more
--- number of the trace (`steps-argued`), in lowest terms (`argument-lowest`).
+-- One literal of rules 5 and 6: what an accepted one goes through (`steps`), what demand 3's premise on whole numbers
+-- says of its sum (`literal-whole`), and that the argument is the one given, or one more number of the trace
+-- (`steps-argued`), in lowest terms (`argument-lowest`).
 use mathlib.Core.Path.{_≡_, refl, sym, ap, subst}
 use mathlib.Core.Bool.{Bool, true, false, not, _&&_, _||_}
 use mathlib.Core.Option.{Option, some, none}
@@ -9,11 +9,9 @@ use Prim.Native.Nat.{ℕ}
 use native.Mathlib.Omega.{arith}
 use Rattle.terms.specs.Rational.{Rational, Lowest, negQ, isInteger, isZero}
 use Rattle.terms.specs.Term.{Term}
-use Rattle.terms.specs.Smtlib.{Assignment, divsEven}
 use Rattle.terms.proofs.Truths.{both, never}
 use Rattle.terms.proofs.Rationals.{neg-lowest, div-lowest}
-use Rattle.terms.proofs.BookTerms.{Closed}
-use Rattle.rules.specs.Refusal.{Refusal, Result, _>>=_, assert, orElse}
+use Rattle.rules.specs.Refusal.{Refusal, Result, orElse}
 use Rattle.rules.specs.Refusal.Result.{ok, refused}
 use Rattle.rules.specs.Limits.{Limits}
 use Rattle.rules.specs.IndexMap.{Map, get, add}
@@ -22,11 +20,9 @@ use Rattle.rules.specs.LinearArithmetic.{Disequality, disequalityOf, str
 use Rattle.rules.specs.LinearArithmetic.{progress, inferred, argumentOf, joinOperators, scalar, weakened}
 use Rattle.rules.specs.LinearArithmetic.{processDisequality}
 use Rattle.rules.specs.Premises.{wholeCoefficients, wholeLiteral}
-use Rattle.rules.proofs.Yields.{Yields, gives, refuses, at-ok, and-then, weaker, by-test, over-yields}
+use Rattle.rules.proofs.Yields.{Yields, guarded, gives, refuses, at-ok, and-then, weaker, over-yields}
 use Rattle.rules.proofs.Yields.{by-answer, through}
 use Rattle.rules.proofs.IndexMaps.{EntriesOf}
-use Rattle.rules.proofs.Gaps.{Holding, HoldingPair}
-use Rattle.rules.proofs.Strengthening.{int-atoms, strengthen-holds}
 use Rattle.rules.proofs.VisitsFree.{Follows, answers, stops, SameTerms, disequalityOf-free}
 
 -- ---- the premise, on the sum that the step has in hand
@@ -59,12 +55,6 @@ module _ (l : Limits) where
   literal-whole phi n d e a w = premise-of a (disequalityOf-free l phi n 0) d e w
 
 -- ---- the argument
-
-asserted : {A : Type 0} {P : A → Type 0} (t : Bool) (r : Refusal) {f : Unit {0} → Result A} →
-    ((u : Unit {0}) → t ≡ true → Yields P (f u)) → Yields P (assert t r >>= f)
-unfolding _>>=_ assert
-asserted true r h = h tt refl
-asserted false r h = refuses
 
 not-true : (t : Bool) → not t ≡ true → t ≡ false
 not-true true e = sym e
@@ -99,7 +89,7 @@ module _ (l : Limits) where
     unfolding inferred
     inferred-lowest acc [] g h = refuses
     inferred-lowest acc ((t, c) ∷ []) g (h, hs) =
-        asserted (not (isZero c)) _ λ u z.
+        guarded (not (isZero c)) _ λ z u.
         and-then (get-lowest _ acc g t) λ k lk.
         weaker (λ q e. rw e (div-lowest (negQ k) c (neg-lowest k lk) (h .good) (not-true (isZero c) z)))
         (over-yields l (negQ k) c)
@@ -134,10 +124,12 @@ module _ (l : Limits) where
     pub of-scaled : mul l (stronger .1) (scalar (stronger .0) (argument .0)) ≡ ok scaled
     pub of-acc : add terms l (p .acc) scaled ≡ ok acc
     pub is :
-        progress (joinOperators (p .operator) (weakened (stronger .0) (argument .0))) acc (argument .1) (literal .visits)
+        progress (joinOperators (p .operator) (weakened (stronger .0) (argument .0))) acc (argument .1)
+        (literal .visits)
         ≡ q
 
-  module _ (p : Progress) (phi : Term) (arg : Option Rational) (q : Progress) (e : processDisequality l p phi arg ≡ ok q) where
+  module _ (p : Progress) (phi : Term) (arg : Option Rational) (q : Progress)
+      (e : processDisequality l p phi arg ≡ ok q) where
     pub steps : Steps p phi arg q
     unfolding processDisequality
     steps =
@@ -168,13 +160,3 @@ module _ (l : Limits) where
 
     pub argued : (a : Rational) × Argued arg (p .trace) a (q .trace)
     argued = (steps .argument .0, steps-argued)
-
-    module _ {P : Term → Type 0} (closed : Closed P) (even : (t : Term) → P t → divsEven t ≡ true) (ρ : Assignment) where
-      pub stronger-holds : (o : ℕ) (s : LinearComb) (a : Rational) → WholeOf s a →
-          Holding closed ρ o s → Yields (HoldingPair closed ρ) (strengthened l o s a)
-      stronger-holds o s a w h =
-          by-test (allInt (s .entries)) _ _
-          (λ i.
-          strengthen-holds closed ρ l s (h .good) (int-atoms closed ρ even (s .entries) (h .good .entries) i)
-          (w i .0) a (w i .1) (h .says))
-          (λ i. gives h)

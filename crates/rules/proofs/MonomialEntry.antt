@@ -23,7 +23,7 @@ use Rattle.rules.specs.PolynomialArea.{places, monomialBytes, keysOf, pl
 use Rattle.rules.specs.PolynomialArea.{Key, Entry, Good, Held, Enters}
 use Rattle.rules.specs.declared.monomials.Entered.{Entered}
 use Rattle.rules.specs.declared.monomials.Entered.the-variants.{Length, Refused}
-use Rattle.rules.proofs.Refusals.{refuses}
+use Rattle.rules.proofs.Results.{refuses}
 use Rattle.rules.proofs.CheckedNumbers.{plus-value, plus-out}
 use Rattle.rules.proofs.MapEnds.{length-middle, length-swapRemove}
 use Rattle.rules.proofs.KeyedMaps.{Lacks, nothing, another, Look, found, missing, look, sameKey, entered}

@@ -1,22 +1,23 @@
--- What the divisor of `coefficients_gcd` divides: the constant that it starts with and every coefficient
--- (`gcdFrom-divides`), where the coefficients are whole. So the sum of whole numbers of atoms is whole and a
--- multiple of it (`sum-multiple`).
+-- What the loop of `coefficients_gcd` finds (`Found`, `gcdFrom-found`): the greatest common divisor of the constant
+-- that it starts with and every coefficient, where the coefficients are whole. Where every coefficient is a multiple of
+-- a number, the sum of whole numbers of atoms is whole and a multiple of it (`sum-multiple`).
 use mathlib.Core.Path.{_≡_, refl, sym, _∙_, ap, ap₂}
 use mathlib.Core.Bool.{Bool, true, false}
 use mathlib.Core.List.{[], _∷_}
 use Prim.Native.Nat.{ℕ, _∣_}
-use lib.Dec.{leb}
+use native.Mathlib.Nat.{dvd-mul-left}
+use native.Mathlib.Omega.{arith}
 use lib.IntN.{ℤ, pos, negsuc, natAbs, _+ℤ_, _*ℤ_}
 use lib.Signed.{quotZ}
 use Rattle.terms.specs.Pair.{eqZ}
-use Rattle.terms.specs.Rational.{gcd, isInteger}
+use Rattle.terms.specs.Rational.{Rational, gcd, isInteger}
 use Rattle.terms.specs.Term.{Term, if_then_else_}
 use Rattle.terms.specs.Smtlib.{Assignment, value}
-use Rattle.terms.proofs.Integers.{_⊕_, _⊗_, 𝟘, 𝟙, _≐_, _·_, _and_, _from_, solveℤ, deriveℤ}
+use Rattle.terms.proofs.Integers.{_⊕_, _⊗_, 𝟘, 𝟙, _≐_, _·_, _and_, _from_, solveℤ, deriveℤ, natAbs-*ℤ}
 use Rattle.terms.proofs.Truths.{both}
-use Rattle.terms.proofs.Divisors.{gcd-dvd-left, gcd-dvd-right}
+use Rattle.terms.proofs.Divisors.{gcd-dvd-left, gcd-dvd-right, gcd-greatest}
 use Rattle.terms.proofs.LowestTerms.{quotZ-mul-cancel}
-use Rattle.terms.proofs.Rationals.{isInteger-whole}
+use Rattle.terms.proofs.Rationals.{isInteger-whole, eqZ-eq}
 use Rattle.terms.proofs.Quotient.{ℚring, sum, product, ι}
 use Rattle.terms.proofs.Sums.{meant}
 use Rattle.terms.proofs.BookTerms.{Closed}
@@ -42,7 +43,14 @@ of-itself g = record { factor = pos 1; is = solveℤ (pos g ∷ []) (λ g. g ≐
 of-divisor : (g : ℕ) (z : ℤ) → g ∣ natAbs z → Multiple g z
 of-divisor g z h = record { factor = quotZ z (pos g); is = sym (quotZ-mul-cancel z g h) }
 
-of-multiple : (g h : ℕ) (z : ℤ) → Multiple g (pos h) → Multiple h z → Multiple g z
+divisor-of : (g : ℕ) (z : ℤ) → Multiple g z → g ∣ natAbs z
+divisor-of g z m =
+    rw (ap natAbs (m .is) ∙ natAbs-*ℤ (m .factor) (pos g)) (dvd-mul-left g (natAbs (m .factor)))
+
+pub zero-multiple : (g : ℕ) → Multiple g (pos 0)
+zero-multiple g = record { factor = pos 0; is = solveℤ (pos g ∷ []) (λ g. 𝟘 ≐ 𝟘 ⊗ g) tt }
+
+pub of-multiple : (g h : ℕ) (z : ℤ) → Multiple g (pos h) → Multiple h z → Multiple g z
 of-multiple g h z p q =
     record {
       factor = q .factor *ℤ p .factor;
@@ -71,55 +79,62 @@ pub each-of-one : (m : Map Term) → EachMultiple 1 m
 each-of-one [] = tt
 each-of-one (e ∷ m) = (of-one (e .1 .num), each-of-one m)
 
--- z is a positive number that divides r and every coefficient
-pub record Divides (z r : ℤ) (m : Map Term) : Type 0 where
-  pub divisor : ℕ
-  pub is : z ≡ pos divisor
-  pub constant : Multiple divisor r
-  pub each : EachMultiple divisor m
+-- what the loop finds: 1 where a coefficient is not whole, 1 for a negative number alone, or the greatest common
+-- divisor, which every common divisor divides; it is 0 where all is 0
+pub data Found (r : ℤ) (m : Map Term) : ℤ → Type 0 where
+  fraction : wholeCoefficients m ≡ false → Found r m (pos 1)
+  negative : (n : ℕ) → r ≡ negsuc n → m ≡ [] → Found r m (pos 1)
+  greatest :
+      (g : ℕ) → wholeCoefficients m ≡ true → Multiple g r → EachMultiple g m →
+      ((h : ℕ) → Multiple h r → EachMultiple h m → h ∣ g) → Found r m (atLeastOne (pos g))
 
-one-divides : (r : ℤ) (m : Map Term) → Divides (pos 1) r m
-one-divides r m = record { divisor = 1; is = refl; constant = of-one r; each = each-of-one m }
+module _ (r : ℤ) (e : Term × Rational) (m : Map Term) where
+  stopped : r ≡ pos 1 → Found r (e ∷ m) (pos 1)
+  unfolding if_then_else_
+  stopped one = go (wholeCoefficients (e ∷ m)) refl
+    where
+      go : (t : Bool) → wholeCoefficients (e ∷ m) ≡ t → Found r (e ∷ m) (pos 1)
+      go true w =
+          greatest 1 w (of-one r) (each-of-one (e ∷ m)) (λ h p q. divisor-of h (pos 1) (rw one at p))
+      go false w = fraction w
 
-at-least-one-divides : (r : ℤ) → Divides (atLeastOne r) r []
-unfolding if_then_else_
-at-least-one-divides (pos n) = go (leb 1 n)
+  abbrev next : ℕ
+  next = gcd (natAbs r) (natAbs (e .1 .num))
+
+  gone-on : isInteger (e .1) ≡ true → {z : ℤ} → Found (pos next) m z → Found r (e ∷ m) z
+  unfolding wholeCoefficients
+  gone-on i (fraction w) = fraction (rw i w)
+  gone-on i (negative n h k) = let z : _≡_ {A = ℕ} 0 1 = cc in absurd (omega arith)
+  gone-on i (greatest g w p q top) =
+      greatest g (rw i w)
+      (of-multiple g next r p (of-divisor next r (gcd-dvd-left (natAbs r) (natAbs (e .1 .num))))) (
+        of-multiple g next (e .1 .num) p
+            (of-divisor next (e .1 .num) (gcd-dvd-right (natAbs r) (natAbs (e .1 .num)))),
+        q,
+      )
+      (λ h a b.
+      top h
+      (of-divisor h (pos next)
+      (gcd-greatest (natAbs r) (natAbs (e .1 .num)) h (divisor-of h r a) (divisor-of h (e .1 .num) (b .0))))
+      (b .1))
+
+pub gcdFrom-found : (r : ℤ) (m : Map Term) → Found r m (gcdFrom r m)
+unfolding gcdFrom wholeCoefficients
+gcdFrom-found (pos n) [] = greatest n refl (of-itself n) tt (λ h p q. divisor-of h (pos n) p)
+gcdFrom-found (negsuc n) [] = negative n refl refl
+gcdFrom-found r (e ∷ m) =
+    go (eqZ r (pos 1)) refl (isInteger (e .1)) refl (gcdFrom-found (pos (next r e m)) m)
   where
-    go : (b : Bool) → Divides (if b then pos n else pos 1) (pos n) []
-    go true = record { divisor = n; is = refl; constant = of-itself n; each = tt }
-    go false = one-divides (pos n) []
-at-least-one-divides (negsuc n) = one-divides (negsuc n) []
-
-pub gcdFrom-divides : (r : ℤ) (m : Map Term) → Divides (gcdFrom r m) r m
-unfolding gcdFrom
-gcdFrom-divides r [] = at-least-one-divides r
-gcdFrom-divides r (e ∷ m) =
-    go (eqZ r (pos 1)) (isInteger (e .1)) (gcdFrom-divides (pos (gcd (natAbs r) (natAbs (e .1 .num)))) m)
-  where
-    g : ℕ
-    g = gcd (natAbs r) (natAbs (e .1 .num))
-
-    go : (s t : Bool) → Divides (gcdFrom (pos g) m) (pos g) m →
-        Divides
+    go : (s : Bool) → eqZ r (pos 1) ≡ s → (t : Bool) → isInteger (e .1) ≡ t →
+        Found (pos (next r e m)) m (gcdFrom (pos (next r e m)) m) →
+        Found r (e ∷ m)
         (elim s as (λ x. ℤ) [
           | true ↦ pos 1
-          | false ↦ elim t as (λ x. ℤ) [ true ↦ gcdFrom (pos g) m | false ↦ pos 1 ]
-        ]) r (e ∷ m)
-    go true t d = one-divides r (e ∷ m)
-    go false false d = one-divides r (e ∷ m)
-    go false true d =
-        record {
-          divisor = d .divisor;
-          is = d .is;
-          constant =
-              of-multiple (d .divisor) g r (d .constant)
-              (of-divisor g r (gcd-dvd-left (natAbs r) (natAbs (e .1 .num))));
-          each = (
-            of-multiple (d .divisor) g (e .1 .num) (d .constant)
-                (of-divisor g (e .1 .num) (gcd-dvd-right (natAbs r) (natAbs (e .1 .num)))),
-            d .each,
-          );
-        }
+          | false ↦ elim t as (λ x. ℤ) [ true ↦ gcdFrom (pos (next r e m)) m | false ↦ pos 1 ]
+        ])
+    go true one t i d = stopped r e m (eqZ-eq r (pos 1) one)
+    go false one false i d = fraction (rw i)
+    go false one true i d = gone-on r e m i d
 
 -- ---- the sum
 
@@ -141,7 +156,7 @@ module _ {P : Term → Type 0} (closed : Closed P) (ρ : Assignment) where
       record {
         whole = pos 0;
         is = refl;
-        multiple = record { factor = pos 0; is = solveℤ (pos g ∷ []) (λ g. 𝟘 ≐ 𝟘 ⊗ g) tt };
+        multiple = zero-multiple g;
       }
   sum-multiple g (e ∷ m) ((z, h), v) w (d, ds) =
       let b = both (isInteger (e .1)) (wholeCoefficients m) w in

@@ -18,7 +18,7 @@ use Rattle.terms.specs.Term.Term.{integer, rational, bitvector, atom, op}
 use Rattle.terms.specs.Term.Terms.{nil, _▹_}
 use Rattle.terms.specs.Book.{tree, numbers, arguments, forest}
 use Rattle.terms.specs.Readers.{Finds, Children, foundTwo, ranged, asNumber, asFraction, asOp, operatorOf}
-use Rattle.terms.specs.Readers.{argumentsOf}
+use Rattle.terms.specs.Readers.{argumentsOf, readingRefusal}
 use Rattle.terms.specs.declared.number.Checked.{Checked}
 use Rattle.terms.specs.declared.number.Checked.the-variants as checked
 use Rattle.terms.specs.declared.term.Reading.{Reading}
@@ -220,5 +220,6 @@ pub plain-node :
     (t : Term) (coeff : Rational) {x : Reading} {r : Node} → operatorOf t ≡ 0 → Finds x (asNumber t) →
     NodeIs r (readNode coeff x) → NodeIs r (nodeOf t coeff)
 plain-node t coeff e f n =
+    let same = f .is ∙ sym (plain-fraction ranged t e) in
     leaf-node t coeff (λ h. omega arith) (λ h. omega arith) (λ h. omega arith)
-    (read-leaf t coeff (record { is = f .is ∙ sym (plain-fraction ranged t e); proper = f .proper }) n)
+    (read-leaf t coeff (record { is = same; number = ap readingRefusal same; proper = f .proper }) n)

@@ -12,7 +12,7 @@ use lib.Seq.{length-take-le, take-all}
 use Rattle.terms.specs.Rational.{Rational, Proper, whole, isZero}
 use Rattle.terms.specs.Bytes.{Bytes}
 use Rattle.terms.specs.Book.{count, tree}
-use Rattle.rules.specs.Refusal.{Result, _>>=_, assert}
+use Rattle.rules.specs.Refusal.{_>>=_, assert}
 use Rattle.rules.specs.Refusal.Result.{ok}
 use Rattle.rules.specs.Refusal.Refusal.{polynomialsNotEqual}
 use Rattle.rules.specs.Limits.{limited}
@@ -33,12 +33,10 @@ use Rattle.rules.specs.declared.polynomial.Filled.the-variants as filled
 use Rattle.rules.proofs.CheckedNumbers.{whole-proper}
 use Rattle.rules.proofs.TowerAreas.{tower-none, tower-more, tower-less, tower-room}
 use Rattle.rules.proofs.TowerAreas.{tower-foot, tower-above, tower-cons}
-use Rattle.rules.proofs.TurnedEntries.{refuses-then, Clears, Subtracts}
+use Rattle.rules.proofs.TurnedEntries.{Clears, Subtracts}
+use Rattle.rules.proofs.Results.{refused-then, refused-verdict}
 
 -- a refusal as a verdict
-pub refused-verdict : {c : ℕ} {d : Result ℕ} → Refuses c d → verdict.Refused c ≡ verdictOf d
-refused-verdict why = rw (why .is, why .code)
-
 -- ---- two polynomials in a tower
 
 module _ {b w : Bytes} {u v : Map Monomial} (t : Towers b w (u ∷ v ∷ [])) where
@@ -121,7 +119,7 @@ module _
     differ-refused e b u v t has has′ l =
         let d = rw e at (difference t has has′ subtracted l) in
         record {
-          is = refused-verdict (refuses-then _ (d .is .0));
+          is = refused-verdict (refused-then _ (d .is .0));
           empty = tower-less [] (subst (λ m. Towers b w₃ (m ∷ [])) (d .is .1) (d .held));
         }
 
@@ -235,7 +233,7 @@ module _ (n : ℕ) {w₀ : Bytes} (zeros : w₀ ≡ replicate n 0) (b : Bytes) (
     unfolding equalSides
     first-refused e same =
         let f = rw e at first in (
-          refused-verdict (refuses-then _ (f .is .0)),
+          refused-verdict (refused-then _ (f .is .0)),
           zeros-again n zeros (tower-less [] (subst (λ m. Towers b w₁ (m ∷ [])) (f .is .1) (f .held))) same,
         )
 
@@ -275,7 +273,7 @@ module _ (n : ℕ) {w₀ : Bytes} (zeros : w₀ ≡ replicate n 0) (b : Bytes) (
             subst (λ z. Towers b (aboveBack w₁ y) (m ∷ z ∷ [])) (f .is .1) (both-areas (f .held)) in
             let empty : Towers b w₂ ([] ∷ []) =
             cleared b (m ∷ []) (tower-less (m ∷ []) areas) (omega arith) (walked-first .is .1 .size) in (
-              refused-verdict (subst (Refuses c) (sym after-first) (refuses-then _ (f .is .0))),
+              refused-verdict (subst (Refuses c) (sym after-first) (refused-then _ (f .is .0))),
               zeros-again n zeros (tower-less [] empty) same,
             )
 

@@ -30,7 +30,7 @@ use Rattle.rules.specs.declared.polynomial.Filled.{Filled}
 use Rattle.rules.specs.declared.polynomial.Filled.the-variants.{Done, Refused}
 use Rattle.rules.proofs.CheckedNumbers.{plus-value, plus-out, times-value, times-out}
 use Rattle.rules.proofs.TowerAreas.{tower-less}
-use Rattle.rules.proofs.Refusals.{refuses, refuses-then}
+use Rattle.rules.proofs.Results.{refuses, refused-then}
 use Rattle.rules.proofs.ProductEntries.{ClearSays, AllScaledSays}
 
 -- ---- the answers
@@ -95,7 +95,7 @@ module _ {s : Poly} {m : Map Monomial} (has : PolyHas s m) (l v : ℕ) where
     unfolding addEntry
     atom-out e =
         let is = entered-none enters e in
-        record { map = enters .map; held = enters .held; is = (refuses-then _ (is .0), is .1) }
+        record { map = enters .map; held = enters .held; is = (refused-then _ (is .0), is .1) }
 
     pub atom-added :
         {n : ℕ} → r ≡ entered.Length n →
@@ -147,7 +147,7 @@ module _
   unfolding addScaled
   scaled-out e =
       let is = entered-none enters e in
-      record { map = enters .map; held = lowest; is = (refuses-then _ (is .0), is .1) }
+      record { map = enters .map; held = lowest; is = (refused-then _ (is .0), is .1) }
 
   -- a is what the code finds for the product of the constant
   module _ {k : ℕ} (e : r ≡ entered.Length k) {a : Checked} (gives : Gives a (checked (mulQ coeff (p .constant)))) where

@@ -34,7 +34,7 @@ use Rattle.rules.proofs.TowerAreas.{tower-less, tower-above, tower-on}
 use Rattle.rules.proofs.NodeWalks.{args-below}
 use Rattle.rules.proofs.ProductEntries.{ClearSays}
 use Rattle.rules.proofs.PolynomialSums.{refuses-same, refuses-empty}
-use Rattle.rules.proofs.Refusals.{stops}
+use Rattle.rules.proofs.Results.{ends}
 use Rattle.rules.proofs.PolynomialSteps.{act, walk-node, quotient-below}
 
 -- ---- the bytes above the foot
@@ -235,7 +235,7 @@ module _ {b w : Bytes} {id : ℕ} {coeff : Rational} {s : Poly} {d : ℕ} (pre :
               let was = rw e at (fills .is) in
               let up : Towers b y ([] ∷ []) = rw (← was .1) (fills .held) in
               let down = clear b (m ∷ [] ∷ []) (back-held t long up) (omega arith) (has .size) in
-              refuses-same (tower-less ([] ∷ []) down) (was .0) _ (entered (polyWith s m) ∙ stops _ _ (was .0 .is))
+              refuses-same (tower-less ([] ∷ []) down) (was .0) _ (entered (polyWith s m) ∙ ends _ (was .0 .is))
 
           pub factors-made :
               {p : Poly} {v′ : ℕ} → answer ≡ Done p v′ → {w′ : Bytes} {answer′ : Filled} →

@@ -1,213 +1,244 @@
--- What `poly_simp` accepts is an equation of two terms of one value (`poly-simp-same`): the difference of
--- their polynomials has no entries and the constant 0, so the polynomials have one value, and they have
--- those of the terms. Of bit-vectors that says that the values are congruent modulo 2 ^ w, and both are
--- below it.
+-- What `poly_simp` accepts is an equation of one polynomial (`poly-simp-form`): the difference of the reduced
+-- polynomials has no entries and the constant 0, so they have equal coefficients, and those of the Rust's
+-- polynomials are those of the terms' products. Such an equation is true (`poly-simp-valid`): what the products
+-- amount to is the value of a term, over the rational numbers or modulo 2 ^ width.
 use mathlib.Core.Path.{_≡_, refl, sym, _∙_, ap, subst}
-use mathlib.Core.Bool.{Bool, true, false, _||_}
-use mathlib.Core.Logic.{_⊎_, inl, inr, ⊎-elim}
-use mathlib.Core.List.{[], _∷_}
+use mathlib.Core.Bool.{true, false}
+use mathlib.Core.List.{List, [], _∷_}
 use mathlib.Core.Option.{Option, some, none}
-use Prim.Native.Nat.{ℕ, _^_, _≤_, _+_}
+use Prim.Native.Nat.{ℕ, _^_}
 use native.Mathlib.Omega.{arith}
-use borrow.Author.Tests.{eqb-true}
-use lib.IntN.{pos}
+use lib.IntN.{pos, natAbs}
 use Rattle.terms.specs.Pair.{_≈_}
-use Rattle.terms.specs.Rational.{Rational}
+use Rattle.terms.specs.Rational.{Rational, Lowest, modulo}
 use Rattle.terms.specs.Operator.{Equals}
-use Rattle.terms.specs.Term.{Sort, Term, if_then_else_, sort, sorts, sameSort, sortCode, isNumeric, isBits, all}
-use Rattle.terms.specs.Term.{takes, binary, recordNumber}
+use Rattle.terms.specs.Term.{Sort, Term, sort, sorts, isNumeric, isBits}
+use Rattle.terms.specs.Term.{binary, recordNumber}
 use Rattle.terms.specs.Term.Sort.{bool, int, real, bits}
-use Rattle.terms.specs.Term.Term.{op}
 use Rattle.terms.specs.Term.Terms.{nil, _▹_}
 use Rattle.terms.specs.Smtlib.{Assignment, Meant, asPair, value}
-use Rattle.terms.proofs.Ring.{Ring, _⊕_, _⊖_, neg, 𝟘, 𝟙, _≐_, _·_, _and_, _from_, derive}
-use Rattle.terms.proofs.Truths.{both, never}
-use Rattle.terms.proofs.WellFormed.{WellFormed}
+use Rattle.terms.proofs.Ring.{_⊕_, _⊖_, neg, 𝟘, 𝟙, _≐_, _·_, _and_, _from_, derive}
+use Rattle.terms.proofs.Truths.{never}
+use Rattle.terms.proofs.Comparisons.{eqP-true}
 use Rattle.terms.proofs.Readings.{binary-shape}
 use Rattle.terms.proofs.BookTerms.{Closed}
-use Rattle.terms.proofs.Modulo.{two-pow-pos}
+use Rattle.terms.proofs.Modulo.{two-pow-pos, cong-of-modulo-eq}
 use Rattle.terms.proofs.Quotient.{≈-of-mk-eq}
-use Rattle.terms.proofs.Residues.{cong-of-residue-eq}
-use Rattle.terms.proofs.Vectors.{width-positive, argument-sort, vector-value, equal-vectors}
+use Rattle.terms.proofs.Residues.{residue-eq, cong-of-residue-eq}
+use Rattle.terms.proofs.Vectors.{width-positive, vector-value, equal-vectors}
 use Rattle.rules.specs.Refusal.{Result, _>>=_, assert, orElse}
 use Rattle.rules.specs.Refusal.Refusal.{polynomialsNotEqual, termOfWrongForm}
 use Rattle.rules.specs.Refusal.Result.{ok}
 use Rattle.rules.specs.Limits.{Limits}
 use Rattle.rules.specs.IndexMap.{Map, combination, sub}
 use Rattle.rules.specs.LinearArithmetic.{onlyLiteral}
-use Rattle.rules.specs.Polynomial.{Monomial, Polynomial, monomials, isNought, reduced, fromTerm, polySimp}
-use Rattle.rules.specs.Alethe.{PolySimp, Is2, is, Valid, equals}
+use Rattle.rules.specs.Polynomial.{Polynomial, Monomial, monomials, isNought, reduced, fromTerm, polySimp}
+use Rattle.rules.specs.AletheTerms.{Departures, carcara, Products, Expands, coefficientIn}
+use Rattle.rules.specs.Alethe.{SamePolynomial, PolySimp, Is2, is, Valid, equals}
+pub use Rattle.rules.proofs.EquationSides.{Sides, no-vectors, vectors, equation-sides}
+use Rattle.rules.proofs.EquationSides.{other-side, equation-numeric}
 use Rattle.rules.proofs.Literals.{at, relation-says, valid-literal}
-use Rattle.terms.proofs.Comparisons.{eqP-true}
 use Rattle.rules.proofs.Yields.{Yields, gives, at-ok, and-then, guarded}
-use Rattle.rules.proofs.Valuations.{Valuation, rationals}
+use Rattle.rules.proofs.Valuations.{rationals}
 use Rattle.rules.proofs.WholeNumbers.{wholes}
-use Rattle.rules.proofs.IndexMaps.{Values, total, worth, GoodCombination, Amounts, sub-amounts}
-use Rattle.rules.proofs.TermReadings.{TermReading}
-use Rattle.rules.proofs.PolynomialWalk.{termValues, fromTerm-amounts}
-use Rattle.rules.proofs.NumberReadings.{numberReading}
+use Rattle.rules.proofs.IndexMaps.{Values, total, worth, Amounts, sub-amounts}
+use Rattle.rules.proofs.NumberReadings.{numberReading, number-no-vector}
 use Rattle.rules.proofs.VectorReadings.{vectorReading}
-use Rattle.rules.proofs.Reductions.{reduced-amounts}
+use Rattle.rules.proofs.ProductRing.{productRing, constants}
+use Rattle.rules.proofs.Expansions.{amount, expands-comes}
+use Rattle.rules.proofs.WrittenOut.{expansion}
+use Rattle.rules.proofs.Coefficients.{coefficients-equal}
+use Rattle.rules.proofs.GroupedProducts.{amounts-equal}
+use Rattle.rules.proofs.NeatMaps.{yields, neat-keyed}
+use Rattle.rules.proofs.CollectedProducts.{productsOf, products-apart, reduce, reduced-coefficient}
+use Rattle.rules.proofs.CollectedProducts.{reduced-good, reduced-keyed}
+use Rattle.rules.proofs.CollectedPolynomials.{polynomialValues, worth-amount, products-good, Collects}
+use Rattle.rules.proofs.CollectedPolynomials.{fromTerm-collects}
 
--- what `poly_simp` does once it has the two sides, where `keep` is `modulo`
-abbrev compared : Limits → (Polynomial → Polynomial) → Term → Term → ℕ → Result ℕ
-compared l keep t s n = do
+-- ---- what is accepted
+
+-- what `poly_simp` does once it has the two sides
+abbrev pub compared : Limits → Sort → Term → Term → ℕ → Result ℕ
+compared l a t s n = do
   p ← fromTerm l t n
   q ← fromTerm l s (p .visits)
-  d ← sub monomials l (keep (p .sum)) (keep (q .sum))
+  d ← sub monomials l (reduced a (p .sum)) (reduced a (q .sum))
   _ ← assert (isNought d) polynomialsNotEqual
   ok (q .visits)
 
--- ---- in any ring
-
-module _ {R : Ring} {N : Valuation R} (T : TermReading N) where
+module _ {P : Term → Type 0} (closed : Closed P) where
   abbrev S : Values monomials
-  S = termValues T
+  S = polynomialValues closed
 
-  nought-worth :
-      (m : Map Monomial) (c : Rational) → GoodCombination S (combination m c) →
-      isNought (combination m c) ≡ true → worth S (combination m c) ≡ R .ι (pos 0)
+  nought-worth : (m : Map Monomial) (c : Rational) → Lowest c → isNought (combination m c) ≡ true →
+      worth S (combination m c) ≡ productRing .ι (pos 0)
   unfolding total
-  nought-worth [] c g e =
-      derive R (N .number c ∷ []) (λ c. 𝟘 ⊕ c ≐ 𝟘 from 𝟙 · c ≐ 𝟘) tt (N .number-zero c (g .constant) e)
-  nought-worth (x ∷ m) c g e = never e
+  nought-worth [] c l e =
+      derive productRing (constants .number c ∷ []) (λ c. 𝟘 ⊕ c ≐ 𝟘 from 𝟙 · c ≐ 𝟘) tt (constants .number-zero c l e)
+  nought-worth (x ∷ m) c l e = never e
 
-  -- `keep` leaves the value as it is
-  module _ (l : Limits) (keep : Polynomial → Polynomial)
-      (kept : (p : Polynomial) → GoodCombination S p → Amounts S (keep p) (worth S p)) where
-    same-value :
-        (t s : Term) → T .Fits t → T .Fits s → (n : ℕ) →
-        Yields (λ k. T .value t ≡ T .value s) (compared l keep t s n)
-    same-value t s ft fs n =
-        and-then (fromTerm-amounts T l t ft n)
-        (λ p a.
-        and-then (fromTerm-amounts T l s fs (p .visits))
-        (λ q b.
-        let ka = kept (p .sum) (a .good) in
-        let kb = kept (q .sum) (b .good) in
-        and-then (sub-amounts S l (keep (p .sum)) (keep (q .sum)) (ka .good) (kb .good))
-        (λ d c.
-        guarded (isNought d) _
-        (λ z u.
-        gives
-        (derive R
-        (T .value t ∷ T .value s ∷ worth S (p .sum) ∷ worth S (q .sum) ∷ worth S (keep (p .sum))
-        ∷ worth S (keep (q .sum)) ∷ worth S d ∷ [])
-        (λ t s p q a b d.
-        t ≐ s
-        from 𝟙 · d ≐ 𝟘 and neg 𝟙 · d ≐ a ⊖ b and 𝟙 · b ≐ q and neg 𝟙 · a ≐ p and neg 𝟙 · p ≐ t and 𝟙 · q ≐ s) tt
-        (nought-worth (d .entries) (d .constant) (c .good) z) (c .is) (kb .is) (ka .is) (a .is) (b .is))))))
+  -- the coefficients of a reduced polynomial
+  pub reduced-collects : {m : Products} (a : Sort) (p : Polynomial) → Collects closed m p → (ts : List Term) →
+      coefficientIn ts (productsOf (reduced a p)) ≡ reduce a (coefficientIn ts m)
+  reduced-collects a p h ts =
+      reduced-coefficient P a p (products-apart p (h .full) (neat-keyed (h .full)))
+      (products-good closed p (h .good)) ts
+      ∙ ap (reduce a) (sym (h .coefficients ts))
 
--- ---- the sorts of the two sides
+  same-coefficients : {m n : Products} (a : Sort) (p q d : Polynomial) → Collects closed m p → Collects closed n q →
+      Amounts S d (productRing .add (worth S (reduced a p)) (productRing .neg (worth S (reduced a q)))) →
+      isNought d ≡ true →
+      (ts : List Term) → reduce a (coefficientIn ts m) ≡ reduce a (coefficientIn ts n)
+  same-coefficients a p q d h k c z ts =
+      sym (reduced-collects a p h ts)
+      ∙ coefficients-equal P (productsOf (reduced a p)) (productsOf (reduced a q))
+      (products-good closed (reduced a p) (reduced-good P a p (h .good)))
+      (products-good closed (reduced a q) (reduced-good P a q (k .good)))
+      (sym (worth-amount closed (reduced a p) (reduced-keyed a p (neat-keyed (h .full))))
+      ∙ derive productRing (worth S (reduced a p) ∷ worth S (reduced a q) ∷ worth S d ∷ [])
+      (λ p q d. p ≐ q from 𝟙 · d ≐ 𝟘 and neg 𝟙 · d ≐ p ⊖ q) tt
+      (nought-worth (d .entries) (d .constant) (c .good .constant) z) (c .is)
+      ∙ worth-amount closed (reduced a q) (reduced-keyed a q (neat-keyed (k .full)))) ts
+      ∙ reduced-collects a q k ts
 
-either : (x y : Bool) → (x || y) ≡ true → (x ≡ true) ⊎ (y ≡ true)
-either true y e = inl refl
-either false y e = inr e
+  compared-same : (l : Limits) (a : Sort) {t s : Term} {m n : Products} → Expands t m → Expands s n → P t → P s →
+      (k : ℕ) →
+      Yields (λ v. (ts : List Term) → reduce a (coefficientIn ts m) ≡ reduce a (coefficientIn ts n))
+      (compared l a t s k)
+  compared-same l a ht hs pt ps k =
+      and-then (yields (fromTerm-collects closed l ht pt k)) λ p h.
+      and-then (yields (fromTerm-collects closed l hs ps (p .visits))) λ q j.
+      and-then
+      (sub-amounts S l (reduced a (p .sum)) (reduced a (q .sum)) (reduced-good P a (p .sum) (h .good))
+      (reduced-good P a (q .sum) (j .good))) λ d c.
+      guarded (isNought d) _ λ z u. gives (same-coefficients a (p .sum) (q .sum) d h j c z)
 
-pub data Sides : Sort → Sort → Type 0 where
-  no-vectors : {a b : Sort} → isBits a ≡ false → isBits b ≡ false → Sides a b
-  vectors : (w : ℕ) → 1 ≤ w → Sides (bits w) (bits w)
+reduce-number : (a : Sort) → isBits a ≡ false → (q : Rational) → reduce a q ≡ q
+unfolding reduce
+reduce-number bool e q = refl
+reduce-number int e q = refl
+reduce-number real e q = refl
+reduce-number (bits w) e q = never (sym e)
 
--- a sort is no vector, and its code is below those of vectors
-no-vector-sides :
-    (a b : Sort) → isBits a ≡ false → sortCode a ≤ 3 → ((w : ℕ) → b ≡ bits w → 1 ≤ w) →
-    (sameSort a b ≡ true) ⊎ (isNumeric b ≡ true) → Sides a b
-no-vector-sides a bool p c q e = no-vectors p refl
-no-vector-sides a int p c q e = no-vectors p refl
-no-vector-sides a real p c q e = no-vectors p refl
-no-vector-sides a (bits w) p c q (inl e) = absurd (omega (arith, eqb-true (sortCode a) (3 + w) e, q w refl))
-no-vector-sides a (bits w) p c q (inr e) = never e
+reduce-vector : (w : ℕ) (p q : Rational) → reduce (bits w) p ≡ reduce (bits w) q →
+    modulo (p .num) (2 ^ w) ≡ modulo (q .num) (2 ^ w)
+unfolding reduce
+reduce-vector w p q e = ap (λ (q : Rational). natAbs (q .num)) e
 
-sides :
-    (a b : Sort) → ((w : ℕ) → a ≡ bits w → 1 ≤ w) → ((w : ℕ) → b ≡ bits w → 1 ≤ w) →
-    (sameSort a b ≡ true) ⊎ ((isNumeric a ≡ true) × (isNumeric b ≡ true)) → Sides a b
-sides bool b p q e = no-vector-sides bool b refl (omega arith) q (⊎-elim inl (λ h. inr (h .1)) e)
-sides int b p q e = no-vector-sides int b refl (omega arith) q (⊎-elim inl (λ h. inr (h .1)) e)
-sides real b p q e = no-vector-sides real b refl (omega arith) q (⊎-elim inl (λ h. inr (h .1)) e)
-sides (bits w) b p q (inl e) =
-    subst (Sides (bits w)) (sym (argument-sort w (p w refl) b e)) (vectors w (p w refl))
-sides (bits w) b p q (inr e) = never (e .0)
+module _ (t s : Term) (m n : Products)
+    (e : (ts : List Term) → reduce (sort t) (coefficientIn ts m) ≡ reduce (sort t) (coefficientIn ts n)) where
+  equal-numbers : isBits (sort t) ≡ false → (ts : List Term) → coefficientIn ts m ≡ coefficientIn ts n
+  equal-numbers b ts = sym (reduce-number (sort t) b _) ∙ e ts ∙ reduce-number (sort t) b _
 
-pub equation-sides : (i : ℕ) (t s : Term) → WellFormed (op i Equals (t ▹ s ▹ nil)) → Sides (sort t) (sort s)
-unfolding WellFormed takes if_then_else_ sorts all
-equation-sides i t s (h, (ht, (hs, u))) =
-    sides (sort t) (sort s) (width-positive t ht) (width-positive s hs)
-    (⊎-elim (λ e. inl (both _ true (both (sameSort (sort t) (sort t)) _ e .1) .0))
-    (λ e. let k = both (isNumeric (sort t)) _ e in inr (k .0, both (isNumeric (sort s)) true (k .1) .0))
-    (either (all (sameSort (sort t)) (sort t ∷ sort s ∷ [])) _ (h .sorted)))
+  -- by the sorts of the two sides
+  no-vectors-same : (a : Sort) → sort t ≡ a → isBits a ≡ false →
+      (isNumeric (sort t) ≡ true → isNumeric (sort s) ≡ true) →
+      SamePolynomial carcara t s m n
+  no-vectors-same bool p b k = SamePolynomial.otherSort tt p (equal-numbers (ap isBits p))
+  no-vectors-same int p b k = let i = ap isNumeric p in SamePolynomial.numbers i (k i) (equal-numbers (ap isBits p))
+  no-vectors-same real p b k = let i = ap isNumeric p in SamePolynomial.numbers i (k i) (equal-numbers (ap isBits p))
+  no-vectors-same (bits w) p b k = never (sym b)
 
--- ---- the rule
+  sides-same : {a b : Sort} → Sides a b → sort t ≡ a → sort s ≡ b →
+      (isNumeric (sort t) ≡ true → isNumeric (sort s) ≡ true) →
+      SamePolynomial carcara t s m n
+  sides-same (no-vectors {a} ea eb) p q k = no-vectors-same a p ea k
+  sides-same (vectors w l) p q k =
+      SamePolynomial.vectors w p q λ ts.
+      reduce-vector w _ _
+      (subst (λ (a : Sort). reduce a (coefficientIn ts m) ≡ reduce a (coefficientIn ts n)) p (e ts))
 
-reduced-number : (a : Sort) → isBits a ≡ false → (p : Polynomial) → reduced a p ≡ p
-unfolding reduced
-reduced-number bool e p = refl
-reduced-number int e p = refl
-reduced-number real e p = refl
-reduced-number (bits w) e p = never (sym e)
-
-module _ {P : Term → Type 0} (closed : Closed P) (l : Limits) (t s : Term) (pt : P t) (ps : P s) (n k : ℕ) where
-  abbrev Accepted : Type 0
-  Accepted = compared l (reduced (sort t)) t s n ≡ ok k
-
-  numbers-same :
-      isBits (sort t) ≡ false → isBits (sort s) ≡ false → Accepted → (ρ : Assignment) →
-      asPair (value ρ t) ≈ asPair (value ρ s)
-  numbers-same et es e ρ =
-      ≈-of-mk-eq (asPair (value ρ t)) (asPair (value ρ s))
-      (at-ok
-      (same-value T l (reduced (sort t))
-      (λ p g. rw (reduced-number (sort t) et p) (record { good = g; is = refl }))
-      t s (record { of = pt; no-vector = et }) (record { of = ps; no-vector = es }) n) e)
-    where
-      T : TermReading rationals
-      T = numberReading ρ closed
-
-  vectors-same :
-      (w : ℕ) → 1 ≤ w → sort t ≡ bits w → sort s ≡ bits w → Accepted → (ρ : Assignment) →
-      asPair (value ρ t) ≈ asPair (value ρ s)
-  vectors-same w p et es e ρ =
-      let x = vector-value t (closed .formed t pt) w et ρ in
-      let y = vector-value s (closed .formed s ps) w es ρ in
-      subst (λ (v : Meant). asPair (value ρ t) ≈ asPair v)
-      (equal-vectors w x y
-      (cong-of-residue-eq (2 ^ w) (two-pow-pos w)
-      (at-ok
-      (same-value T l (reduced (sort t)) (λ p g. rw et (reduced-amounts w T p g)) t s
-      (record { of = pt; sized = et }) (record { of = ps; sized = es }) n) e)))
-      refl
-    where
-      T : TermReading (wholes (2 ^ w))
-      T = vectorReading w ρ closed p
-
-  sides-same :
-      {a b : Sort} → Sides a b → sort t ≡ a → sort s ≡ b → Accepted → (ρ : Assignment) →
-      asPair (value ρ t) ≈ asPair (value ρ s)
-  sides-same (no-vectors ea eb) et es = numbers-same (ap isBits et ∙ ea) (ap isBits es ∙ eb)
-  sides-same (vectors w p) et es = vectors-same w p et es
-
-module _ {P : Term → Type 0} (closed : Closed P) (l : Limits) (phi : Term) (p : P phi) (n k : ℕ) where
-  pub poly-simp-same : polySimp l (phi ∷ []) n ≡ ok k → PolySimp phi
+module _ {P : Term → Type 0} (closed : Closed P) where
+  pub poly-simp-form : (l : Limits) (phi : Term) → P phi → (n m : ℕ) → polySimp l (phi ∷ []) n ≡ ok m →
+      PolySimp carcara phi
   unfolding polySimp onlyLiteral _>>=_ orElse
-  poly-simp-same = go (binary Equals phi) refl
+  poly-simp-form l phi p n m = go (binary Equals phi) refl
     where
       go :
           (o : Option (Term × Term)) → binary Equals phi ≡ o →
-          (orElse o termOfWrongForm >>= λ (t, s). compared l (reduced (sort t)) t s n) ≡ ok k → PolySimp phi
+          (orElse o termOfWrongForm >>= λ (t, s). compared l (sort t) t s n) ≡ ok m → PolySimp carcara phi
       go (some (t, s)) b e =
+          let i = recordNumber phi in
           let shape = binary-shape Equals phi (t, s) b in
           let q = subst P shape p in
-          let below = closed .below (recordNumber phi) Equals (t ▹ s ▹ nil) q in
+          let formed = closed .formed _ q in
+          let below = closed .below i Equals (t ▹ s ▹ nil) q in
+          let x = expansion t (closed .formed t (below .0)) in
+          let y = expansion s (closed .formed s (below .1 .0)) in
           record {
             t = t;
             s = s;
-            conclusion = subst (Is2 Equals t s) (sym shape) (is (recordNumber phi));
+            left = x .0;
+            right = y .0;
+            conclusion = subst (Is2 Equals t s) (sym shape) (is i);
+            leftSide = x .1;
+            rightSide = y .1;
             same =
-                sides-same closed l t s (below .0) (below .1 .0) n k
-                (equation-sides (recordNumber phi) t s (closed .formed _ q)) refl refl e;
+                sides-same t s (x .0) (y .0)
+                (at-ok (compared-same closed l (sort t) (x .1) (y .1) (below .0) (below .1 .0) n) e)
+                (equation-sides i t s formed) refl refl (equation-numeric i t s formed);
           }
       go none b e = let z : _≡_ {A = ℕ} 0 1 = cc in absurd (omega arith)
 
--- and such an equation is true
-pub poly-simp-valid : {phi : Term} → PolySimp phi → Valid (phi ∷ [])
-poly-simp-valid {phi} h =
-    valid-literal phi λ ρ. relation-says ρ equals (h .conclusion) ∙ eqP-true (at ρ (h .t)) (at ρ (h .s)) (h .same ρ)
+  -- ---- and it is true
+
+  module _ {t s : Term} {m n : Products} (ht : Expands t m) (hs : Expands s n) (pt : P t) (ps : P s)
+      (ρ : Assignment) where
+    numbers-equal : isBits (sort t) ≡ false → isBits (sort s) ≡ false →
+        ((ts : List Term) → coefficientIn ts m ≡ coefficientIn ts n) →
+        asPair (value ρ t) ≈ asPair (value ρ s)
+    numbers-equal bt bs e =
+        let T = numberReading ρ closed in
+        let x =
+        expands-comes T (λ t f. closed .formed t (f .of)) (T .value) (λ t f h. refl) ht (record { of = pt; no-vector = bt }) in
+        let y =
+        expands-comes T (λ t f. closed .formed t (f .of)) (T .value) (λ t f h. refl) hs (record { of = ps; no-vector = bs }) in
+        ≈-of-mk-eq (asPair (value ρ t)) (asPair (value ρ s))
+        (sym (x .is)
+        ∙ amounts-equal rationals (T .Fits) (T .value) (T .respects) m n (x .good) (y .good)
+        (λ ts. ap (rationals .number) (e ts))
+        ∙ y .is)
+
+    vectors-equal : (w : ℕ) → sort t ≡ bits w → sort s ≡ bits w →
+        ((ts : List Term) → modulo (coefficientIn ts m .num) (2 ^ w) ≡ modulo (coefficientIn ts n .num) (2 ^ w)) →
+        asPair (value ρ t) ≈ asPair (value ρ s)
+    vectors-equal w et es e =
+        let T = vectorReading w ρ closed (width-positive t (closed .formed t pt) w et) in
+        let x =
+        expands-comes T (λ t f. closed .formed t (f .of)) (T .value) (λ t f h. refl) ht (record { of = pt; sized = et }) in
+        let y =
+        expands-comes T (λ t f. closed .formed t (f .of)) (T .value) (λ t f h. refl) hs (record { of = ps; sized = es }) in
+        subst (λ (v : Meant). asPair (value ρ t) ≈ asPair v)
+        (equal-vectors w (vector-value t (closed .formed t pt) w et ρ) (vector-value s (closed .formed s ps) w es ρ)
+        (cong-of-residue-eq (2 ^ w) (two-pow-pos w)
+        (sym (x .is)
+        ∙ amounts-equal (wholes (2 ^ w)) (T .Fits) (T .value) (T .respects) m n (x .good) (y .good)
+        (λ ts. residue-eq (2 ^ w) (cong-of-modulo-eq (2 ^ w) (two-pow-pos w) (e ts)))
+        ∙ y .is)))
+        refl
+
+    same-value : (by : Departures) → Sides (sort t) (sort s) → SamePolynomial by t s m n →
+        asPair (value ρ t) ≈ asPair (value ρ s)
+    same-value by h (SamePolynomial.numbers a b e) =
+        numbers-equal (number-no-vector (sort t) a) (number-no-vector (sort s) b) e
+    same-value by h (SamePolynomial.vectors w a b e) = vectors-equal w a b e
+    same-value by h (SamePolynomial.otherSort g a e) = numbers-equal (ap isBits a) (other-side h (ap isBits a)) e
+
+  -- the two sides of an equation
+  pub record Equated (t s : Term) : Type 0 where
+    pub left : P t
+    pub right : P s
+    pub sorts : Sides (sort t) (sort s)
+
+  pub equated : {t s phi : Term} → Is2 Equals t s phi → P phi → Equated t s
+  equated {t} {s} (is i) p =
+      let below = closed .below i Equals (t ▹ s ▹ nil) p in
+      record { left = below .0; right = below .1 .0; sorts = equation-sides i t s (closed .formed _ p) }
+
+  pub poly-simp-valid : (by : Departures) → {phi : Term} → P phi → PolySimp by phi → Valid (phi ∷ [])
+  poly-simp-valid by {phi} p h =
+      let sides = equated (h .conclusion) p in
+      valid-literal phi λ ρ.
+      relation-says ρ equals (h .conclusion)
+      ∙ eqP-true (at ρ (h .t)) (at ρ (h .s))
+      (same-value (h .leftSide) (h .rightSide) (sides .left) (sides .right) ρ by (sides .sorts) (h .same))

@@ -23,7 +23,7 @@ use Rattle.rules.specs.declared.polynomial.Made.{Made}
 use Rattle.rules.specs.declared.polynomial.Made.the-variants as made
 use Rattle.rules.proofs.CheckedNumbers.{times-value, times-out}
 use Rattle.rules.proofs.TowerAreas.{tower-more, tower-less}
-use Rattle.rules.proofs.Refusals.{refuses, refuses-then}
+use Rattle.rules.proofs.Results.{refuses, refused-then}
 use Rattle.rules.proofs.ProductEntries.{ClearSays, LeftSays, AllScaledSays}
 
 -- ---- what the functions promise of an answer r and of the bytes w′ that they leave
@@ -47,13 +47,13 @@ MulSays w p q w′ r =
 module _ (l : ℕ) (p q : Polynomial) where
   left-refused : {c : ℕ} → Refuses c (mulLeft (limited l) (p .entries) q []) → Refuses c (mul (limited l) p q)
   unfolding mul
-  left-refused r = refuses-then _ r
+  left-refused r = refused-then _ r
 
   module _ {m1 : Map Monomial} (left : mulLeft (limited l) (p .entries) q [] ≡ ok m1) where
     scaled-refused :
         {c : ℕ} → Refuses c (insertScaled (limited l) (q .entries) (p .constant) m1) → Refuses c (mul (limited l) p q)
     unfolding mul _>>=_
-    scaled-refused r = rw left (refuses-then _ r)
+    scaled-refused r = rw left (refused-then _ r)
 
     module _ {m2 : Map Monomial} (scaled : insertScaled (limited l) (q .entries) (p .constant) m1 ≡ ok m2) where
       constant-out :

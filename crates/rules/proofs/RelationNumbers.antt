@@ -22,7 +22,8 @@ use Rattle.terms.proofs.Ring.{_⊕_, _⊖_, _⊗_, neg, 𝟘, 𝟙, _≐_, _·_
 use Rattle.terms.proofs.Quotient.{ℚ, mk, ℚring, product, opposite, ι, mk-eq, ≈-of-mk-eq, mk-mul}
 use Rattle.terms.proofs.WellFormed.{WellFormed}
 use Rattle.terms.proofs.Fractions.{asFraction-value}
-use Rattle.rules.specs.Alethe.{Is2, is, Difference, plain, real, IsFraction, ScaledNumbers}
+use Rattle.rules.specs.Alethe.{Departures, Is2, is, Difference, Written, ScaledNumbers}
+use Rattle.rules.specs.Alethe.Difference.{plain, realDifference}
 use Rattle.rules.specs.Alethe.{IsRelation, equals, lessThan, lessEq, greaterThan, greaterEq}
 use Rattle.rules.proofs.Valuations.{numberℚ, rationals, rational-division}
 use Rattle.rules.proofs.Signs.{Nonneg, Positive, isNonneg, isPositive, nonneg-as, positive-as}
@@ -31,7 +32,8 @@ use Rattle.rules.proofs.Signs.{zero-not-positive, nonneg-of-positive, p
 use Rattle.rules.proofs.Signs.{positive-mul, at-most, below, _less_, mk-less}
 use Rattle.rules.proofs.Says.{positive-number, zero-of-number}
 use Rattle.rules.proofs.Literals.{test, at, says, relation-says}
-use Rattle.rules.proofs.BoundsForms.{arguments-formed}
+use Rattle.rules.proofs.Shapes.{arguments-formed}
+use Rattle.rules.proofs.WrittenNumbers.{written-read}
 
 -- ---- the signs of numbers whose multiples are equal
 
@@ -175,11 +177,16 @@ module _ (q1 q2 : Rational) (l1 : Lowest q1) (l2 : Lowest q2) (z1 : isZero q1 �
 
 -- ---- numbers
 
-module _ (ρ : Assignment) where
-  difference-value : {x y d : Term} → Difference x y d → mk (at ρ d) ≡ mk (at ρ x) less mk (at ρ y)
+-- the two sides of an equation that is true
+pub equation-true :
+    (ρ : Assignment) {a b t : Term} → Is2 Equals a b t → says ρ t ≡ true → eqP (at ρ a) (at ρ b) ≡ true
+equation-true ρ h e = sym (relation-says ρ equals h) ∙ e
+
+module _ (by : Departures) (ρ : Assignment) where
+  difference-value : {x y d : Term} → Difference by x y d → mk (at ρ d) ≡ mk (at ρ x) less mk (at ρ y)
   unfolding value values meaning if_then_else_ foldLeft
   difference-value {x} {y} (plain (is i)) = mk-less (at ρ x) (at ρ y)
-  difference-value {x} {y} (real (is i) (is j)) = mk-less (at ρ x) (at ρ y)
+  difference-value {x} {y} (realDifference g (is i) (is j)) = mk-less (at ρ x) (at ρ y)
 
   product-value : {a b t : Term} → Is2 Mult a b t → mk (at ρ t) ≡ product (mk (at ρ a)) (mk (at ρ b))
   unfolding value values meaning if_then_else_ foldLeft
@@ -187,20 +194,16 @@ module _ (ρ : Assignment) where
 
   -- c times a difference
   multiple-value :
-      {c x y d t : Term} {q : Rational} → WellFormed t → IsFraction c q → Difference x y d → Is2 Mult c d t →
+      {c x y d t : Term} {q : Rational} → WellFormed t → Written c q → Difference by x y d → Is2 Mult c d t →
       (mk (at ρ t) ≡ product (numberℚ q) (mk (at ρ x) less mk (at ρ y))) × Lowest q
   unfolding WellFormed
   multiple-value {c} {q = q} w r d p =
-      let k = asFraction-value c (arguments-formed p w .0) q r ρ in
+      let k = asFraction-value c (arguments-formed p w .0) q (written-read r) ρ in
       (product-value p ∙ ap₂ product (mk-eq _ _ (k .0)) (difference-value d), k .1)
-
-  -- the two sides of an equation that is true
-  pub equation-true : {a b t : Term} → Is2 Equals a b t → says ρ t ≡ true → eqP (at ρ a) (at ρ b) ≡ true
-  equation-true h e = sym (relation-says ρ equals h) ∙ e
 
   pub numbers-alike :
       {o : ℕ} (r : IsRelation o) {premise x1 x2 y1 y2 : Term} → WellFormed premise →
-      ScaledNumbers o premise x1 x2 y1 y2 → says ρ premise ≡ true →
+      ScaledNumbers by o premise x1 x2 y1 y2 → says ρ premise ≡ true →
       test r (at ρ x1) (at ρ x2) ≡ test r (at ρ y1) (at ρ y2)
   unfolding WellFormed
   numbers-alike r {x1 = x1} {x2} {y1} {y2} w s e =
@@ -210,5 +213,5 @@ module _ (ρ : Assignment) where
       test-alike (s .q1) (s .q2) (a .1) (b .1) (s .firstNonzero) (s .secondNonzero) r (s .sameSign)
       (at ρ x1) (at ρ x2) (at ρ y1) (at ρ y2)
       (sym (a .0)
-      ∙ mk-eq _ _ (of-eqP (at ρ (s .left)) (at ρ (s .right)) (equation-true (s .equation) e))
+      ∙ mk-eq _ _ (of-eqP (at ρ (s .left)) (at ρ (s .right)) (equation-true ρ (s .equation) e))
       ∙ b .0)

@@ -21,12 +21,13 @@ use Rattle.rules.specs.Limits.{Limits}
 use Rattle.rules.specs.LinearArithmetic.{Clause, onlyLiteral, isRelation, binaryErr}
 use Rattle.rules.specs.Polynomial.{Scaled, differenceOf, assertSides, bitvectorCase, numberCase}
 use Rattle.rules.specs.Polynomial.{polySimpRel}
-use Rattle.rules.specs.Alethe.{Is2, IsRelation, equals, Difference, ScaledNumbers, ScaledVectors}
+use Rattle.rules.specs.Alethe.{carcara, Is2, IsRelation, equals, Difference, ScaledNumbers, ScaledVectors}
 use Rattle.rules.specs.Alethe.{PolySimpRel}
 use Rattle.rules.proofs.Yields.{Yields, at-ok, and-then, weaker, guarded}
 use Rattle.rules.proofs.Shapes.{Found, binaryErr-found}
 use Rattle.rules.proofs.Oppositions.{relation-of}
-use Rattle.rules.proofs.RelationShapes.{or-next, fraction-found, operands-found, odd-found, Scales}
+use Rattle.rules.proofs.LinearReadings.{fraction-found}
+use Rattle.rules.proofs.RelationShapes.{or-next, operands-found, odd-found, Scales}
 use Rattle.rules.proofs.RelationShapes.{inside-both, operation-found, scaled-found, vector-parts}
 use Rattle.rules.proofs.RelationShapes.{number-parts, sides-equal}
 
@@ -38,7 +39,7 @@ pub record Literals (c : Clause) (ps : List Clause) : Type 0 where
   pub conclusion : c ≡ phi ∷ []
   pub premises : ps ≡ (premise ∷ []) ∷ []
 
-refused-not-ok : {A X : Type 0} {r : Refusal} {a : A} → refused r ≡ ok a → X
+pub refused-not-ok : {A X : Type 0} {r : Refusal} {a : A} → refused r ≡ ok a → X
 refused-not-ok e = let z : _≡_ {A = ℕ} 0 1 = cc in absurd (omega arith)
 
 pub poly-simp-rel-literals :
@@ -80,10 +81,10 @@ module _ {P : Term → Type 0} (closed : Closed P) where
   compares :
       (o : ℕ) (premise phi : Term) (p : Scaled) (lr x y : Term × Term) → IsRelation o →
       P (p .1 .0) × P (p .1 .1) → P (p .3 .0) × P (p .3 .1) →
-      ScaledNumbers o premise (p .1 .0) (p .1 .1) (p .3 .0) (p .3 .1)
+      ScaledNumbers carcara o premise (p .1 .0) (p .1 .1) (p .3 .0) (p .3 .1)
       ⊎ ScaledVectors o premise (p .1 .0) (p .1 .1) (p .3 .0) (p .3 .1) →
       Found P Equals (lr .0 ▹ lr .1 ▹ nil) phi → Found P o (x .0 ▹ x .1 ▹ nil) (lr .0) →
-      Found P o (y .0 ▹ y .1 ▹ nil) (lr .1) → Yields (λ u. PolySimpRel premise phi) (assertSides x y p)
+      Found P o (y .0 ▹ y .1 ▹ nil) (lr .1) → Yields (λ u. PolySimpRel carcara premise phi) (assertSides x y p)
   compares o premise phi p lr x y r px py form e f g =
       weaker
       (λ u h.
@@ -108,7 +109,7 @@ module _ {P : Term → Type 0} (closed : Closed P) where
   module _ (premise phi : Term) (q : P phi) where
     vector-case :
         (p : Scaled) → Scales P BvMul (Is2 BvSub) premise p →
-        Yields (λ u. PolySimpRel premise phi) (bitvectorCase p phi)
+        Yields (λ u. PolySimpRel carcara premise phi) (bitvectorCase p phi)
     unfolding bitvectorCase
     vector-case p s =
         and-then (odd-found (p .0)) λ u c1.
@@ -141,8 +142,8 @@ module _ {P : Term → Type 0} (closed : Closed P) where
         e f g
 
     number-case :
-        (l : Limits) (p : Scaled) → Scales P Mult Difference premise p →
-        Yields (λ u. PolySimpRel premise phi) (numberCase l p phi)
+        (l : Limits) (p : Scaled) → Scales P Mult (Difference carcara) premise p →
+        Yields (λ u. PolySimpRel carcara premise phi) (numberCase l p phi)
     unfolding numberCase
     number-case l p s =
         and-then (fraction-found l (p .0)) λ q1 c1.
@@ -184,11 +185,11 @@ module _ {P : Term → Type 0} (closed : Closed P) where
         e f g
 
 module _ {P : Term → Type 0} (closed : Closed P) (l : Limits) (premise phi : Term) (p : P premise) (q : P phi) where
-  pub poly-simp-rel-form : polySimpRel l (phi ∷ []) ((premise ∷ []) ∷ []) ≡ ok tt → PolySimpRel premise phi
+  pub poly-simp-rel-form : polySimpRel l (phi ∷ []) ((premise ∷ []) ∷ []) ≡ ok tt → PolySimpRel carcara premise phi
   unfolding polySimpRel onlyLiteral _>>=_
   poly-simp-rel-form =
-      at-ok {P = λ u. PolySimpRel premise phi}
+      at-ok {P = λ u. PolySimpRel carcara premise phi}
       (or-next (scaled-found closed BvMul (Is2 BvSub) (binaryErr BvSub) (vector-parts closed) premise p)
       (vector-case closed premise phi q)
-      (and-then (scaled-found closed Mult Difference differenceOf (number-parts closed) premise p)
+      (and-then (scaled-found closed Mult (Difference carcara) differenceOf (number-parts closed) premise p)
       (number-case closed premise phi q l)))

@@ -1,14 +1,12 @@
 -- What the readers of poly_simp_rel find: the premise (= (o c1 dx) (o c2 dy)) with the differences dx and dy, odd
--- bit-vector constants, fractions, and the sides of the conclusion, which are those of the differences.
+-- bit-vector constants, and the sides of the conclusion, which are those of the differences.
 --     or-next       what is answered, or else what comes next
---     fraction-found, operands-found, odd-found, operation-found, scaled-found       what each reader finds
+--     operands-found, odd-found, operation-found, scaled-found       what each reader finds
 --     vector-parts, number-parts       the differences
 --     sides-equal       what `assertSides` asserts
 use mathlib.Core.Path.{_≡_, refl}
-use mathlib.Core.Option.{Option, some, none}
 use Prim.Native.Nat.{ℕ, _%_}
 use borrow.Author.Tests.{eqb-true}
-use Rattle.terms.specs.Rational.{Rational}
 use Rattle.terms.specs.Operator.{Equals, Sub, ToReal, BvSub}
 use Rattle.terms.specs.Term.{Term, Terms}
 use Rattle.terms.specs.Term.Term.{integer, rational, bitvector, atom, op}
@@ -17,15 +15,14 @@ use Rattle.terms.specs.Readers.{asBitvector, asOp}
 use Rattle.terms.proofs.BookTerms.{Closed}
 use Rattle.rules.specs.Refusal.{Result, orElse}
 use Rattle.rules.specs.Refusal.Result.{ok, refused}
-use Rattle.rules.specs.Refusal.Refusal.{expectedAnyNumber, expectedOperationTerm}
-use Rattle.rules.specs.Limits.{Limits, fractionErr}
+use Rattle.rules.specs.Refusal.Refusal.{expectedOperationTerm}
 use Rattle.rules.specs.LinearArithmetic.{binaryErr}
 use Rattle.rules.specs.Polynomial.{Scaled, scaled, differenceOf, assertSides, assertOdd, operands}
-use Rattle.rules.specs.Alethe.{Is2, Difference, plain, real, IsFraction}
-use Rattle.rules.proofs.Yields.{Yields, gives, refuses, and-then, weaker, ReadAs, fraction-yields}
-use Rattle.rules.proofs.Shapes.{Found, found, or-else, asserted, unaryErr-found, binaryErr-found}
+use Rattle.rules.specs.Alethe.{Is2, carcara, Difference}
+use Rattle.rules.specs.Alethe.Difference.{plain, realDifference}
+use Rattle.rules.proofs.Yields.{Yields, gives, refuses, and-then, weaker}
+use Rattle.rules.proofs.Shapes.{Found, found, or-else, asserted, unaryErr-found, binaryErr-found, equal-yields}
 use Rattle.rules.proofs.Oppositions.{as-op-shape}
-use Rattle.rules.proofs.BoundsForms.{equal-yields}
 
 -- ---- the steps
 
@@ -36,14 +33,6 @@ pub or-next :
     Yields Q (elim x as (λ z. Result B) [ ok a ↦ f a | refused r ↦ y ])
 or-next (gives {a} h) f g = f a h
 or-next refuses f g = g
-
-pub fraction-found : (l : Limits) (t : Term) → Yields (IsFraction t) (fractionErr l t)
-unfolding fractionErr orElse
-fraction-found l t = and-then (fraction-yields l t) go
-  where
-    go : (o : Option Rational) → ReadAs t o → Yields (IsFraction t) (orElse o expectedAnyNumber)
-    go (some q) e = gives e
-    go none e = refuses
 
 pub operands-found : (ts : Terms) → Yields (λ p. ts ≡ p .0 ▹ p .1 ▹ nil) (operands ts)
 operands-found nil = refuses
@@ -136,13 +125,13 @@ module _ {P : Term → Type 0} (closed : Closed P) where
       weaker (λ q f. record { shape = f .shape; inside = inside-both f })
       (binaryErr-found closed BvSub t p)
 
-  pub number-parts : (t : Term) → P t → Yields (Parts P Difference t) (differenceOf t)
+  pub number-parts : (t : Term) → P t → Yields (Parts P (Difference carcara) t) (differenceOf t)
   unfolding differenceOf
   number-parts t p =
       or-next
       (and-then (unaryErr-found closed ToReal t p) λ u e.
       weaker
-      (λ q f. record { shape = real (f .shape) (e .shape); inside = inside-both f })
+      (λ q f. record { shape = realDifference tt (f .shape) (e .shape); inside = inside-both f })
       (binaryErr-found closed Sub u (e .inside .0)))
       (λ q h. gives h)
       (weaker (λ q f. record { shape = plain (f .shape); inside = inside-both f })

@@ -28,9 +28,9 @@ use Rattle.terms.proofs.Modulo.{Cong, cong-refl, cong-sym, cong-trans, cong-of-
 use Rattle.terms.proofs.Modulo.{modulo-cong, two-pow-pos, odd, odd-cancel-zero}
 use Rattle.terms.proofs.Vectors.{not-vector, by-vector-operator, width-is, width-positive}
 use Rattle.terms.proofs.Vectors.{argument-sort, vector-value, equal-vectors}
-use Rattle.rules.specs.Alethe.{Is2, is, IsRelation, equals, ScaledVectors, PolySimpRel}
+use Rattle.rules.specs.Alethe.{Departures, Is2, is, IsRelation, equals, ScaledVectors, PolySimpRel}
 use Rattle.rules.proofs.Literals.{test, at, says, relation-value, relation-says}
-use Rattle.rules.proofs.BoundsForms.{arguments-formed}
+use Rattle.rules.proofs.Shapes.{arguments-formed}
 use Rattle.rules.proofs.PolynomialsEqual.{Sides, no-vectors, vectors, equation-sides}
 use Rattle.rules.proofs.RelationNumbers.{equation-true, equality-alike, numbers-alike}
 
@@ -192,17 +192,18 @@ module _ (ρ : Assignment) where
       relation-says ρ equals c ∙ rw same (eqP-refl (at ρ right))
 
   premise-alike :
-      {premise phi : Term} → WellFormed premise → (s : PolySimpRel premise phi) → says ρ premise ≡ true →
+      (by : Departures) {premise phi : Term} → WellFormed premise → (s : PolySimpRel by premise phi) →
+      says ρ premise ≡ true →
       test (s .relation) (at ρ (s .x1)) (at ρ (s .x2)) ≡ test (s .relation) (at ρ (s .y1)) (at ρ (s .y2))
-  premise-alike w s e =
-      ⊎-elim (λ n. numbers-alike ρ (s .relation) w n e)
+  premise-alike by w s e =
+      ⊎-elim (λ n. numbers-alike by ρ (s .relation) w n e)
       (λ v.
       equality-alike (s .relation) (v .relation) (at ρ (s .x1)) (at ρ (s .x2)) (at ρ (s .y1)) (at ρ (s .y2))
       (vectors-alike w v e))
       (s .premiseForm)
 
 pub poly-simp-rel-sound :
-    {premise phi : Term} → WellFormed premise → PolySimpRel premise phi → (ρ : Assignment) →
+    (by : Departures) {premise phi : Term} → WellFormed premise → PolySimpRel by premise phi → (ρ : Assignment) →
     isTrue (value ρ premise) ≡ true → isTrue (value ρ phi) ≡ true
-poly-simp-rel-sound w s ρ e =
-    conclusion-true ρ (s .relation) (s .leftSide) (s .rightSide) (s .conclusion) (premise-alike ρ w s e)
+poly-simp-rel-sound by w s ρ e =
+    conclusion-true ρ (s .relation) (s .leftSide) (s .rightSide) (s .conclusion) (premise-alike ρ by w s e)

@@ -1,15 +1,16 @@
 -- Laws on results along `>>=`, and on the number of a refusal: it is not 0, so a number that is 0 says that a result is
 -- no refusal, and any other says which it is.
---     next, ends       a first step that is known
+--     next, ends, asserts       a first step that is known
 --     bind-same, bind-assoc       a step for a step; steps in a row
 --     refuses, refuses-as, refused-then       a refusal with its number, and what hands it on
 --     code-none, code-some       a result by its number
 --     stops, goes-on, refused-code       the number of a result behind a first step
 --     refused-verdict, refused-with, accepted-with       a step's verdict
 use mathlib.Core.Path.{_≡_, refl, sym, ap, _∙_}
+use mathlib.Core.Bool.{Bool, true}
 use Prim.Native.Nat.{ℕ, _<_}
 use native.Mathlib.Omega.{arith}
-use Rattle.rules.specs.Refusal.{Refusal, Result, _>>=_, number}
+use Rattle.rules.specs.Refusal.{Refusal, Result, _>>=_, assert, number}
 use Rattle.rules.specs.Refusal.Result.{ok, refused}
 use Rattle.rules.specs.Refusal.Refusal.{workAreaOrLimit, bookSize, recordLayout, sortBroken, recordRepeated}
 use Rattle.rules.specs.Refusal.Refusal.{runSize, runRecord, noRoom, visitLimit, numberRange, polynomialSize}
@@ -39,6 +40,10 @@ module _ {A B : Type 0} where
   unfolding _>>=_
   bind-same (ok a) h = h a
   bind-same (refused r) h = refl
+
+pub asserts : {t : Bool} (r : Refusal) → t ≡ true → assert t r ≡ ok tt
+unfolding assert
+asserts r e = rw e
 
 pub bind-assoc :
     {A B C : Type 0} (d : Result A) (f : A → Result B) (g : B → Result C) →

@@ -4,7 +4,7 @@
 --     drop-to-end, drop-past-end       what the function `rest` takes
 --     length-termsIn, named-drop, named-cons, named-past, termsIn-drop       the terms that they name
 --     below-at, inside-drop       each names a record of the book
---     readOf, fraction-read, readArgs-drop, ArgumentAt, argument-at, argument-past       the arguments that are read
+--     readOf, fraction-read, fraction-number, readArgs-drop, ArgumentAt, argument-at, argument-past       the arguments that are read
 --     ReadSoFar, read-begin .. read-end, argument-of .. argument-beyond       the functions `read_args`, `argument_at`
 use mathlib.Core.Path.{_≡_, refl, sym, ap, _∙_}
 use mathlib.Core.Bool.{true}
@@ -22,7 +22,7 @@ use Rattle.terms.specs.Rational.{Rational}
 use Rattle.terms.specs.Bytes.{Bytes, le}
 use Rattle.terms.specs.Term.{Term}
 use Rattle.terms.specs.Book.{count, tree, allBelow}
-use Rattle.terms.specs.Readers.{asFraction, ranged, Finds}
+use Rattle.terms.specs.Readers.{asFraction, ranged, Finds, readingRefusal}
 use Rattle.terms.specs.declared.term.Reading.{Reading}
 use Rattle.terms.specs.declared.term.Reading.the-variants.{Value, NotNumber, OutOfRange}
 use Rattle.terms.proofs.Truths.{both}
@@ -148,6 +148,15 @@ module _ (l : Limits) where
   fraction-read t = go (asFraction (l .numbers) t)
     where
       go : (r : Reading) → (numberOr r >>= λ q. orElse q expectedAnyNumber) ≡ readOf r
+      go (Value q) = refl
+      go NotNumber = refl
+      go OutOfRange = refl
+
+  -- the number of a refusal is document 01's for the reading
+  pub fraction-number : (t : Term) → codeOf (fractionErr l t) ≡ readingRefusal (asFraction (l .numbers) t)
+  fraction-number t = ap codeOf (fraction-read t) ∙ go (asFraction (l .numbers) t)
+    where
+      go : (r : Reading) → codeOf (readOf r) ≡ readingRefusal r
       go (Value q) = refl
       go NotNumber = refl
       go OutOfRange = refl

@@ -84,7 +84,7 @@ nonzero-positive (pos (suc n)) h = lt→ltb 0 (suc n) (zero-lt-suc n)
 nonzero-positive (negsuc n) h = lt→ltb 0 (suc n) (zero-lt-suc n)
 
 module _ (a : Rational) (la : Lowest a) where
-  abs-nonneg : Nonneg (numberℚ (absQ a))
+  pub abs-nonneg : Nonneg (numberℚ (absQ a))
   abs-nonneg =
       subst T (sym (nonneg-number (absQ a) (abs-lowest a la)))
       (unfold absQ in pos-nonneg (natAbs (a .num)) .le)

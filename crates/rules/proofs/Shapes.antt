@@ -1,10 +1,12 @@
--- What the rules' readers of shapes find. Where `unaryErr`, `binaryErr` and `ternaryErr` answer, the term has that operator
--- and those arguments, and the arguments are terms of P as the term is (`Found`). P is closed: two of its terms that are the
--- same by record number are equal.
+-- What the rules' readers of shapes find. Where `unaryErr`, `binaryErr` and `ternaryErr` answer, the term has that
+-- operator and those arguments, and the arguments are terms of P as the term is (`Found`). P is closed: two of its
+-- terms that are the same by record number are equal.
 --     unary-found, binary-found, ternary-found, negated-found       the options
---     unaryErr-found, binaryErr-found, ternaryErr-found, negatedErr-found, asserted       along a rule's steps, in `Yields`
+--     unaryErr-found, binaryErr-found, ternaryErr-found, negatedErr-found, asserted       along a rule's steps
 --     one-literal       a clause that is answered for has one literal
---     same-pair, same-arguments, same-negated       two pairs of terms that are the same are equal
+--     same-pair, same-arguments, same-negated, equal-yields       terms that are the same are equal
+--     operation-of, is-itself       a shape names the operator and the arguments
+--     arguments-formed       the arguments of a well-formed operation are well formed
 use mathlib.Core.Path.{_≡_, refl, sym, _∙_, ap, subst}
 use mathlib.Core.Bool.{Bool, true, false}
 use mathlib.Core.List.{[], _∷_}
@@ -15,19 +17,28 @@ use Rattle.terms.specs.Operator.{Not}
 use Rattle.terms.specs.Term.{Term, Terms, recordNumber, same, argsOf, unary, binary}
 use Rattle.terms.specs.Term.Term.{op}
 use Rattle.terms.specs.Term.Terms.{nil, _▹_}
-use Rattle.terms.specs.Readers.{removeNegation}
+use Rattle.terms.specs.Readers.{asOp, removeNegation}
 use Rattle.terms.proofs.Truths.{both}
 use Rattle.terms.proofs.Readings.{by-option, args-shape, unary-shape, binary-shape}
+use Rattle.terms.proofs.WellFormed.{WellFormed, AllWellFormed}
 use Rattle.terms.proofs.BookTerms.{Each, Closed}
 use Rattle.rules.specs.Refusal.{Refusal, Result, _>>=_, assert, orElse}
 use Rattle.rules.specs.Refusal.Result.{ok}
 use Rattle.rules.specs.LinearArithmetic.{Clause, onlyLiteral, three?, ternary, unaryErr, binaryErr}
-use Rattle.rules.specs.LinearArithmetic.{ternaryErr, samePair, negatedBinary}
+use Rattle.rules.specs.LinearArithmetic.{ternaryErr, samePair, negatedBinary, assertEq}
 use Rattle.rules.specs.Alethe.{Is, Is1, Is2, IsNot2, is}
 use Rattle.rules.proofs.Yields.{Yields, gives, refuses, and-then, weaker}
 
 pub nothing-found : {A X : Type 0} {a : A} → none ≡ some a → X
 nothing-found e = let z : _≡_ {A = ℕ} 0 1 = cc in absurd (omega arith)
+
+-- a term of a shape is its operation
+pub operation-of : {o : ℕ} {ts : Terms} {t : Term} → Is o ts t → asOp t ≡ some (o, ts)
+unfolding asOp
+operation-of (is i) = refl
+
+pub is-itself : {i o p : ℕ} {ts us : Terms} → Is o ts (op i p us) → (o ≡ p) × (ts ≡ us)
+is-itself (is j) = (refl, refl)
 
 -- ---- results
 
@@ -73,6 +84,10 @@ ternary-shape o t p =
 
 -- ---- shapes
 
+pub arguments-formed : {o : ℕ} {ts : Terms} {t : Term} → Is o ts t → WellFormed t → AllWellFormed ts
+unfolding WellFormed
+arguments-formed (is i) w = w .1
+
 -- t is (o ts), and its arguments are terms of P
 pub record Found (P : Term → Type 0) (o : ℕ) (ts : Terms) (t : Term) : Type 0 where
   pub shape : Is o ts t
@@ -98,6 +113,10 @@ module _ {P : Term → Type 0} (closed : Closed P) where
   same-pair p q a b c d e =
       let h = both (same (p .0) (q .0)) (same (p .1) (q .1)) e in
       (closed .known (p .0) (q .0) a c (h .0), closed .known (p .1) (q .1) b d (h .1))
+
+  pub equal-yields : (a b : Term) → P a → P b → Yields (λ u. a ≡ b) (assertEq a b)
+  unfolding assertEq
+  equal-yields a b p q = asserted (same a b) _ (closed .known a b p q)
 
   -- an operation of two terms that are the same as a and b is one of a and b
   pub same-arguments :

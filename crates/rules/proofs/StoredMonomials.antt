@@ -15,7 +15,7 @@ use Rattle.rules.specs.PolynomialArea.{places, monomialBytes, entryBytes
 use Rattle.rules.specs.PolynomialArea.{putEntry, blankKey, blanked, swapped, Key, Entry, Good, Held}
 use Rattle.rules.proofs.NumberBytes.{parts}
 use Rattle.rules.proofs.MapEnds.{length-middle, Ends, nothing, last, ends, swapRemove-last}
-use Rattle.rules.proofs.MonomialBytes.{length-monomial, same-bytes, entry-cell, key-found, value-found}
+use Rattle.rules.proofs.MonomialBytes.{same-bytes, entry-cell, key-found, value-found}
 use Rattle.rules.proofs.PackedMonomials.{keyOf, good-front, good-rest, good-join, packed, key-size, length-entry}
 use Rattle.rules.proofs.PackedMonomials.{length-packed, length-stored, behind, write-over, write-end, blank-end}
 use Rattle.rules.proofs.PackedMonomials.{blank-all}
@@ -25,9 +25,6 @@ stored-length b m g = length-stored b places m g
 
 pub held-length : {b w : Bytes} {m : Map Monomial} → Held b w m → length w ≡ 1600
 held-length {b} {m} h = ap length (h .bytes) ∙ stored-length b m (h .good)
-
-pub key-length : {b key : Bytes} {m : Monomial} → Key b key m → length key ≡ 17
-key-length {m} k = ap length (k .bytes) ∙ length-monomial m (k .few)
 
 -- monomials are equal where their bytes are
 pub same-key :
@@ -191,7 +188,7 @@ module _ {b w : Bytes} (p : Map Monomial) (e : Monomial × Rational) (s : Map Mo
   pub remove-entry : Held b (swapped (length (p ++ e ∷ s)) (length p) w) (p ++ swapRemove s)
   remove-entry = removed p e (ends s) h
 
--- ---- a new entry, and none
+-- ---- a new entry, and none left
 
 pub write-new :
     {b w key : Bytes} (m : Map Monomial) → Held b w m → length m < places → (x : Monomial) → Key b key x →
@@ -216,7 +213,3 @@ clear-all {b} m h =
       good = tt;
       few = omega arith;
     }
-
-pub held-none : {b w : Bytes} → w ≡ stored places [] → Held b w []
-unfolding Good
-held-none e = record { bytes = e; good = tt; few = omega arith }

@@ -1,50 +1,47 @@
--- The strengthening of rules 5 and 6 is sound where all atoms are Int, their coefficients are whole and the
--- argument is whole (`strengthen-holds`). The sum is then whole and a multiple of the divisor g; above the
--- constant it is above the constant's floor, so at least g more. At least the constant it is above it where
--- the constant times the argument is not whole, since the constant is then not whole itself.
+-- The strengthening of rules 5 and 6 is sound where all atoms are Int and their coefficients are whole. The sum is
+-- then whole and a multiple of the divisor g; above the bound it is above the bound's floor, so at least g more
+-- (`raised-by-one`, `raised-by-divisor`). At least the bound it is above it where the bound is not whole
+-- (`above-fraction`).
+--     floor-of-whole, product-whole, times-whole, times-test       whole numbers, and the Rust's test on the product
+--     int-atoms       Int atoms have whole values
 use mathlib.Core.Path.{_≡_, refl, sym, _∙_, ap, ap₂, subst}
 use mathlib.Core.Bool.{true, false}
 use mathlib.Core.List.{[], _∷_}
 use Prim.Native.Nat.{ℕ, _+_}
+use native.Mathlib.Nat.{div-one}
 use native.Mathlib.Omega.{arith}
 use borrow.Author.Tests.{eqb-true}
 use lib.Dec.{T}
-use lib.IntN.{ℤ, pos, negℤ, _+ℤ_, _-ℤ_, _*ℤ_}
+use lib.IntN.{ℤ, pos, negsuc, negℤ, _+ℤ_, _-ℤ_, _*ℤ_}
 use lib.Signed.{ltZ-yes, _<ℤ_}
 use Rattle.terms.specs.Pair.{wholeP}
 use Rattle.terms.specs.Rational as Rational
-use Rattle.terms.specs.Rational.{Rational, whole, Lowest, floorQ, isInteger, isZero, eqQ}
+use Rattle.terms.specs.Rational.{Rational, whole, Lowest, addQ, mulQ, floorZ, floorQ, isInteger, isZero, eqQ}
 use Rattle.terms.specs.Term.{Sort, Term, sort, sameSort}
 use Rattle.terms.specs.Term.Sort.{bool, int, real, bits}
 use Rattle.terms.specs.Smtlib.{Assignment, Meant, truth, number, vector, OfSort, value, divsEven}
 use Rattle.terms.proofs.Integers.{_⊕_, _⊖_, _⊗_, neg, 𝟘, 𝟙, _≐_, _·_, _and_, _from_, solveℤ, deriveℤ}
 use Rattle.terms.proofs.Ring.{derive}
-use Rattle.terms.proofs.Truths.{both, never}
+use Rattle.terms.proofs.Truths.{both, never, if-either}
 use Rattle.terms.proofs.Order.{pos-nonneg, add-one-le-of-lt, mul-le-mul-of-nonneg, lt-of-mul-lt-mul-right}
 use Rattle.terms.proofs.Order.{sub-nonneg-of-le}
-use Rattle.terms.proofs.Rationals.{isInteger-whole, isInteger-value}
+use Rattle.terms.proofs.Rationals.{isInteger-whole, isInteger-value, eqQ-eq}
 use Rattle.terms.proofs.Floor.{floor-le, floor-lowest}
 use Rattle.terms.proofs.Meaning.{value-of-sort}
-use Rattle.terms.proofs.Quotient.{ℚring, sum, opposite, ι, mk-eq, mk-whole, ≈-of-mk-eq}
+use Rattle.terms.proofs.Quotient.{ℚ, ℚring, sum, opposite, ι, mk-eq, mk-whole, ≈-of-mk-eq}
 use Rattle.terms.proofs.Sums.{meant}
 use Rattle.terms.proofs.BookTerms.{Closed}
-use Rattle.rules.specs.Limits.{Limits}
 use Rattle.rules.specs.IndexMap.{Map}
-use Rattle.rules.specs.LinearComb.{LinearComb, gcdFrom, coefficientsGcd}
-use Rattle.rules.specs.LinearArithmetic.{isIntegerTimes, raised, floored, strengthen, allInt}
+use Rattle.rules.specs.LinearArithmetic.{isIntegerTimes, allInt}
 use Rattle.rules.specs.Premises.{wholeCoefficients}
-use Rattle.rules.proofs.Yields.{Yields, gives, and-then, by-test}
-use Rattle.terms.proofs.Truths.{if-either}
-use Rattle.rules.proofs.Valuations.{numberℚ, rationals, plus-stands}
+use Rattle.rules.proofs.Valuations.{numberℚ, rationals}
 use Rattle.rules.proofs.WholeNumbers.{mul-whole}
 use Rattle.rules.proofs.IndexMaps.{EntriesOf, total}
 use Rattle.rules.proofs.LinearWalk.{atoms}
 use Rattle.rules.proofs.Signs.{Nonneg, Positive, nonneg-as, positive-as, positive-add, nonneg-whole}
 use Rattle.rules.proofs.Signs.{positive-whole, positive-of-nonneg, at-most, _less_}
-use Rattle.rules.proofs.Says.{Says, is-zero, is-nonneg, is-positive}
-use Rattle.rules.proofs.Gaps.{Good, gap}
-use Rattle.rules.proofs.Gaps.{HoldingPair}
-use Rattle.rules.proofs.Multiples.{Multiple, of-one, each-of-one, gcdFrom-divides, WholeAtoms, WholeSum}
+use Rattle.rules.proofs.Weights.{number-unique}
+use Rattle.rules.proofs.Multiples.{Multiple, EachMultiple, of-one, each-of-one, WholeAtoms, WholeSum}
 use Rattle.rules.proofs.Multiples.{sum-multiple}
 
 -- ---- whole numbers among the rational ones
@@ -96,7 +93,24 @@ integer-of-whole a la z e =
 number-of-whole : (a : Rational) → isInteger a ≡ true → numberℚ a ≡ ι (a .num)
 number-of-whole a w = ap numberℚ (isInteger-whole a w) ∙ rationals .number-whole (a .num)
 
+floor-integer : (d : Rational) → isInteger (floorQ d) ≡ true
+unfolding floorQ isInteger
+floor-integer d = refl
+
+-- a whole number is its floor
+pub floor-of-whole : (d : Rational) → isInteger d ≡ true → floorQ d ≡ d
+unfolding floorQ
+floor-of-whole d w = ap floorQ (isInteger-whole d w) ∙ ap whole (at (d .num)) ∙ sym (isInteger-whole d w)
+  where
+    at : (z : ℤ) → floorZ z 1 ≡ z
+    at (pos n) = ap pos (div-one n)
+    at (negsuc n) = ap negsuc (div-one n)
+
 -- a whole constant times a whole argument is whole
+pub product-whole : (d a : Rational) → isInteger d ≡ true → isInteger a ≡ true → isInteger (mulQ d a) ≡ true
+unfolding isInteger
+product-whole d a v w = ap isInteger (mul-whole d a (isInteger-whole d v) (isInteger-whole a w))
+
 pub times-whole : (d a : Rational) → isInteger d ≡ true → isInteger a ≡ true → isIntegerTimes d a ≡ true
 unfolding isIntegerTimes isInteger
 times-whole d a v w =
@@ -105,7 +119,29 @@ times-whole d a v w =
     (λ t.
     if-either (λ b. b ≡ true) (eqQ a (whole (pos 1)))
     (λ u. v)
-    (λ u. ap isInteger (mul-whole d a (isInteger-whole d v) (isInteger-whole a w))))
+    (λ u. product-whole d a v w))
+
+-- the Rust's test, which leaves the product out for 0 and 1, is that of the product
+pub times-test : (d a : Rational) → Lowest d → Lowest a → isIntegerTimes d a ≡ isInteger (mulQ d a)
+unfolding isIntegerTimes
+times-test d a ld la =
+    let lp = rationals .good-mul d a ld la in
+    let is-product = rationals .number-mul d a ld la in
+    if-either (λ b. b ≡ isInteger (mulQ d a)) (isZero a)
+    (λ t.
+    sym
+    (integer-of-whole (mulQ d a) lp (pos 0)
+    (derive ℚring (numberℚ (mulQ d a) ∷ numberℚ d ∷ numberℚ a ∷ [])
+    (λ p d a. p ≐ 𝟘 from 𝟙 · p ≐ d ⊗ a and d · a ≐ 𝟘) tt is-product (rationals .number-zero a la t))))
+    (λ t.
+    if-either (λ b. b ≡ isInteger (mulQ d a)) (eqQ a (whole (pos 1)))
+    (λ u.
+    ap isInteger
+    (number-unique d (mulQ d a) ld lp
+    (derive ℚring (numberℚ (mulQ d a) ∷ numberℚ d ∷ numberℚ a ∷ [])
+    (λ p d a. d ≐ p from neg 𝟙 · p ≐ d ⊗ a and neg d · a ≐ 𝟙) tt is-product
+    (ap numberℚ (eqQ-eq a (whole (pos 1)) u) ∙ rationals .number-whole (pos 1)))))
+    (λ u. refl))
 
 -- ---- Int atoms
 
@@ -133,80 +169,46 @@ module _ {P : Term → Type 0} (closed : Closed P) (ρ : Assignment) where
         int-atoms even m gs (b .1),
       )
 
-  -- ---- the constant raised
+  -- ---- the bound raised
 
-  module _ (l : Limits) (s : LinearComb) (g : Good closed ρ s) where
-    abbrev d : Rational
-    d = s .constant
-
+  module _ (m : Map Term) (d : Rational) (ld : Lowest d) where
     abbrev f : Rational
     f = floorQ d
 
-    floor-integer : isInteger f ≡ true
-    unfolding floorQ isInteger
-    floor-integer = refl
+    -- the sum less d
+    abbrev gap : Rational → ℚ
+    gap d = total (atoms closed ρ) m less numberℚ d
 
-    floor-whole : numberℚ f ≡ ι (f .num)
-    floor-whole = number-of-whole f floor-integer
+    raised-follows : (k : ℕ) → WholeSum closed ρ k m → Multiple k (f .num) → Positive (gap d) →
+        Nonneg (gap (addQ f (whole (pos k))))
+    raised-follows k w z h =
+        let floor-whole = number-of-whole f (floor-integer d) in
+        nonneg-as
+        (ap₂ _less_ (sym (w .is))
+        (sym
+        (rationals .number-add f (whole (pos k)) (floor-lowest d) (rationals .good-whole (pos k))
+        ∙ ap₂ sum floor-whole (rationals .number-whole (pos k)))))
+        (whole-step k (w .whole) (f .num) (w .multiple) z
+        (positive-as
+        (derive ℚring (total (atoms closed ρ) m ∷ numberℚ d ∷ numberℚ f ∷ ι (w .whole) ∷ ι (f .num) ∷ [])
+        (λ t d f w z. t ⊖ d ⊕ (d ⊖ f) ≐ w ⊖ z from 𝟙 · t ≐ w and neg 𝟙 · f ≐ z) tt (w .is) floor-whole)
+        (positive-add _ _ h (at-most _ _ (floor-le d ld .le)))))
 
-    gcd-of-floored : coefficientsGcd (floored s) ≡ gcdFrom (f .num) (s .entries)
-    unfolding coefficientsGcd floorQ isInteger
-    gcd-of-floored = refl
+    module _ (v : WholeAtoms closed ρ m) (c : wholeCoefficients m ≡ true) where
+      pub raised-by-one : Positive (gap d) → Nonneg (gap (addQ f (whole (pos 1))))
+      raised-by-one = raised-follows 1 (sum-multiple closed ρ 1 m v c (each-of-one m)) (of-one (f .num))
 
-    raised-holds : (k : ℕ) → WholeSum closed ρ k (s .entries) → Multiple k (f .num) →
-        Positive (gap closed ρ s) →
-        Yields (HoldingPair closed ρ) (raised l (floored s) (pos k))
-    unfolding raised
-    raised-holds k w m h =
-        and-then (plus-stands rationals l f (whole (pos k)) (floor-lowest d) (rationals .good-whole (pos k)))
-        (λ c q.
-        gives
-        (record {
-          good = record { entries = g .entries; constant = q .good };
-          says =
-              is-nonneg
-              (nonneg-as
-              (ap₂ _less_ (sym (w .is)) (sym (q .is ∙ ap₂ sum floor-whole (rationals .number-whole (pos k)))))
-              (whole-step k (w .whole) (f .num) (w .multiple) m
-              (positive-as
-              (derive ℚring
-              (total (atoms closed ρ) (s .entries) ∷ numberℚ d ∷ numberℚ f ∷ ι (w .whole) ∷ ι (f .num) ∷ [])
-              (λ t d f w z. t ⊖ d ⊕ (d ⊖ f) ≐ w ⊖ z from 𝟙 · t ≐ w and neg 𝟙 · f ≐ z) tt (w .is) floor-whole)
-              (positive-add _ _ h (at-most _ _ (floor-le d (g .constant) .le))))));
-        }))
+      pub raised-by-divisor : (g : ℕ) → Multiple g (f .num) → EachMultiple g m → Positive (gap d) →
+          Nonneg (gap (addQ f (whole (pos g))))
+      raised-by-divisor g z e = raised-follows g (sum-multiple closed ρ g m v c e) z
 
-    module _ (v : WholeAtoms closed ρ (s .entries)) (c : wholeCoefficients (s .entries) ≡ true) where
-      by-one : Positive (gap closed ρ s) →
-          Yields (HoldingPair closed ρ) (raised l (floored s) (pos 1))
-      by-one =
-          raised-holds 1 (sum-multiple closed ρ 1 (s .entries) v c (each-of-one (s .entries)))
-          (of-one (f .num))
-
-      by-gcd : Positive (gap closed ρ s) →
-          Yields (HoldingPair closed ρ) (raised l (floored s) (coefficientsGcd (floored s)))
-      by-gcd h =
-          let q = gcdFrom-divides (f .num) (s .entries) in
-          subst
-          (λ (z : ℤ). Yields (HoldingPair closed ρ) (raised l (floored s) z)) (sym (gcd-of-floored ∙ q .is))
-          (raised-holds (q .divisor) (sum-multiple closed ρ (q .divisor) (s .entries) v c (q .each))
-          (q .constant) h)
-
-      -- a constant that times the argument is not whole is not the sum
-      apart : (a : Rational) → isInteger a ≡ true → isIntegerTimes d a ≡ false → gap closed ρ s ≡ ι (pos 0) → ⊥
-      apart a w t z =
-          let q = sum-multiple closed ρ 1 (s .entries) v c (each-of-one (s .entries)) in
-          let is-whole : isInteger d ≡ true =
-          integer-of-whole d (g .constant) (q .whole)
-          (derive ℚring (total (atoms closed ρ) (s .entries) ∷ numberℚ d ∷ ι (q .whole) ∷ [])
-          (λ t d w. d ≐ w from neg 𝟙 · t ⊖ d ≐ 𝟘 and 𝟙 · t ≐ w) tt z (q .is)) in
-          never (sym t ∙ times-whole d a is-whole w)
-
-      pub strengthen-holds : (a : Rational) → isInteger a ≡ true → {o : ℕ} →
-          Says o (gap closed ρ s) → Yields (HoldingPair closed ρ) (strengthen l o s a)
-      unfolding strengthen
-      strengthen-holds a w (is-zero h) = gives (record { good = g; says = is-zero h })
-      strengthen-holds a w (is-nonneg h) =
-          by-test (isIntegerTimes d a) _ _ (λ t. gives (record { good = g; says = is-nonneg h }))
-          (λ t. by-one (positive-of-nonneg _ h (apart a w t)))
-      strengthen-holds a w (is-positive h) =
-          by-test (isIntegerTimes d a) _ _ (λ t. by-gcd h) (λ t. by-one h)
+      -- a sum that is whole is above a bound that is not
+      pub above-fraction : isInteger d ≡ false → Nonneg (gap d) → Positive (gap d)
+      above-fraction t h =
+          positive-of-nonneg _ h λ z.
+          let q = sum-multiple closed ρ 1 m v c (each-of-one m) in
+          never
+          (sym t
+          ∙ integer-of-whole d ld (q .whole)
+          (derive ℚring (total (atoms closed ρ) m ∷ numberℚ d ∷ ι (q .whole) ∷ [])
+          (λ t d w. d ≐ w from neg 𝟙 · t ⊖ d ≐ 𝟘 and 𝟙 · t ≐ w) tt z (q .is)))

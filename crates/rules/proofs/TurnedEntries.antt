@@ -30,10 +30,7 @@ use Rattle.rules.specs.declared.polynomial.Made.the-variants as made
 use Rattle.rules.proofs.CheckedNumbers.{plus-value, plus-out}
 use Rattle.rules.proofs.StoredMonomials.{read-key, read-value}
 use Rattle.rules.proofs.TowerAreas.{tower-part, tower-less}
-
-pub refuses-then : {A B : Type 0} {c : ℕ} {d : Result A} (f : A → Result B) → Refuses c d → Refuses c (d >>= f)
-unfolding _>>=_
-refuses-then f why = record { reason = why .reason; is = rw (why .is); code = why .code }
+use Rattle.rules.proofs.Results.{refused-then}
 
 -- ---- entry k of an area
 
@@ -113,7 +110,7 @@ module _
       record {
         map = e .map;
         held = e .held;
-        is = (subst (Refuses c) then (refuses-then _ (e .is .0)), e .is .1);
+        is = (subst (Refuses c) then (refused-then _ (e .is .0)), e .is .1);
       }
 
 -- all n entries of area 1 are entered into the m of area 0
@@ -205,7 +202,7 @@ module _
       record {
         map = left .map;
         held = tower-less (left .map ∷ []) (cleared b _ (left .held) (omega arith) (has′ .size));
-        is = (refuses-then _ (left .is .0), left .is .1);
+        is = (refused-then _ (left .is .0), left .is .1);
       }
 
   module _

@@ -14,4 +14,7 @@ pub mod PolynomialRel
 pub mod Polynomial
 pub mod Premises
 pub mod Alethe
+pub mod AletheTerms
+pub mod AletheDifferences
+pub mod AletheExamples
 pub mod Computes

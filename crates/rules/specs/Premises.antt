@@ -41,8 +41,3 @@ wholeLiterals [] args inferred = true
 wholeLiterals (phi ∷ c) (a ∷ args) inferred = wholeGiven phi (asFraction unbounded a) && wholeLiterals c args inferred
 wholeLiterals (phi ∷ c) [] [] = true
 wholeLiterals (phi ∷ c) [] (q ∷ inferred) = wholeLiteral phi q && wholeLiterals c [] inferred
-
--- the numbers that a step's arguments are
-unfoldable pub givenArgs : List Term → List Rational
-givenArgs [] = []
-givenArgs (a ∷ args) = elim (asFraction unbounded a) [ Value q ↦ q ∷ givenArgs args | NotNumber ↦ givenArgs args | OutOfRange ↦ givenArgs args ]

@@ -1,159 +1,33 @@
 -- An inferred number as an argument: what is written behind the run and the tail.
---     arg-full, arg-written, arg-unwritten       an A record
---     constant-room, constant-full, constant-written, constant-unwritten       a constant behind those of the tail
 --     inside-tail, tail-stored, front-places       the tail that is written, as the front of its area
 --     real-full, real-in-book, real-in-tail, real-added       `addReal`: where the areas are full, and by where the constant stands
 use mathlib.Core.Path.{_≡_, refl, sym, ap, ap₂, subst, _∙_}
-use mathlib.Core.Bool.{Bool, true, false, _&&_}
-use mathlib.Core.List.{List, [], _∷_, _++_, append-assoc, append-nil}
+use mathlib.Core.Bool.{Bool, true, false}
+use mathlib.Core.List.{List, [], _∷_, _++_}
 use mathlib.Core.Option.{Option, some, none}
-use Prim.Native.Nat.{ℕ, _+_, _*_, _-_, _/_, _%_, _≤_, _<_}
+use Prim.Native.Nat.{ℕ, _+_, _-_, _/_, _≤_, _<_}
 use native.Mathlib.Nat.{sub-zero}
 use native.Mathlib.Omega.{arith}
 use borrow.Author.Tests.{lt-ltb, le-ltb}
-use lib.Dec.{leb}
+use lib.Dec.{ltb}
 use lib.ListN.{length, take, length-append, length-take}
-use lib.Seq.{paste}
 use Rattle.terms.specs.Rational.{Rational, Proper}
-use Rattle.terms.specs.Bytes.{Bytes, bytesOf}
+use Rattle.terms.specs.Bytes.{Bytes}
 use Rattle.terms.specs.Book.{count}
 use Rattle.runs.specs.Run.{A}
-use Rattle.runs.specs.Elaborate.{Written, written, realRecord, findReal, placeIn, recordBytes, withTail}
-use Rattle.runs.specs.Elaborate.{addReal, tailBytes}
-use Rattle.runs.specs.Demands.{Every, end, also}
-use Rattle.runs.specs.Lent.{placeOr, Stored, Holds, Writes, withArg, withConstant}
+use Rattle.runs.specs.Elaborate.{Written, written, findReal, placeIn, recordBytes, withTail}
+use Rattle.runs.specs.Elaborate.{addReal, tailBytes, fits}
+use Rattle.runs.specs.Demands.{Every}
+use Rattle.runs.specs.OutAreas.{Holds, Writing, Lies, Writes, WritesOne, withArg, withConstant}
+use Rattle.runs.specs.Lent.{placeOr}
+use Rattle.runs.specs.OutAreas.{more, moreReal}
 use Rattle.runs.specs.declared.farkas.Out.{Out}
-use Rattle.runs.proofs.Everywhere.{every-append}
-use Rattle.runs.proofs.RealRecord.{length-real}
 use Rattle.runs.proofs.ElaboratedSteps.{found-real}
 use Rattle.runs.proofs.WrittenSteps.{real-grows}
-use Rattle.runs.proofs.OutAreas.{Fit, fit-of, fits-of, unfit, Longer, holds-stored, stored-holds}
-use Rattle.runs.proofs.OutAreas.{fronts-same, writes-then, writes-as, writes-full}
-use Rattle.runs.proofs.OutAreas.{both-le, not-both, put-length, put-front, put-before, writes-run, unwritten-run}
-
--- ---- an A record
-
--- the bytes that the code puts
-abbrev argBytes : ℕ → Bytes
-argBytes n = A ∷ 0 ∷ n % 256 ∷ n / 256 % 256 ∷ []
-
-arg-longer : (n : ℕ) (w : Written) → Longer w (withArg n w)
-arg-longer n w = record { run = omega (arith, length-append (w .run) (recordBytes A 0 n)); tail = omega arith }
-
-module _ (b o t : Bytes) (out : Out) (n : ℕ) where
-  pub arg-full : out .full ≡ true → Writes b o t out o t out (withArg n)
-  arg-full e = writes-full b o t out (withArg n) e (arg-longer n)
-
-  -- r is the code's test
-  module _ (e : out .full ≡ false) {r : Bool} (goes : r ≡ (leb (out .run + 4) (length o) && leb (out .run + 4) 16384)) where
-    pub arg-written :
-        {o′ : Bytes} → r ≡ true → o′ ≡ paste o (out .run) (argBytes n) 4 →
-        Writes b o t out o′ t record { run = out .run + 4; tail = out .tail; full = out .full } (withArg n)
-    unfolding bytesOf
-    arg-written h p =
-        let x = both-le (out .run + 4) (length o) 16384 goes h in
-        subst
-        (λ o′. Writes b o t out o′ t record { run = out .run + 4; tail = out .tail; full = out .full } (withArg n))
-        (sym p)
-        (writes-run b o t out e (argBytes n) refl (x .0) (x .1))
-
-    pub arg-unwritten :
-        r ≡ false → Writes b o t out o t record { run = out .run; tail = out .tail; full = true } (withArg n)
-    unfolding bytesOf
-    arg-unwritten h =
-        unwritten-run b o t out e (argBytes n) refl (not-both (out .run + 4) (length o) 16384 goes h)
-
--- ---- a constant
-
-tail-snoc : (qs : List Rational) (q : Rational) → tailBytes (qs ++ q ∷ []) ≡ tailBytes qs ++ realRecord q
-unfolding tailBytes
-tail-snoc [] q = append-nil (realRecord q)
-tail-snoc (r ∷ qs) q =
-    ap (λ x. realRecord r ++ x) (tail-snoc qs q) ∙ sym (append-assoc (realRecord r) (tailBytes qs) (realRecord q))
-
-length-snoc : (qs : List Rational) (q : Rational) → length (qs ++ q ∷ []) ≡ length qs + 1
-length-snoc qs q = length-append qs (q ∷ [])
-
-pub constant-room :
-    (q : Rational) {x : Bytes} (at m n : ℕ) {r : Bool} → r ≡ (leb (at + 32) m && leb (at + 32) n) → r ≡ true →
-    x ≡ realRecord q → at + length x ≤ m
-constant-room q {x} at m n goes h put =
-    omega (arith, both-le (at + 32) m n goes h .0, ap length put ∙ length-real q)
-
-constant-longer : (q : Rational) (w : Written) → Longer w (withConstant q w)
-constant-longer q w = record { run = omega arith; tail = omega (arith, length-snoc (w .tail) q) }
-
-module _ (b o t : Bytes) (out : Out) (q : Rational) where
-  pub constant-full : out .full ≡ true → Writes b o t out o t out (withConstant q)
-  constant-full e = writes-full b o t out (withConstant q) e (constant-longer q)
-
-  -- the code counts n records; r is its test
-  module _ (e : out .full ≡ false) (n : ℕ) (counted : n ≡ count b)
-      {r : Bool} (goes : r ≡ (leb (out .tail + 32) (length t) && leb (out .tail + 32) (65536 - 32 * n))) where
-    pub constant-written :
-        {t′ x : Bytes} → Proper q → r ≡ true → x ≡ realRecord q → t′ ≡ paste t (out .tail) x (length x) →
-        Writes b o t out o t′ record { run = out .run; tail = out .tail + 32; full = out .full } (withConstant q)
-    constant-written {t′} {x} proper h put pasted =
-        record {
-          fronts = record { run = refl; tail = ap (take (out .tail)) p ∙ put-before t (out .tail) (realRecord q) room };
-          grows = record { run = omega arith; tail = omega arith };
-          holds = λ w g. holds w (holds-stored b o t out w e g);
-        }
-      where
-        least : out .tail + 32 ≤ 65536 - 32 * n
-        least = both-le (out .tail + 32) (length t) _ goes h .1
-
-        p : t′ ≡ paste t (out .tail) (realRecord q) (length (realRecord q))
-        p = pasted ∙ ap (λ x. paste t (out .tail) x (length x)) put
-
-        room : out .tail + length (realRecord q) ≤ length t
-        room = constant-room q (out .tail) (length t) _ goes h refl
-
-        size : length t′ ≡ length t
-        size = ap length p ∙ put-length t (out .tail) (realRecord q) room
-
-        front : take (out .tail + 32) t′ ≡ take (out .tail) t ++ realRecord q
-        front =
-            ap₂ (λ n x. take (out .tail + n) x) (sym (length-real q)) p ∙ put-front t (out .tail) (realRecord q) room
-
-        out′ : Out
-        out′ = record { run = out .run; tail = out .tail + 32; full = out .full }
-
-        holds : (w : Written) → Stored b o t out w → Holds b o t′ out′ (withConstant q w)
-        holds w s =
-            let f : Fit b (length o) (length t) w = fit-of (s .room) in
-            let more = length-snoc (w .tail) q in
-            stored-holds b o t′ out′ (withConstant q w) e
-            record {
-              room =
-                  fits-of
-                  record {
-                    run = f .run;
-                    tail = omega (arith, more, size, s .tailSize, room, length-real q);
-                    book = omega (arith, more, s .tailSize, least, counted);
-                    records = f .records;
-                  };
-              run = s .run;
-              runSize = s .runSize;
-              whole = s .whole;
-              tail = front ∙ ap (λ x. x ++ realRecord q) (s .tail) ∙ sym (tail-snoc (w .tail) q);
-              tailSize = omega (arith, more, s .tailSize);
-              proper = every-append (w .tail) (q ∷ []) (s .proper) (also proper end);
-            }
-
-    pub constant-unwritten :
-        r ≡ false → Writes b o t out o t record { run = out .run; tail = out .tail; full = true } (withConstant q)
-    constant-unwritten h =
-        record {
-          fronts = fronts-same;
-          grows = record { run = omega arith; tail = omega arith };
-          holds = λ w g.
-              let s = holds-stored b o t out w e g in
-              let more = length-snoc (w .tail) q in
-              unfit λ f.
-              not-both (out .tail + 32) (length t) (65536 - 32 * n) goes h (omega (arith, more, s .tailSize, f .tail))
-              (omega (arith, more, s .tailSize, f .book, counted));
-        }
+use Rattle.runs.proofs.OutAreas.{Fit, fit-of, Longer, holds-stored, stored-holds}
+use Rattle.runs.proofs.Pieces.{more-full, more-runs, writes-as, writes-full}
+use Rattle.runs.proofs.OutAreas.{writes-then}
+use Rattle.runs.proofs.AddedPieces.{arg-longer, constant-longer}
 
 -- ---- the place of a number in the tail
 
@@ -197,6 +71,10 @@ module _ (b : Bytes) (q : Rational) where
   unfolding addReal found
   added-is x e w = ap (λ y. added y w) e
 
+  abbrev WritesReal : Bytes → Bytes → Out → Bytes → Bytes → Out → Type 0
+  WritesReal o t out o′ t′ r =
+      Writes b o t out o′ t′ r (λ w. addReal b w q) (moreReal (fits b (length o) (length t)) b q)
+
   real-longer : (w : Written) → Longer w (addReal b w q)
   real-longer w =
       let grown = real-grows b w q in
@@ -205,9 +83,52 @@ module _ (b : Bytes) (q : Rational) where
         tail = omega (arith, ap length (grown .tail) ∙ length-append (w .tail) _);
       }
 
+  -- the pieces, by what was found and by whether the tail has the constant
+  module _ (f : Written → Bool) (s : Writing) where
+    abbrev place : ℕ
+    place = count b + placeIn (s .done .tail) q
+
+    abbrev piecesBy : Option ℕ → Bool → Writing
+    piecesBy x y = elim x [
+      | some i ↦ more f (withArg i) s
+      | none ↦ elim y [ true ↦ more f (withArg place) s | false ↦ more f (withArg place) (more f (withConstant q) s) ]
+    ]
+
+    pieces-by :
+        {x : Option ℕ} {y : Bool} → found ≡ x → ltb (placeIn (s .done .tail) q) (length (s .done .tail)) ≡ y →
+        moreReal f b q s ≡ piecesBy x y
+    unfolding moreReal found
+    pieces-by {x} d e =
+        ap (λ z. piecesBy z (ltb (placeIn (s .done .tail) q) (length (s .done .tail)))) d ∙ ap (piecesBy x) e
+
+    real-stays : s .full ≡ true → moreReal f b q s ≡ s
+    real-stays e = pieces-by refl refl ∙ go found (ltb (placeIn (s .done .tail) q) (length (s .done .tail)))
+      where
+        go : (x : Option ℕ) (y : Bool) → piecesBy x y ≡ s
+        go (some i) y = more-full f _ s e
+        go none true = more-full f _ s e
+        go none false = ap (more f (withArg place)) (more-full f _ s e) ∙ more-full f _ s e
+
+    -- the run does not become shorter
+    pub real-runs : length (s .done .run) ≤ length (moreReal f b q s .done .run)
+    real-runs =
+        subst (λ (z : Writing). length (s .done .run) ≤ length (z .done .run)) (sym (pieces-by refl refl))
+        (go found (ltb (placeIn (s .done .tail) q) (length (s .done .tail))))
+      where
+        arg : (n : ℕ) (z : Writing) → length (z .done .run) ≤ length (more f (withArg n) z .done .run)
+        arg n z = more-runs f (withArg n) z (λ w. arg-longer n w .run)
+
+        go : (x : Option ℕ) (y : Bool) → length (s .done .run) ≤ length (piecesBy x y .done .run)
+        go (some i) y = arg i s
+        go none true = arg place s
+        go none false =
+            let first = more-runs f (withConstant q) s (λ w. constant-longer q w .run) in
+            omega (arith, first, arg place (more f (withConstant q) s))
+
   pub real-full :
-      (o t : Bytes) (out : Out) → out .full ≡ true → Writes b o t out o t out (λ w. addReal b w q)
-  real-full o t out e = writes-full b o t out (λ w. addReal b w q) e real-longer
+      (o t : Bytes) (out : Out) → out .full ≡ true → WritesReal o t out o t out
+  real-full o t out e =
+      writes-full b o t out (λ w. addReal b w q) _ e real-longer (real-stays (fits b (length o) (length t)))
 
   -- the code counts n records and finds record i
   module _ (n i : ℕ) (counted : n ≡ count b) (looked : i ≡ placeOr (findReal (count b) b q 0) (count b)) where
@@ -228,9 +149,9 @@ module _ (b : Bytes) (q : Rational) where
         go none f e = refl
 
     pub real-in-book :
-        {o o′ t : Bytes} {out r : Out} → i < n → Writes b o t out o′ t r (withArg i) →
-        Writes b o t out o′ t r (λ w. addReal b w q)
-    real-in-book l x = writes-as x (λ w h. sym (added-is (some i) (in-book l) w))
+        {o o′ t : Bytes} {out r : Out} → i < n → WritesOne b o t out o′ t r (withArg i) → WritesReal o t out o′ t r
+    real-in-book l x =
+        writes-as x (λ w h. sym (added-is (some i) (in-book l) w)) (λ s h. sym (pieces-by _ s (in-book l) refl))
 
     module _ (l : n ≤ i) (k : ℕ) where
       lacked :
@@ -242,20 +163,38 @@ module _ (b : Bytes) (q : Rational) where
 
       module _ (o t : Bytes) (out : Out) (e : out .full ≡ false)
           (placed : (b o : Bytes) (w : Written) → out .full ≡ false → Holds b o t out w → k ≡ placeIn (w .tail) q) where
+        at-place : (s : Writing) → Lies b o t out s → k ≡ placeIn (s .done .tail) q
+        at-place s h = placed b o (s .done) e (stored-holds b o t out (s .done) e (h .stored))
+
         pub real-in-tail :
-            {o′ : Bytes} {r : Out} → k < out .tail / 32 → Writes b o t out o′ t r (withArg (n + k)) →
-            Writes b o t out o′ t r (λ w. addReal b w q)
+            {o′ : Bytes} {r : Out} → k < out .tail / 32 → WritesOne b o t out o′ t r (withArg (n + k)) →
+            WritesReal o t out o′ t r
         real-in-tail m x =
-            writes-as x λ w h.
+            writes-as x
+            (λ w h.
             let p = placed b o w e h in
             let s = holds-stored b o t out w e h in
-            lacked w (w .tail) p (tail-same (w .tail) q (omega (arith, m, p, s .tailSize)))
+            lacked w (w .tail) p (tail-same (w .tail) q (omega (arith, m, p, s .tailSize))))
+            (λ s h.
+            let p = at-place s h in
+            let inside : placeIn (s .done .tail) q < length (s .done .tail) = omega (arith, m, p, h .stored .tailSize) in
+            let f = fits b (length o) (length t) in
+            ap (λ j. more f (withArg j) s) (ap₂ _+_ counted p)
+            ∙ sym (pieces-by f s (not-in-book l) (lt-ltb _ _ inside)))
 
         pub real-added :
-            {o′ t′ : Bytes} {r s : Out} → out .tail / 32 ≤ k → Writes b o t out o t′ r (withConstant q) →
-            Writes b o t′ r o′ t′ s (withArg (n + k)) → Writes b o t out o′ t′ s (λ w. addReal b w q)
-        real-added m x y =
-            writes-as (writes-then x y) λ w h.
+            {o′ t′ : Bytes} {r s : Out} → out .tail / 32 ≤ k → WritesOne b o t out o t′ r (withConstant q) →
+            WritesOne b o t′ r o′ t′ s (withArg (n + k)) → WritesReal o t out o′ t′ s
+        real-added {t′ = t′} m x y =
+            writes-as (writes-then x y)
+            (λ w h.
             let p = placed b o w e h in
             let s = holds-stored b o t out w e h in
-            lacked w (w .tail ++ q ∷ []) p (tail-more (w .tail) q (omega (arith, m, p, s .tailSize)))
+            lacked w (w .tail ++ q ∷ []) p (tail-more (w .tail) q (omega (arith, m, p, s .tailSize))))
+            (λ s h.
+            let p = at-place s h in
+            let past : length (s .done .tail) ≤ placeIn (s .done .tail) q = omega (arith, m, p, h .stored .tailSize) in
+            let f = fits b (length o) (length t) in
+            ap (λ c. more (fits b (length o) c) (withArg (n + k)) (more f (withConstant q) s)) (x .tailLength)
+            ∙ ap (λ j. more f (withArg j) (more f (withConstant q) s)) (ap₂ _+_ counted p)
+            ∙ sym (pieces-by f s (not-in-book l) (le-ltb _ _ past)))

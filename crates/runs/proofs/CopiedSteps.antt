@@ -22,12 +22,13 @@ use Rattle.runs.specs.Run.{Step, Rec, rec, S, P, C, A, recs, leading, al
 use Rattle.runs.specs.StepParts.{leadingIn, afterIn, premisesIn, clauseIn, argsIn, bytesIn}
 use Rattle.runs.specs.StepParts.{headIn, stepIn, StandsIn}
 use Rattle.runs.specs.Elaborate.{recordBytes, premiseBytes, termBytes, elaboratedRule, stepBytes}
-use Rattle.runs.specs.Lent.{Writes, withStep}
+use Rattle.runs.specs.OutAreas.{WritesOne, withStep}
 use Rattle.runs.specs.declared.farkas.Out.{Out}
 use Rattle.runs.proofs.RunRecords.{recs-leading, numbers-of, rowsIn, step-taken, bytes-within, bytes-least}
 use Rattle.runs.proofs.RowRecords.{numberBytes, recordNumbers, premises-are-numbers, terms-are-numbers}
 use Rattle.runs.proofs.WrittenRuns.{whole-step}
-use Rattle.runs.proofs.OutAreas.{both-le, not-both, writes-full, writes-run, unwritten-run}
+use Rattle.runs.proofs.Pieces.{more-full, writes-full, writes-run, unwritten-run}
+use Rattle.runs.proofs.OutAreas.{both-le, not-both}
 use Rattle.runs.proofs.StepReading.{headOk}
 use Rattle.runs.proofs.Standing.{Tested, stands-tested, stands-record}
 
@@ -154,10 +155,10 @@ module _ {b run part : Bytes} (stands : StandsIn b run part) (small : Octets par
 
 -- the areas did not take what was written before
 pub add-nothing :
-    (b o t : Bytes) (out : Out) (s : Step) → out .full ≡ true → Writes b o t out o t out (withStep s)
+    (b o t : Bytes) (out : Out) (s : Step) → out .full ≡ true → WritesOne b o t out o t out (withStep s)
 add-nothing b o t out s full =
-    writes-full b o t out (withStep s) full λ w.
-    record { run = omega (arith, length-append (w .run) (stepBytes s)); tail = omega arith }
+    writes-full b o t out (withStep s) _ full
+    (λ w. record { run = omega (arith, length-append (w .run) (stepBytes s)); tail = omega arith }) (more-full _ _)
 
 set-behind : (x y : Bytes) (i a : ℕ) → set (x ++ y) (length x + i) a ≡ x ++ set y i a
 set-behind [] y i a = rw zero-add
@@ -187,7 +188,7 @@ module _ {b run part : Bytes} (stands : StandsIn b run part) (small : Octets par
   size : n ≡ length (stepBytes s)
   size = n-is ∙ sym (length-copied stands small)
 
-  pub add-full : r ≡ false → Writes b o t out o t record { run = out .run; tail = out .tail; full = true } (withStep s)
+  pub add-full : r ≡ false → WritesOne b o t out o t record { run = out .run; tail = out .tail; full = true } (withStep s)
   add-full left =
       unwritten-run b o t out free (stepBytes s) (whole-step s)
       (rw size at (not-both (out .run + n) (length o) 16384 goes left))
@@ -195,7 +196,7 @@ module _ {b run part : Bytes} (stands : StandsIn b run part) (small : Octets par
   pub add-copied :
       r ≡ true → {o₁ x : Bytes} → x ≡ take n part → o₁ ≡ paste o (out .run) x (length x) → {rule c : ℕ} →
       rule ≡ elaboratedRule c → c ≡ getD part 1 0 →
-      Writes b o t out (set o₁ (out .run + 1) rule) t record { run = out .run + n; tail = out .tail; full = out .full }
+      WritesOne b o t out (set o₁ (out .run + 1) rule) t record { run = out .run + n; tail = out .tail; full = out .full }
       (withStep s)
   add-copied taken {o₁} {x} x-is o₁-is {rule} rule-is c-is =
       let room = both-le (out .run + n) (length o) 16384 goes taken in

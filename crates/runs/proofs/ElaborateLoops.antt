@@ -1,5 +1,5 @@
--- `elaborate_steps` goes through a run as `check_steps` does (CheckLoops), and writes each step that is accepted: what is
--- written so far, and behind it what the steps that are left add, is what the whole run adds.
+-- `elaborate_steps` goes through a run as `check_steps` does (CheckLoops), and writes each step that is accepted:
+-- what is written so far, and behind it what the steps that are left add, is what the whole run adds.
 --     Given, Going, Turned       what is lent, how far the loop is, and what a turn leaves
 --     going-begin, going-refused, going-again, going-end       its turns
 use mathlib.Core.Path.{_≡_, refl, sym, ap, subst, _∙_}
@@ -15,7 +15,8 @@ use Rattle.runs.specs.Check.{Accepted, Marking, marking}
 use Rattle.runs.specs.Elaborate.{Written, written, addReals, addSteps}
 use Rattle.runs.specs.Demands.{stepsOf}
 use Rattle.runs.specs.StepParts.{stepIn, bytesIn}
-use Rattle.runs.specs.Lent.{Holds, withStep, SteppedIs, SteppedLeft, Elaborates}
+use Rattle.runs.specs.OutAreas.{Holds, withStep, moreStep, SteppedIs, SteppedLeft}
+use Rattle.runs.specs.Lent.{Elaborates}
 use Rattle.runs.specs.declared.check.Marked.{Marked}
 use Rattle.runs.specs.declared.farkas.Out.{Out}
 use Rattle.runs.specs.declared.farkas.Stepped.{Stepped}
@@ -67,6 +68,7 @@ pub record Turned
   pub more : at < length (g .run)
   pub left :
       SteppedLeft (g .book) o t out o′ t′ r (withStep (stepIn (g .book) (partFrom (g .run) at)))
+      (moreStep (g .book) (length o) (length t) (stepIn (g .book) (partFrom (g .run) at)) (g .limit) visits)
       (answerAt (g .book) (g .run) (g .limit) at visits)
   pub kept : work′ ≡ work
   pub runLength : length o′ ≡ length o

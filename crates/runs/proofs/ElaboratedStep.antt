@@ -1,11 +1,14 @@
 -- `elaborate_step`: the step's own records are written first, then the step is checked.
 --     six-stepped       rule 6: `bounded_farkas` goes on from there, with each number that it infers
 --     other-stepped       the other rules infer nothing, so what is written is the step
-use mathlib.Core.Path.{_≡_, sym, subst, _∙_}
-use mathlib.Core.List.{List, []}
-use Prim.Native.Nat.{ℕ}
+use mathlib.Core.Path.{_≡_, sym, ap, subst, _∙_}
+use mathlib.Core.Bool.{Bool}
+use mathlib.Core.List.{List, [], _∷_, _++_}
+use Prim.Native.Nat.{ℕ, _≤_}
+use native.Mathlib.Omega.{arith}
 use borrow.Author.Tests.{ne-eqb}
-use lib.ListN.{getD}
+use lib.ListN.{length, getD}
+use Rattle.terms.specs.Rational.{Rational}
 use Rattle.terms.specs.Bytes.{Bytes}
 use Rattle.rules.specs.Limits.{limited}
 use Rattle.rules.specs.LinearArithmetic.{laGenericPartial}
@@ -14,14 +17,26 @@ use Rattle.rules.specs.declared.linear_shapes.Verdict.{Verdict}
 use Rattle.rules.proofs.Yields.{weaker}
 use Rattle.runs.specs.Run.{Step}
 use Rattle.runs.specs.Check.{traced, checkStep}
-use Rattle.runs.specs.Elaborate.{addReals}
+use Rattle.runs.specs.Elaborate.{Written, addReals, fits}
 use Rattle.runs.specs.StepParts.{headIn, clauseIn, argsIn, stepIn}
-use Rattle.runs.specs.Lent.{visitsAfter, Holds, Writes, withStep, judgedAs, SteppedIs, SteppedLeft}
+use Rattle.runs.specs.OutAreas.{Holds, Writing, more, moreReal, moreReals, Lies, WritesOne, withStep}
+use Rattle.runs.specs.Lent.{visitsAfter}
+use Rattle.runs.specs.OutAreas.{judgedAs, farkasNumbers, stepNumbers, moreStep, SteppedIs, over, Leaves}
+use Rattle.runs.specs.OutAreas.{SteppedLeft}
 use Rattle.runs.specs.declared.farkas.Out.{Out}
 use Rattle.runs.specs.declared.farkas.Stepped.{Stepped}
-use Rattle.runs.proofs.OutAreas.{fronts-then}
+use Rattle.runs.proofs.OutAreas.{fronts-then, further}
+use Rattle.runs.proofs.AddedReals.{real-runs}
 use Rattle.runs.proofs.SecondMarking.{infers-nothing}
-use Rattle.runs.proofs.TracedFold.{judged-stepped}
+use Rattle.runs.proofs.TracedFold.{judged-stepped, judged-leaves}
+
+-- the run does not become shorter
+reals-runs :
+    (f : Written → Bool) (b : Bytes) (qs : List Rational) (s : Writing) →
+    length (s .done .run) ≤ length (moreReals f b qs s .done .run)
+unfolding moreReals
+reals-runs f b [] s = omega arith
+reals-runs f b (q ∷ qs) s = omega (arith, real-runs b q f s, reals-runs f b qs (moreReal f b q s))
 
 -- x is the byte of the rule
 module _ (b part : Bytes) (run : List Step) (x : ℕ) (x-is : x ≡ getD part 1 0) (l v : ℕ) where
@@ -36,31 +51,81 @@ module _ (b part : Bytes) (run : List Step) (x : ℕ) (x-is : x ≡ getD part 1 
   unfolding stepIn headIn
   other-rule other e = other (x-is ∙ e)
 
+  -- the numbers of the step
+  six-numbers :
+      x ≡ 6 → stepNumbers (limited l) (stepIn b part) v ≡
+      farkasNumbers (limited l) (termsIn b (clauseIn part)) (termsIn b (argsIn part)) v
+  unfolding stepNumbers stepIn headIn
+  six-numbers six = rw (sym x-is ∙ six)
+
+  no-numbers : (x ≡ 6 → ⊥) → stepNumbers (limited l) (stepIn b part) v ≡ []
+  unfolding stepNumbers
+  no-numbers other = rw (ne-eqb _ _ (other-rule other), stepNumbers)
+
   -- `add_step` left the out run o′ with the counts longer
-  module _ {o t : Bytes} {out : Out} {o′ : Bytes} {longer : Out} (added : Writes b o t out o′ t longer (withStep (stepIn b part))) where
+  module _ {o t : Bytes} {out : Out} {o′ : Bytes} {longer : Out} (added : WritesOne b o t out o′ t longer (withStep (stepIn b part))) where
+    abbrev takes : Written → Bool
+    takes = fits b (length o) (length t)
+
+    abbrev begun : Writing → Writing
+    begun = more takes (withStep (stepIn b part))
+
+    -- what the step leaves, with the numbers qs
+    abbrev Left : Bytes → Bytes → Stepped → List Rational → Writing → Type 0
+    Left o″ t″ r qs s = Leaves o t o″ t″ r (moreReals takes b qs (begun s))
+
+    left-six :
+        {o″ t″ : Bytes} {r : Stepped} (qs : List Rational) →
+        ((s : Writing) → Lies b o′ t longer s → Leaves o′ t o″ t″ r (moreReals (fits b (length o′) (length t)) b qs s)) →
+        (s : Writing) → Lies b o t out s → Left o″ t″ r qs s
+    unfolding over
+    left-six {o″} {t″} {r} qs leaves s h =
+        let lies = added .lies s h in
+        let z : Writing = moreReals takes b qs (begun s) in
+        let left : Leaves o′ t o″ t″ r z =
+        subst (λ n. Leaves o′ t o″ t″ r (moreReals (fits b n (length t)) b qs (begun s))) (added .runLength)
+        (leaves (begun s) lies)
+        in
+        let more : longer .run ≤ length (z .done .run) =
+        omega (arith, lies .stored .runSize, reals-runs takes b qs (begun s))
+        in
+        record {
+          run = left .run ∙ ap (λ y. z .done .run ++ y) (further o o′ more (added .backs .run));
+          tail = left .tail;
+          counts = left .counts;
+        }
+
     pub six-stepped :
         x ≡ 6 → {literals args : Bytes} → literals ≡ clauseIn part → args ≡ argsIn part → {o″ t″ : Bytes} {r : Stepped} →
         SteppedLeft b o′ t longer o″ t″ r (λ w. w)
+        (moreReals (fits b (length o′) (length t)) b (farkasNumbers (limited l) (termsIn b literals) (termsIn b args) v))
         (traced (laGenericPartial (limited l) (termsIn b literals) (termsIn b args) v)) →
-        SteppedLeft b o t out o″ t″ r (withStep (stepIn b part)) (checkStep (limited l) run (stepIn b part) v)
+        SteppedLeft b o t out o″ t″ r (withStep (stepIn b part))
+        (moreStep b (length o) (length t) (stepIn b part) l v) (checkStep (limited l) run (stepIn b part) v)
     six-stepped six {literals} {args} c-is a-is {o″} {t″} {r} left =
         let same :
         traced (laGenericPartial (limited l) (termsIn b literals) (termsIn b args) v) ≡
         checkStep (limited l) run (stepIn b part) v =
         rw (c-is, a-is) (sym (six-checks six))
         in
+        let numbers :
+        farkasNumbers (limited l) (termsIn b literals) (termsIn b args) v ≡ stepNumbers (limited l) (stepIn b part) v =
+        rw (c-is, a-is) (sym (six-numbers six))
+        in
         record {
           fronts = fronts-then (added .fronts) (added .grows) (left .fronts);
           is = λ w h.
               subst (SteppedIs b o″ t″ r (withStep (stepIn b part) w)) same
               (left .is (withStep (stepIn b part) w) (added .holds w h));
+          left = λ s h. subst (λ qs. Left o″ t″ r qs s) numbers (left-six _ (left .left) s h);
         }
 
     pub other-stepped :
         (x ≡ 6 → ⊥) → (a : Verdict) → a ≡ verdictOf (visitsAfter (checkStep (limited l) run (stepIn b part) v)) →
         (r : Stepped) → r ≡ judgedAs a longer →
-        SteppedLeft b o t out o′ t r (withStep (stepIn b part)) (checkStep (limited l) run (stepIn b part) v)
-    unfolding addReals
+        SteppedLeft b o t out o′ t r (withStep (stepIn b part))
+        (moreStep b (length o) (length t) (stepIn b part) l v) (checkStep (limited l) run (stepIn b part) v)
+    unfolding addReals moreReals
     other-stepped other a a-is r r-is =
         let d = checkStep (limited l) run (stepIn b part) v in
         record {
@@ -71,4 +136,7 @@ module _ (b part : Bytes) (run : List Step) (x : ℕ) (x-is : x ≡ getD part 1 
               (λ y none.
               subst (λ qs. Holds b o′ t longer (addReals b (withStep (stepIn b part) w) qs)) (sym none) (added .holds w h))
               (infers-nothing (limited l) run [] (stepIn b part) v (ne-eqb _ _ (other-rule other))));
+          left = λ s h.
+              subst (λ qs. Left o′ t r qs s) (sym (no-numbers other))
+              (judged-leaves (added .lies s h) (added .backs) a r r-is);
         }

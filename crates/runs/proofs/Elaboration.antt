@@ -1,5 +1,7 @@
--- Demand 3 (`demand3`): the elaboration of the accepted steps is accepted whole when it is marked again, infers nothing and is its own
--- elaboration, and every clause in it is true where the assumed ones are.
+-- Demand 3 (`demand3`), from its two halves. The elaboration of the accepted steps is accepted whole when it is
+-- marked again, infers nothing and is its own elaboration, where no bounded_farkas step has surplus arguments
+-- (`second-marking`). And every clause in it is true where the assumed ones are, under the premises on meaning
+-- (`clauses-true`).
 use mathlib.Core.Path.{_≡_, refl, sym, _∙_, ap, subst}
 use mathlib.Core.Bool.{Bool, true, false, _&&_}
 use mathlib.Core.List.{List, [], _∷_, _++_, append-assoc, append-nil}
@@ -24,18 +26,18 @@ use Rattle.runs.specs.Run.{Step, readRun, maxRunRecords}
 use Rattle.runs.specs.Check.{Marking, marking, checkSteps, mark}
 use Rattle.runs.specs.Elaborate.{Written, written, Answer, answer, addReals, addSteps, fits, elaborate}
 use Rattle.runs.specs.Elaborate.{tailBytes, area, writtenPart, elaboratedRule, stepBytes}
-use Rattle.runs.specs.Demands.{Every, end, also, AllPremises, Meets, Demand3, Elaboration, clauses}
+use Rattle.runs.specs.Demands.{Every, end, also, MeaningPremises, NoSurplus, writtenSteps, AcceptedAgain, clauses}
+use Rattle.runs.specs.Demands.{EveryClauseTrue, SecondMarking, ClausesTrue, Demand3}
 use Rattle.runs.proofs.OutAreas.{Fit, fit-of, fits-of}
 use Rattle.runs.proofs.WrittenRuns.{plainBytes, runBytes, AllWritable, whole-run, run-read-back, read-writable}
 use Rattle.runs.proofs.WrittenSteps.{reals, elaboratedSteps, steps-grow}
-use Rattle.runs.proofs.SecondMarking.{AllElaborate, finished, first, NoSurplus, untraced, marked-again}
+use Rattle.runs.proofs.SecondMarking.{AllElaborate, finished, first, untraced, marked-again}
 use Rattle.runs.proofs.RunTerms.{StepOf, run-of-book, run-ordered}
-use Rattle.runs.proofs.Meeting.{steps-meet, all-meet}
 use Rattle.runs.proofs.Truth.{AssumedTrue, AllTrue, accepted-true}
 use Rattle.runs.proofs.RealRecord.{Lacks}
 use Rattle.runs.proofs.TailBook.{TailOf, tail-read, tail-count}
 use Rattle.runs.proofs.WrittenTail.{GoodTail, steps-good, no-tail-good}
-use Rattle.runs.proofs.Storing.{steps-infer, steps-storable}
+use Rattle.runs.proofs.Storing.{Infers, steps-infer}
 use Rattle.runs.proofs.ElaboratedSteps.{Placed, steps-placed, elaborated-writable}
 use Rattle.runs.proofs.Everywhere.{every-weaker}
 use Rattle.runs.proofs.Unrefused.{Marked, unrefused, marked-is, answer-is}
@@ -88,12 +90,12 @@ module _ (b : Bytes) (t : List Rational) where
   assumed-back ρ [] h = end
   assumed-back ρ ((s, qs) ∷ xs) (also h hs) = also (λ e. h (zero-stays (s .rule) e)) (assumed-back ρ xs hs)
 
-  clauses-true :
+  elaborated-true :
       (ρ : Assignment) (xs : List (Step × List Rational)) → Every (λ x. T (holds ρ (x .0 .clause))) xs →
       Every (λ c. T (holds ρ c)) (clauses (elaboratedSteps b t xs))
   unfolding elaboratedSteps
-  clauses-true ρ [] h = end
-  clauses-true ρ ((s, qs) ∷ xs) (also h hs) = also h (clauses-true ρ xs hs)
+  elaborated-true ρ [] h = end
+  elaborated-true ρ ((s, qs) ∷ xs) (also h hs) = also h (elaborated-true ρ xs hs)
 
 -- ---- steps that infer nothing and are not of rule 6 are written as they are
 
@@ -131,9 +133,7 @@ answeredBy x w = answer (x .verdict) (length (x .steps)) (x .visits) (w .run) (t
 
 -- ---- one run
 
-module _
-    (book run : Bytes) (limit work outRun outTail : ℕ) (m : Marked book run limit work outRun outTail)
-    (g : AllPremises (mark (limited limit) book run .steps)) where
+module _ (book run : Bytes) (limit work outRun outTail : ℕ) (m : Marked book run limit work outRun outTail) where
   abbrev l : Limits
   l = limited limit
 
@@ -149,19 +149,15 @@ module _
   abbrev b′ : Bytes
   b′ = book ++ tailBytes (w .tail)
 
-  premises : AllPremises (c .steps)
-  premises = subst (λ (x : Marking). AllPremises (x .steps)) (marked-is m) g
-
   of-book : Every (StepOf (OfBook book (m .records))) (m .steps)
   of-book = at-ok (run-of-book book (m .records) (accepted-count book (m .records) (m .read)) run) (m .ran)
 
-  meets : Every (λ x. Meets (m .steps) (x .0) (x .1)) (c .steps)
-  meets =
-      all-meet (m .steps) (c .steps)
-      (steps-meet (book-closed book (m .records) (m .read)) l (m .steps) of-book (m .steps) of-book 0) premises
+  inferred : Every (λ x. Infers (x .0) (x .1)) (c .steps)
+  inferred = steps-infer (book-closed book (m .records) (m .read)) limit (m .steps) (m .steps) of-book 0
 
   good : GoodTail book (w .tail)
-  good = steps-good book (c .steps) (written [] []) (steps-storable limit (m .steps) (m .steps) 0 meets) (no-tail-good book)
+  good =
+      steps-good book (c .steps) (written [] []) (every-weaker (λ x h. h .stored) (c .steps) inferred) (no-tail-good book)
 
   fitting : Fit book outRun outTail w
   fitting = fit-of (m .fit)
@@ -187,8 +183,7 @@ module _
       (steps-placed book (c .steps) (written [] []) [])
 
   assumes-infer-nothing : Every (λ x. x .0 .rule ≡ 0 → x .1 ≡ []) (c .steps)
-  assumes-infer-nothing =
-      every-weaker (λ x h e. h .0 (rw e)) (c .steps) (steps-infer limit (m .steps) (m .steps) 0)
+  assumes-infer-nothing = every-weaker (λ x h e. h .by-six (rw e)) (c .steps) inferred
 
   writable : AllWritable b′ 0 es
   writable =
@@ -198,84 +193,108 @@ module _
   read-back : readRun b′ (runBytes es) ≡ ok es
   read-back = run-read-back b′ es writable (subst (λ r. length r / 4 ≤ maxRunRecords) run-is (fitting .records))
 
-  no-surplus : Every (λ x. NoSurplus (x .0)) (c .steps)
-  no-surplus = every-weaker (λ x p. p .noSurplus) (c .steps) premises
+  read-written : readRun b′ (w .run) ≡ ok es
+  read-written = subst (λ r. readRun b′ r ≡ ok es) (sym run-is) read-back
 
-  remarked : checkSteps l es es 0 ≡ marking 0 (untraced es) (c .visits)
-  remarked = marked-again l (m .steps) (at-ok (run-ordered book run) (m .ran)) es (all-elaborate book (w .tail) (c .steps)) no-surplus
+  -- ---- the second marking
 
-  -- ---- its own elaboration
+  module _ (g : Every (λ x. NoSurplus (x .0)) (mark l book run .steps)) where
+    no-surplus : Every (λ x. NoSurplus (x .0)) (c .steps)
+    no-surplus = subst (λ (x : Marking). Every (λ y. NoSurplus (y .0)) (x .steps)) (marked-is m) g
 
-  fits-again : fits b′ outRun outTail (written (runBytes es) []) ≡ true
-  fits-again =
-      let tails = tail-count book (m .records) (m .read) (w .tail) tail-of in
-      fits-of
-      record {
-        run = subst (λ r. length r ≤ outRun) run-is (fitting .run);
-        tail = omega arith;
-        book = omega (arith, tails, counted, fitting .book);
-        records = subst (λ r. length r / 4 ≤ maxRunRecords) run-is (fitting .records);
-      }
+    remarked : checkSteps l es es 0 ≡ marking 0 (untraced es) (c .visits)
+    remarked = marked-again l (m .steps) (at-ok (run-ordered book run) (m .ran)) es (all-elaborate book (w .tail) (c .steps)) no-surplus
 
-  written-again : addSteps b′ (written [] []) (untraced es) ≡ written (runBytes es) []
-  written-again = untraced-written b′ es (none-six book (w .tail) (c .steps)) (written [] [])
+    fits-again : fits b′ outRun outTail (written (runBytes es) []) ≡ true
+    fits-again =
+        let tails = tail-count book (m .records) (m .read) (w .tail) tail-of in
+        fits-of
+        record {
+          run = subst (λ r. length r ≤ outRun) run-is (fitting .run);
+          tail = omega arith;
+          book = omega (arith, tails, counted, fitting .book);
+          records = subst (λ r. length r / 4 ≤ maxRunRecords) run-is (fitting .records);
+        }
 
-  -- what an answer is by its marking
-  abbrev answered : Marking → Answer
-  answered x = answeredBy x (addSteps b′ (written [] []) (x .steps))
+    written-again : addSteps b′ (written [] []) (untraced es) ≡ written (runBytes es) []
+    written-again = untraced-written b′ es (none-six book (w .tail) (c .steps)) (written [] [])
 
-  second : Marked b′ (runBytes es) limit work outRun outTail
-  second =
-      record {
-        records = m .records + length (w .tail);
-        steps = es;
-        lent = m .lent;
-        read = tail-read book (m .records) (m .read) (w .tail) tail-of;
-        ran = read-back;
-        fit =
-            ap (λ (x : Marking). fits b′ outRun outTail (addSteps b′ (written [] []) (x .steps))) remarked
-            ∙ ap (fits b′ outRun outTail) written-again
-            ∙ fits-again;
-      }
+    second : Marked b′ (runBytes es) limit work outRun outTail
+    second =
+        record {
+          records = m .records + length (w .tail);
+          steps = es;
+          lent = m .lent;
+          read = tail-read book (m .records) (m .read) (w .tail) tail-of;
+          ran = read-back;
+          fit =
+              ap (λ (x : Marking). fits b′ outRun outTail (addSteps b′ (written [] []) (x .steps))) remarked
+              ∙ ap (fits b′ outRun outTail) written-again
+              ∙ fits-again;
+        }
 
-  again : elaborate b′ (runBytes es) limit work outRun outTail ≡ answer 0 (length (c .steps)) (c .visits) (runBytes es) []
-  unfolding tailBytes second
-  again =
-      answer-is second
-      ∙ ap answered remarked
-      ∙ ap (answeredBy (marking 0 (untraced es) (c .visits))) written-again
-      ∙ ap (λ n. answer 0 n (c .visits) (runBytes es) []) (untraced-length es ∙ elaborated-count book (w .tail) (c .steps))
+    again : elaborate b′ (runBytes es) limit work outRun outTail ≡ answer 0 (length (c .steps)) (c .visits) (runBytes es) []
+    unfolding tailBytes second
+    again =
+        answer-is second
+        ∙ ap (λ (x : Marking). answeredBy x (addSteps b′ (written [] []) (x .steps))) remarked
+        ∙ ap (answeredBy (marking 0 (untraced es) (c .visits))) written-again
+        ∙ ap (λ n. answer 0 n (c .visits) (runBytes es) []) (untraced-length es ∙ elaborated-count book (w .tail) (c .steps))
 
-  shown : writtenPart (area outRun (w .run)) (length (w .run)) ≡ runBytes es
-  shown =
-      part-written outRun (w .run) (subst (λ r. length r % 4 ≡ 0) (sym run-is) (whole-run es))
-      ∙ run-is
+    shown : writtenPart (area outRun (w .run)) (length (w .run)) ≡ runBytes es
+    shown =
+        part-written outRun (w .run) (subst (λ r. length r % 4 ≡ 0) (sym run-is) (whole-run es))
+        ∙ run-is
 
-  true-clauses :
-      (ρ : Assignment) → Every (λ s. s .rule ≡ 0 → T (holds ρ (s .clause))) es →
-      Every (λ k. T (holds ρ k)) (clauses es)
-  true-clauses ρ a =
-      let e = marked-is m in
-      clauses-true book (w .tail) ρ (c .steps)
-      (subst (λ (x : Marking). AllTrue ρ (x .steps)) e
-      (accepted-true book run limit ρ g
-      (subst (λ (x : Marking). AssumedTrue ρ (x .steps)) (sym e) (assumed-back book (w .tail) ρ (c .steps) a))))
+    elaboration-marked : AcceptedAgain book limit work outRun outTail (elaborate book run limit work outRun outTail)
+    elaboration-marked =
+        subst (AcceptedAgain book limit work outRun outTail) (sym (answer-is m))
+        record {
+          again =
+              ap (λ r. elaborate b′ r limit work outRun outTail) shown
+              ∙ again
+              ∙ ap (λ r. answer 0 (length (c .steps)) (c .visits) r []) (sym run-is);
+          steps = es;
+          read = read-written;
+          count = elaborated-count book (w .tail) (c .steps);
+          noRule6 = none-six book (w .tail) (c .steps);
+        }
 
-  elaboration : Elaboration book limit work outRun outTail (elaborate book run limit work outRun outTail)
-  elaboration =
-      subst (Elaboration book limit work outRun outTail) (sym (answer-is m))
-      record {
-        again =
-            ap (λ r. elaborate b′ r limit work outRun outTail) shown
-            ∙ again
-            ∙ ap (λ r. answer 0 (length (c .steps)) (c .visits) r []) (sym run-is);
-        steps = es;
-        read = subst (λ r. readRun b′ r ≡ ok es) (sym run-is) read-back;
-        count = elaborated-count book (w .tail) (c .steps);
-        noRule6 = none-six book (w .tail) (c .steps);
-        truth = true-clauses;
-      }
+  -- ---- truth
+
+  module _ (g : Every (λ x. MeaningPremises (x .0) (x .1)) (mark l book run .steps)) where
+    steps-true : EveryClauseTrue es
+    steps-true ρ a =
+        let e = marked-is m in
+        elaborated-true book (w .tail) ρ (c .steps)
+        (subst (λ (x : Marking). AllTrue ρ (x .steps)) e
+        (accepted-true book run limit ρ g
+        (subst (λ (x : Marking). AssumedTrue ρ (x .steps)) (sym e) (assumed-back book (w .tail) ρ (c .steps) a))))
+
+    -- what is read of the answer are these steps
+    elaboration-true :
+        (ss : List Step) → writtenSteps book (elaborate book run limit work outRun outTail) ≡ ok ss → EveryClauseTrue ss
+    elaboration-true ss e =
+        let read = subst (λ (a : Answer). writtenSteps book a ≡ ok ss) (answer-is m) e in
+        let same : es ≡ ss = cc read-written in
+        subst EveryClauseTrue same steps-true
+
+-- ---- the demand
+
+pub second-marking : SecondMarking
+second-marking book run limit work outRun outTail h =
+    elaboration-marked book run limit work outRun outTail (unrefused book run limit work outRun outTail h)
+
+pub clauses-true : ClausesTrue
+clauses-true book run limit work outRun outTail h =
+    elaboration-true book run limit work outRun outTail (unrefused book run limit work outRun outTail h)
 
 pub demand3 : Demand3
 demand3 book run limit work outRun outTail h g =
-    elaboration book run limit work outRun outTail (unrefused book run limit work outRun outTail h) g
+    let marked = second-marking book run limit work outRun outTail h (every-weaker (λ x p. p .noSurplus) _ g) in
+    record {
+      marked = marked;
+      truth =
+          clauses-true book run limit work outRun outTail h (every-weaker (λ x p. p .meaning) _ g) (marked .steps)
+          (marked .read);
+    }

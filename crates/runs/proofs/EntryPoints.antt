@@ -1,25 +1,20 @@
 -- What comes before the first step of a run and after the last.
---     ClearedTo, cleared-none, cleared-more, cleared-all, cleared-zeros       zeros from a byte on
 --     lent-short, lent-none, lent-much, lent-right       refusal 1 by its tests
 --     opens-unfit, opens-ready, opens-run, opens-refused       what `open` answers and leaves
 --     refused-marking, refused-elaborating       the marking where `open` refuses
 --     opened-read, opened-marking, opened-elaborating       the marking where it does not: that of the steps
 --     closes-full, closes-whole       the answer and both out areas, by whether all is written
---     elaborates-left       the answer and the memory of `elaborate`
 --     part-whole, part-long, part-broken       the written part of the out run
 use mathlib.Core.Path.{_≡_, refl, sym, ap, subst, _∙_}
 use mathlib.Core.Bool.{Bool, true, false}
-use mathlib.Core.List.{List, [], _++_, append-nil}
-use Prim.Native.Nat.{ℕ, _+_, _-_, _%_, _≤_, _<_}
+use mathlib.Core.List.{List, []}
+use Prim.Native.Nat.{ℕ, _-_, _%_, _≤_, _<_}
 use native.Mathlib.Nat.{sub-zero}
 use native.Mathlib.Omega.{arith}
-use borrow.Author.Fill.{fill-more}
 use borrow.Author.Tests.{eq-eqb, ne-eqb, le-leb, lt-leb}
-use lib.ListN.{length, take, drop, set, replicate, length-drop, length-set}
-use lib.ListN.{take-append-drop, drop-of-length-le}
-use lib.Seq.{take-set-le, drop-set-add}
+use lib.ListN.{length, take, replicate}
 use Rattle.terms.specs.Bytes.{Bytes}
-use Rattle.terms.specs.Book.{readBook, BookDone}
+use Rattle.terms.specs.Book.{readBook, recordsRead, putSorts, BookDone}
 use Rattle.terms.specs.declared.book.BookRead.{BookRead}
 use Rattle.terms.specs.declared.book.BookRead.the-variants.{Records, RefusedAt}
 use Rattle.rules.specs.Refusal.{Result}
@@ -31,65 +26,18 @@ use Rattle.rules.proofs.Prepared.{prepared}
 use Rattle.rules.proofs.Results.{code-none}
 use Rattle.runs.specs.Run.{Step, readRun}
 use Rattle.runs.specs.Check.{Marking, checkSteps, nothingMarked, markRun, mark, lentOk, check}
-use Rattle.runs.specs.Elaborate.{Written, written, tailBytes, addSteps, answer, elaborated}
-use Rattle.runs.specs.Elaborate.{elaborateUnder, elaborate, area, writtenPart}
-use Rattle.runs.specs.Demands.{Memory, zeros, answerTo, memoryAfter, KnownState, stepsOf}
-use Rattle.runs.specs.Lent.{lent, markedOf, elaboratedOf, openCode, zeroedFrom, Stored, Elaborates, Closes}
+use Rattle.runs.specs.Elaborate.{Written, written, tailBytes, addSteps, elaborated, area, writtenPart}
+use Rattle.runs.specs.Demands.{zeros, stepsOf}
+use Rattle.runs.specs.OutAreas.{Stored}
+use Rattle.runs.specs.Lent.{markedOf, openCode, openWork, Opens, zeroedFrom, Elaborates, Closes}
 use Rattle.runs.specs.declared.check.Marked.{Marked}
 use Rattle.runs.specs.declared.farkas.Out.{Out}
 use Rattle.runs.specs.declared.elaborate.Elaborating.{Elaborating}
-use Rattle.runs.specs.declared.elaborate.Elaborated.{Elaborated}
-use Rattle.runs.proofs.Memory.{tailBytes-length, demand1}
+use Rattle.runs.proofs.Memory.{tailBytes-length}
 use Rattle.runs.proofs.Unrefused.{BookEarly, book-early, answer-by}
 use Rattle.runs.proofs.Unrefused.BookEarly.{refuses-at}
 use Rattle.runs.proofs.Standing.{read-steps}
-use Rattle.runs.proofs.OutAreas.{none-fits, holds-none, holds-stored, holds-unfit}
-
--- ---- zeros from a byte on
-
--- w is d with zeros from byte n to byte k
-pub record ClearedTo (n : ℕ) (d w : Bytes) (k : ℕ) : Type 0 where
-  pub done : ℕ
-  pub place : k ≡ n + done
-  pub most : done ≤ length d - n
-  pub size : length w ≡ length d
-  pub front : take n w ≡ take n d
-  pub back : drop n w ≡ replicate done 0 ++ drop done (drop n d)
-
-module _ {n : ℕ} {d : Bytes} where
-  pub cleared-none : ClearedTo n d d n
-  cleared-none =
-      record { done = 0; place = omega arith; most = omega arith; size = refl; front = refl; back = refl }
-
-  module _ {w : Bytes} {k : ℕ} (c : ClearedTo n d w k) where
-    pub cleared-more : k < length d → ClearedTo n d (set w k 0) (k + 1)
-    cleared-more h =
-        let i = c .done in
-        let room : i < length (drop n d) = omega (arith, length-drop n d, c .place) in
-        record {
-          done = i + 1;
-          place = omega (arith, c .place);
-          most = omega (arith, c .place);
-          size = length-set w k 0 ∙ c .size;
-          front = take-set-le n w k 0 (omega (arith, c .place)) ∙ c .front;
-          back =
-              ap (λ j. drop n (set w j 0)) (c .place) ∙ drop-set-add n w i 0
-              ∙ ap (λ (x : Bytes). set x i 0) (c .back)
-              ∙ fill-more i 0 (drop n d) room;
-        }
-
-    pub cleared-all : length d ≤ k → w ≡ zeroedFrom n d
-    unfolding zeroedFrom
-    cleared-all h =
-        let all : c .done ≡ length d - n = omega (arith, c .place, c .most) in
-        let past : length (drop n d) ≤ c .done = omega (arith, length-drop n d) in
-        sym (take-append-drop n w)
-        ∙ rw (c .front, c .back, drop-of-length-le (drop n d) past, append-nil {A = ℕ} (replicate (c .done) 0), all)
-
--- all of an area of n bytes
-pub cleared-zeros : (w : Bytes) {w′ : Bytes} {n : ℕ} → w′ ≡ zeroedFrom 0 w → length w ≡ n → w′ ≡ replicate n 0
-unfolding zeroedFrom
-cleared-zeros w e size = e ∙ rw (sub-zero (length w), size)
+use Rattle.runs.proofs.OutAreas.{holds-none, holds-stored, holds-unfit}
 
 -- ---- refusals 1 to 7
 
@@ -127,38 +75,62 @@ module _ (b run : Bytes) (limit n : ℕ) {t : Bool} {x : BookRead} (e : lentOk n
   unfolding check mark
   mark-by = ap (λ s. markBy limit s (readBook b) (readRun b run)) e ∙ ap (λ s. markBy limit t s (readRun b run)) f
 
+-- the work area by the test and by what reading the book answers
+abbrev leftBy : Bytes → Bytes → BookRead → Bool → Bytes
+leftBy b w x t = elim t [ true ↦ putSorts (recordsRead x) b (zeros w) | false ↦ w ]
+
 -- the work area after the book was read
 pub opens-ready :
     {b w′ : Bytes} {r : BookRead} {n k : ℕ} → n ≡ 65536 → BookDone b (replicate n 0) w′ r → r ≡ Records k → Ready b w′
 opens-ready {b} {w′} {r} {k} size done e = prepared b w′ r k (rw size at done) e
 
-module _ (b run : Bytes) (limit n : ℕ) where
-  -- no book is refused by 0
-  book-refused : (i : ℕ) → readBook b ≡ RefusedAt 0 i → ⊥
-  book-refused i e = go (rw e at (book-early b))
-    where
-      go : BookEarly (RefusedAt 0 i) → ⊥
-      go (refuses-at early) = early
+-- no book is refused by 0
+book-refused : (b : Bytes) (i : ℕ) → readBook b ≡ RefusedAt 0 i → ⊥
+book-refused b i e = go (rw e at (book-early b))
+  where
+    go : BookEarly (RefusedAt 0 i) → ⊥
+    go (refuses-at early) = early
 
-  -- what `open` answers, and what it leaves
-  abbrev pub Opens : Bytes → ℕ → Type 0
-  Opens w′ r = (r ≡ openCode b run limit n) × (r ≡ 0 → Ready b w′)
+-- what `open` answers, and what it leaves
+module _ (b run : Bytes) (limit : ℕ) (w : Bytes) where
+  left-by : {t : Bool} → lentOk (length w) limit ≡ t → openWork b limit w ≡ leftBy b w (readBook b) t
+  unfolding openWork
+  left-by e = ap (leftBy b w (readBook b)) e
 
-  pub opens-unfit : {w′ : Bytes} → lentOk n limit ≡ false → Opens w′ 1
-  opens-unfit e = (sym (code-by b run limit n e refl), λ h. absurd (omega arith))
+  pub opens-unfit : lentOk (length w) limit ≡ false → Opens b run limit w w 1
+  opens-unfit e =
+      record {
+        code = sym (code-by b run limit (length w) e refl);
+        left = sym (left-by e);
+        ready = λ h. absurd (omega arith);
+      }
 
-  module _ (right : lentOk n limit ≡ true) {w′ : Bytes} {r : BookRead} (done : BookDone b (replicate n 0) w′ r) where
-    pub opens-run : {k c : ℕ} → n ≡ 65536 → r ≡ Records k → c ≡ codeOf (readRun b run) → Opens w′ c
+  module _ (right : lentOk (length w) limit ≡ true) {w′ : Bytes} {r : BookRead} (done : BookDone b (zeros w) w′ r) where
+    left-read : w′ ≡ openWork b limit w
+    left-read =
+        done .sorts ∙ ap (λ (x : BookRead). putSorts (recordsRead x) b (zeros w)) (done .is) ∙ sym (left-by right)
+
+    pub opens-run :
+        {k c : ℕ} → length w ≡ 65536 → r ≡ Records k → c ≡ codeOf (readRun b run) → Opens b run limit w w′ c
     opens-run size e h =
-        (h ∙ sym (code-by b run limit n right (sym (done .is) ∙ e)), λ z. opens-ready size done e)
+        record {
+          code = h ∙ sym (code-by b run limit (length w) right (sym (done .is) ∙ e));
+          left = left-read;
+          ready = λ z. opens-ready size done e;
+        }
 
-    pub opens-refused : {c i : ℕ} → r ≡ RefusedAt c i → Opens w′ c
+    pub opens-refused : {c i : ℕ} → r ≡ RefusedAt c i → Opens b run limit w w′ c
     opens-refused {i} e =
         let read = sym (done .is) ∙ e in
-        (sym (code-by b run limit n right read), λ z. absurd (book-refused i (rw z at read)))
+        record {
+          code = sym (code-by b run limit (length w) right read);
+          left = left-read;
+          ready = λ z. absurd (book-refused b i (rw z at read));
+        }
 
-  -- ---- the marking, by what `open` answered
+-- ---- the marking, by what `open` answered
 
+module _ (b run : Bytes) (limit n : ℕ) where
   abbrev stepsMarked : Marking
   stepsMarked = checkSteps (limited limit) (stepsOf b run) (stepsOf b run) 0
 
@@ -201,7 +173,7 @@ module _ (b run : Bytes) (limit n : ℕ) where
         go : (t : Bool) → lentOk n limit ≡ t → (x : BookRead) → readBook b ≡ x →
             0 ≡ codeBy t x (readRun b run) → Opened
         go false e x f h = absurd (omega arith)
-        go true e (RefusedAt c i) f h = absurd (book-refused i (rw (← h) at f))
+        go true e (RefusedAt c i) f h = absurd (book-refused b i (rw (← h) at f))
         go true e (Records k) f h =
             let passed = code-none (readRun b run) h in
             let same : stepsOf b run ≡ passed .value = read-steps b run (passed .value) (passed .is) in
@@ -268,45 +240,6 @@ module _ {b o t : Bytes} {e : Elaborating} {m : Marking} (h : Elaborates b o t e
         run = left ∙ zeroed-area _ _ (s .run) (s .runSize);
         tail = left-tail ∙ zeroed-area _ _ (s .tail) size;
       })
-
--- ---- the whole
-
--- where the work area or the limit is refused, nothing is written, and that fits
-elaborated-is :
-    (b run : Bytes) (limit n : ℕ) (o t : Bytes) →
-    elaborated b (length o) (length t) (check b run limit n) ≡ elaborate b run limit n (length o) (length t)
-unfolding check elaborate elaborateUnder addSteps tailBytes
-elaborated-is b run limit n o t = go (lentOk n limit)
-  where
-    go : (x : Bool) →
-        elaborated b (length o) (length t) (elim x [ true ↦ mark (limited limit) b run | false ↦ nothingMarked 1 ]) ≡
-        (elim x [
-          | true ↦ elaborated b (length o) (length t) (mark (limited limit) b run)
-          | false ↦ answer 1 0 0 [] []
-        ])
-    go true = refl
-    go false = answer-by b _ _ (nothingMarked 1) (none-fits b (length o) (length t))
-
--- what `elaborate` answers, and what it leaves
-abbrev Left : Memory → ℕ → Elaborated → Memory → Type 0
-Left m limit r after =
-    (r ≡ elaboratedOf (answerTo m limit)) × ((after ≡ memoryAfter m limit) × KnownState m after (answerTo m limit))
-
--- `opened` leaves the out areas o₁ and t₁, which `close` makes o₂ and t₂
-pub elaborates-left :
-    {b run w o t : Bytes} (limit : ℕ) {e : Elaborating} {r : Elaborated} {o₁ t₁ w₂ o₂ t₂ : Bytes} →
-    length o₁ ≡ length o → length t₁ ≡ length t → Elaborates b o₁ t₁ e (check b run limit (length w)) → w₂ ≡ zeros w →
-    ((b′ : Bytes) (m : Marking) → Elaborates b′ o₁ t₁ e m →
-    Closes r o₁ t₁ o₂ t₂ (elaborated b′ (length o₁) (length t₁) m)) →
-    Left (lent b run w o t) limit r (lent b run w₂ o₂ t₂)
-elaborates-left {b} {run} {w} {o} {t} limit {e} {r} {o₁} {t₁} {w₂} {o₂} {t₂} size size′ begun cleared closes =
-    let m : Memory = lent b run w o t in
-    let c : Marking = check b run limit (length w) in
-    let same = elaborated-is b run limit (length w) o t in
-    let is : elaborated b (length o₁) (length t₁) c ≡ answerTo m limit = rw (size, size′) same in
-    let closed : Closes r o₁ t₁ o₂ t₂ (answerTo m limit) = rw is at (closes b c begun) in
-    let after : lent b run w₂ o₂ t₂ ≡ memoryAfter m limit = rw (cleared, closed .run, closed .tail, size, size′) in
-    (closed .answered, (after, subst (λ x. KnownState m x (answerTo m limit)) (sym after) (demand1 .memory m limit)))
 
 -- ---- the written part of the out run
 

@@ -2,7 +2,7 @@
 -- don't stop, each verdict, inferred coefficient and elaborated step equals the Rust's'. Under any limits a
 -- step answers as in the Rust, or ends the marking by refusal 10, 11 or 12; any other marking is the Rust's
 -- (`mark-limits`), and so is its elaboration (`elaborateUnder-limits`). Then the same of the entry points,
--- which is demand 2's first half (`the-rusts-answers`).
+-- which is demand 2's first half, with the trace on (`the-rusts-answers`) and off (`the-rusts-marking`).
 use mathlib.Core.Path.{_≡_, refl, ap}
 use mathlib.Core.Bool.{Bool, true, false, _&&_, not}
 use mathlib.Core.List.{List, [], _∷_}
@@ -29,7 +29,7 @@ use Rattle.runs.specs.Check.{Accepted, Marking, clausesOf, checkStep, ma
 use Rattle.runs.specs.Check.{nothingMarked, markRun, mark, lentOk, check}
 use Rattle.runs.specs.Elaborate.{Answer, answer, written, addSteps, fits, elaborated, elaborateUnder}
 use Rattle.runs.specs.Elaborate.{elaborate}
-use Rattle.runs.specs.Demands.{isRefusal1to12, TheRustsAnswers}
+use Rattle.runs.specs.Demands.{isRefusal1to12, TheRustsAnswers, TheRustsMarking}
 
 -- ---- one step
 
@@ -173,3 +173,6 @@ unstopped v = go (leb 1 v) (leb v 12) refl refl
 pub the-rusts-answers : TheRustsAnswers
 the-rusts-answers book run limit work outRun outTail h =
     elaborate-limits book run limit work outRun outTail (unstopped _ h)
+
+pub the-rusts-marking : TheRustsMarking
+the-rusts-marking book run limit work h = check-limits book run limit work (unstopped _ h)

@@ -1,6 +1,7 @@
--- Demand 1: what the lent memory is afterwards, for all bytes, lengths and limits. What is written fits into
--- its area, for the elaboration is tested (`fits`). On a verdict from 1 to 8 nothing is written: 8 writes
--- nothing by definition, a book or run that is refused has no steps, and a rule refuses a step by 10 or later
+-- Demand 1: what the lent memory is afterwards, for all bytes, lengths and limits (`demand1`); and that `elaborate`,
+-- which marks with the trace on, answers with the verdict and the counts of `check` (`trace-on-and-off`). What is
+-- written fits into its area, for the elaboration is tested (`fits`). On a verdict from 1 to 8 nothing is written: 8
+-- writes nothing by definition, a book or run that is refused has no steps, and a rule refuses a step by 10 or later
 -- (rules/proofs/StepRefusals.antt), so a marking that has begun never ends by such a verdict.
 use mathlib.Core.Path.{_≡_, refl, sym, ap, _∙_}
 use mathlib.Core.Bool.{Bool, true, false}
@@ -30,7 +31,8 @@ use Rattle.runs.specs.Check.{Accepted, Marking, checkStep, marking, befo
 use Rattle.runs.specs.Check.{markRun, mark, lentOk, check}
 use Rattle.runs.specs.Elaborate.{Written, Answer, answer, realRecord, tailBytes, written}
 use Rattle.runs.specs.Elaborate.{addSteps, fits, elaborated, elaborateUnder, elaborate, area}
-use Rattle.runs.specs.Demands.{Memory, KnownState, Demand1, answerTo, memoryAfter, isRefusal1to8}
+use Rattle.runs.specs.Demands.{Memory, KnownState, Demand1, TraceMakesNoDifference, answerTo, memoryAfter}
+use Rattle.runs.specs.Demands.{checkOf, isRefusal1to8}
 use Rattle.runs.proofs.OutAreas.{Fit, fit-of, none-fits}
 
 -- ---- a step is refused by 10 or later
@@ -203,8 +205,7 @@ module _ (n : ℕ) (b : Bytes) where
 -- ---- the demand
 
 answers-to : (m : Memory) (limit : ℕ) →
-    Answers (length (m .outRun)) (length (m .outTail)) (check (m .book) (m .run) limit (length (m .work)))
-    (answerTo m limit)
+    Answers (length (m .outRun)) (length (m .outTail)) (checkOf m limit) (answerTo m limit)
 answers-to m limit = elaborate-answers _ _ (m .book) (m .run) limit (length (m .work))
 
 known-state : (m : Memory) (limit : ℕ) → KnownState m (memoryAfter m limit) (answerTo m limit)
@@ -223,11 +224,16 @@ known-state m limit =
     }
 
 pub demand1 : Demand1
-demand1 =
+demand1 = record { memory = known-state }
+
+-- ---- trace on and off
+
+pub trace-on-and-off : TraceMakesNoDifference
+trace-on-and-off m limit =
+    let a = answers-to m limit in
     record {
-      memory = known-state;
-      sameVerdict = λ m limit. answers-to m limit .sameVerdict;
-      nothingFits = λ m limit. answers-to m limit .nothingFits;
-      sameSteps = λ m limit. answers-to m limit .sameSteps;
-      sameVisits = λ m limit. answers-to m limit .sameVisits;
+      verdict = a .sameVerdict;
+      steps = a .sameSteps;
+      visits = a .sameVisits;
+      nothingFits = a .nothingFits;
     }

@@ -1,31 +1,28 @@
 -- The out areas while a run is elaborated.
---     fronts-same, fronts-then, grows-same, grows-then, writes-then       one write after another
+--     fronts-same, fronts-then, grows-same, grows-then, backs-same, backs-then, writes-then       one write after another
 --     holds-back       a refused step is taken back by the counts
 --     none-fits, holds-none       before the first step
 --     holds-stored, stored-holds, holds-unfit, unfit-holds       `Holds` where the areas are not full, and where they are
 --     both-le, both-fits, not-both       the code's test
 --     Fit, fit-of, fits-of, unfit, unfit-longer       `fits` as inequalities; what is longer than what does not fit does not fit
---     writes-as, writes-full       another name of what is written; nothing more is written where the areas are full
---     put-length, put-front, put-before       bytes put into an area
---     writes-run, unwritten-run       bytes behind those of the run, where there is room for them and where there is none
 use mathlib.Core.Path.{_≡_, refl, sym, ap, ap₂, subst, _∙_}
 use mathlib.Core.Bool.{Bool, true, false, _&&_}
-use mathlib.Core.List.{[], _++_}
-use Prim.Native.Nat.{ℕ, _+_, _*_, _/_, _%_, _≤_}
+use mathlib.Core.List.{[]}
+use Prim.Native.Nat.{ℕ, _+_, _*_, _-_, _/_, _≤_}
 use native.Mathlib.Omega.{arith}
 use borrow.Author.Needs.{fits-under}
 use borrow.Author.Tests.{leb-true, le-leb}
 use mir.Syntax.{w64}
 use mir.Val.{Fits}
 use lib.Dec.{leb}
-use lib.ListN.{length, take, length-append}
-use lib.Seq.{paste, take-take, take-length, take-at, length-take-le, take-paste, length-paste}
+use lib.ListN.{length, take, drop}
+use lib.Seq.{take-take, drop-drop}
 use Rattle.terms.specs.Bytes.{Bytes}
 use Rattle.terms.specs.Book.{count, maxRecords}
 use Rattle.terms.proofs.Truths.{both, never}
 use Rattle.runs.specs.Elaborate.{Written, written, tailBytes, fits}
 use Rattle.runs.specs.Demands.{end}
-use Rattle.runs.specs.Lent.{Stored, Holds, Fronts, Grows, Writes}
+use Rattle.runs.specs.OutAreas.{Stored, Holds, Fronts, Grows, Backs, Writing, Writes}
 use Rattle.runs.specs.declared.farkas.Out.{Out}
 
 -- ---- what fits
@@ -118,14 +115,34 @@ grows-same = record { run = omega arith; tail = omega arith }
 pub grows-then : {out r s : Out} → Grows out r → Grows r s → Grows out s
 grows-then g h = record { run = omega (arith, g .run, h .run); tail = omega (arith, g .tail, h .tail) }
 
+pub backs-same : {r : Out} {o t : Bytes} → Backs r o o t t
+backs-same = record { run = refl; tail = refl }
+
+-- what lies further behind stays too
+pub further : {m n : ℕ} (x y : Bytes) → m ≤ n → drop m y ≡ drop m x → drop n y ≡ drop n x
+further {m} {n} x y l e =
+    let same : m + (n - m) ≡ n = omega (arith, l) in
+    ap (λ k. drop k y) (sym same) ∙ sym (drop-drop (n - m) m y) ∙ ap (drop (n - m)) e ∙ drop-drop (n - m) m x
+    ∙ ap (λ k. drop k x) same
+
+pub backs-then :
+    {r s : Out} {o o′ o″ t t′ t″ : Bytes} → Backs r o o′ t t′ → Grows r s → Backs s o′ o″ t′ t″ → Backs s o o″ t t″
+backs-then {o = o} {o′} {t = t} {t′} x g y =
+    record { run = y .run ∙ further o o′ (g .run) (x .run); tail = y .tail ∙ further t t′ (g .tail) (x .tail) }
+
 pub writes-then :
-    {b o o′ o″ t t′ t″ : Bytes} {out r s : Out} {f g : Written → Written} → Writes b o t out o′ t′ r f →
-    Writes b o′ t′ r o″ t″ s g → Writes b o t out o″ t″ s (λ w. g (f w))
-writes-then {f = f} x y =
+    {b o o′ o″ t t′ t″ : Bytes} {out r s : Out} {f g : Written → Written} {f′ g′ : Writing → Writing} →
+    Writes b o t out o′ t′ r f f′ → Writes b o′ t′ r o″ t″ s g g′ →
+    Writes b o t out o″ t″ s (λ w. g (f w)) (λ z. g′ (f′ z))
+writes-then {f = f} {f′ = f′} x y =
     record {
       fronts = fronts-then (x .fronts) (x .grows) (y .fronts);
       grows = grows-then (x .grows) (y .grows);
+      backs = backs-then (x .backs) (y .grows) (y .backs);
+      runLength = y .runLength ∙ x .runLength;
+      tailLength = y .tailLength ∙ x .tailLength;
       holds = λ w h. y .holds (f w) (x .holds w h);
+      lies = λ z h. y .lies (f′ z) (x .lies z h);
     }
 
 -- ---- full or not
@@ -186,100 +203,3 @@ holds-none b o t =
       tailSize = refl;
       proper = end;
     }
-
--- ---- one write
-
-pub writes-as :
-    {b o o′ t t′ : Bytes} {out r : Out} {f g : Written → Written} → Writes b o t out o′ t′ r f →
-    ((w : Written) → Holds b o t out w → f w ≡ g w) → Writes b o t out o′ t′ r g
-writes-as {b} {o′ = o′} {t′ = t′} {r = r} x e =
-    record {
-      fronts = x .fronts;
-      grows = x .grows;
-      holds = λ w h. subst (Holds b o′ t′ r) (e w h) (x .holds w h);
-    }
-
-pub writes-full :
-    (b o t : Bytes) (out : Out) (f : Written → Written) → out .full ≡ true → ((w : Written) → Longer w (f w)) →
-    Writes b o t out o t out f
-writes-full b o t out f e l =
-    record {
-      fronts = fronts-same;
-      grows = grows-same;
-      holds = λ w h.
-          unfit-holds b o t out (f w) e
-          (unfit-longer b (length o) (length t) (l w) (holds-unfit b o t out w e h));
-    }
-
--- what stands before the bytes that are put, and the bytes with it
-module _ (x : Bytes) (at : ℕ) (p : Bytes) (h : at + length p ≤ length x) where
-  pub put-length : length (paste x at p (length p)) ≡ length x
-  put-length = length-paste x at p (length p) h (omega arith)
-
-  pub put-front : take (at + length p) (paste x at p (length p)) ≡ take at x ++ p
-  put-front =
-      take-paste x at p (length p) (omega (arith, h)) (omega arith) ∙ ap (λ y. take at x ++ y) (take-length p)
-
-  pub put-before : take at (paste x at p (length p)) ≡ take at x
-  put-before =
-      sym (take-take at (at + length p) _ (omega arith))
-      ∙ ap (take at) put-front
-      ∙ take-at (take at x) p at (length-take-le at x (omega (arith, h)))
-
-module _ (b o t : Bytes) (out : Out) (e : out .full ≡ false) (p : Bytes) (k : length p % 4 ≡ 0) where
-  run-size : (w : Written) → Stored b o t out w → length (w .run ++ p) ≡ out .run + length p
-  run-size w s = length-append (w .run) p ∙ ap (λ n. n + length p) (sym (s .runSize))
-
-  pub writes-run :
-      out .run + length p ≤ length o → out .run + length p ≤ 16384 →
-      Writes b o t out (paste o (out .run) p (length p)) t
-      record { run = out .run + length p; tail = out .tail; full = out .full }
-      (λ w. written (w .run ++ p) (w .tail))
-  writes-run h l =
-      record {
-        fronts = record { run = put-before o (out .run) p h; tail = refl };
-        grows = record { run = omega arith; tail = omega arith };
-        holds = λ w g. holds w (holds-stored b o t out w e g);
-      }
-    where
-      o′ : Bytes
-      o′ = paste o (out .run) p (length p)
-
-      r : Out
-      r = record { run = out .run + length p; tail = out .tail; full = out .full }
-
-      holds : (w : Written) → Stored b o t out w → Holds b o′ t r (written (w .run ++ p) (w .tail))
-      holds w s =
-          let size = run-size w s in
-          let f : Fit b (length o) (length t) w = fit-of (s .room) in
-          stored-holds b o′ t r (written (w .run ++ p) (w .tail)) e
-          record {
-            room =
-                fits-of
-                record {
-                  run = omega (arith, size, put-length o (out .run) p h, h);
-                  tail = f .tail;
-                  book = f .book;
-                  records = omega (arith, size, l);
-                };
-            run = put-front o (out .run) p h ∙ ap (λ x. x ++ p) (s .run);
-            runSize = sym size;
-            whole = omega (arith, size, k, s .whole, s .runSize);
-            tail = s .tail;
-            tailSize = s .tailSize;
-            proper = s .proper;
-          }
-
-  pub unwritten-run :
-      (out .run + length p ≤ length o → out .run + length p ≤ 16384 → ⊥) →
-      Writes b o t out o t record { run = out .run; tail = out .tail; full = true }
-      (λ w. written (w .run ++ p) (w .tail))
-  unwritten-run over =
-      record {
-        fronts = fronts-same;
-        grows = record { run = omega arith; tail = omega arith };
-        holds = λ w g.
-            let s = holds-stored b o t out w e g in
-            unfit λ f.
-            over (omega (arith, run-size w s, f .run)) (omega (arith, run-size w s, f .records, k, s .whole, s .runSize));
-      }

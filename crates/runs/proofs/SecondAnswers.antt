@@ -1,111 +1,34 @@
 -- `elaborate_again`: what is elaborated is marked again over book and tail, and both answers are compared.
---     has-room, joined-room, joined-none, end-room, end-none       book and tail one behind the other, and where they end
 --     agree-early .. agree-tail, agree-all       the comparison by its tests
---     whole-answer       what is written has whole records, so the written part of an out area is all of it
 --     Calls, marked-agreed, marked-none       the second marking
---     agrees-again       under demand 3's conditions both answers agree, since book and tail have at most 2,048 records
+--     agrees-again       where no bounded_farkas step has surplus arguments both answers agree, if there is room for book and tail
 --     both-markings       the two markings together
-use mathlib.Core.Path.{_≡_, refl, sym, ap, ap₂, subst, _∙_}
+use mathlib.Core.Path.{_≡_, refl, sym, ap, _∙_}
 use mathlib.Core.Bool.{Bool, true, false, _&&_, not, and-false}
-use mathlib.Core.List.{[], _++_}
-use Prim.Native.Nat.{ℕ, _+_, _*_, _-_, _%_, _≤_, _<_}
-use native.Mathlib.Nat.{sub-zero, zero-add}
+use mathlib.Core.List.{[]}
+use Prim.Native.Nat.{ℕ, _+_, _-_, _≤_, _<_}
+use native.Mathlib.Nat.{sub-zero}
 use native.Mathlib.Omega.{arith}
-use borrow.Author.Tests.{leb-true, le-leb, lt-leb, eq-eqb, ne-eqb}
+use borrow.Author.Tests.{le-leb, lt-leb, eq-eqb, ne-eqb}
 use lib.Dec.{T, eqb, leb}
-use lib.ListN.{length, take, replicate, length-append, length-replicate}
-use lib.Seq.{paste, take-append-seam}
+use lib.ListN.{length, take, replicate, length-replicate}
+use lib.Seq.{take-append-seam}
 use Rattle.terms.specs.Bytes.{Bytes}
 use Rattle.terms.specs.Book.{sameBytes}
 use Rattle.terms.proofs.Truths.{T-true}
-use Rattle.terms.proofs.Accepted.{accepted-count}
 use Rattle.terms.proofs.Records.{sameBytes-refl}
 use Rattle.rules.specs.Limits.{limited}
-use Rattle.runs.specs.Check.{Marking, mark, lentOk, checkSteps}
-use Rattle.runs.specs.Elaborate.{Written, written, Answer, answer}
-use Rattle.runs.specs.Elaborate.{addSteps}
-use Rattle.runs.specs.Elaborate.{fits, elaborated, elaborateUnder, elaborate, area, writtenPart}
-use Rattle.runs.specs.Demands.{Memory, answerTo, memoryAfter, zeros, isRefusal1to8, AllPremises}
-use Rattle.runs.specs.Lent.{zeroedFrom, elaboratedOf, lent}
+use Rattle.runs.specs.Check.{mark}
+use Rattle.runs.specs.Elaborate.{Answer, answer, area, writtenPart}
+use Rattle.runs.specs.Demands.{Every, Memory, answerTo, memoryAfter, zeros, isRefusal1to8, NoSurplus}
+use Rattle.runs.specs.Lent.{elaboratedOf, lent}
 use Rattle.runs.specs.Again.{Second, joinedBook, elaboratedBook, answerAgain, agree, agreesAgain}
-use Rattle.runs.specs.Again.{secondAfter, MarkedAgain}
+use Rattle.runs.specs.Again.{MarkedAgain}
+use Rattle.runs.specs.EntryPoints.{ElaborateDone, AgainDone}
 use Rattle.runs.specs.declared.elaborate.Elaborated.{Elaborated}
-use Rattle.runs.proofs.Unrefused.{chosen, by-lent, Marked, unrefused, answer-is}
-use Rattle.runs.proofs.Elaboration.{part-written, demand3}
-use Rattle.runs.proofs.Memory.{tailBytes-length}
-use Rattle.runs.proofs.OutAreas.{Fit, fit-of, put-length, put-front}
-use Rattle.runs.proofs.TailBook.{read-length}
-use Rattle.runs.proofs.WrittenRuns.{whole-run}
-use Rattle.runs.proofs.WrittenSteps.{steps-grow}
-
--- ---- book and tail one behind the other
-
-module _ (book tail joined : Bytes) where
-  abbrev size : ℕ
-  size = length book + length tail
-
-  -- what `join` answers and leaves
-  abbrev Joined : Bool → Bytes → Type 0
-  Joined r left = (r ≡ leb size (length joined)) × (left ≡ area (length joined) (joinedBook (length joined) book tail))
-
-  -- by the test of the room
-  abbrev joinedBy : Bool → Bytes
-  joinedBy t = elim t [ true ↦ book ++ tail | false ↦ [] ]
-
-  joined-by : {t : Bool} → leb size (length joined) ≡ t → joinedBook (length joined) book tail ≡ joinedBy t
-  unfolding joinedBook
-  joined-by e = ap joinedBy e
-
-  pub has-room : {r : Bool} → r ≡ leb size (length joined) → r ≡ true → size ≤ length joined
-  has-room r-is taken = leb-true size (length joined) (sym r-is ∙ taken)
-
-  pub joined-room :
-      {r : Bool} → r ≡ leb size (length joined) → r ≡ true → (one two left : Bytes) →
-      one ≡ paste joined 0 book (length book) → two ≡ paste one (length book) tail (length tail) →
-      left ≡ zeroedFrom size two → Joined true left
-  unfolding zeroedFrom area
-  joined-room {r} r-is taken one two left one-is two-is left-is =
-      let e : leb size (length joined) ≡ true = sym r-is ∙ taken in
-      let h : size ≤ length joined = has-room r-is taken in
-      let long : length one ≡ length joined =
-      ap length one-is ∙ put-length joined 0 book (omega arith)
-      in
-      let long′ : length two ≡ length joined =
-      ap length two-is ∙ put-length one (length book) tail (omega (arith, long)) ∙ long
-      in
-      let front : take (length book) one ≡ book =
-      ap₂ take (sym (zero-add (length book))) one-is ∙ put-front joined 0 book (omega arith)
-      in
-      let both-are : take size two ≡ book ++ tail =
-      ap (take size) two-is ∙ put-front one (length book) tail (omega (arith, long)) ∙ ap (λ z. z ++ tail) front
-      in (
-        sym e,
-        left-is ∙ rw (joined-by e, both-are, long′, length-append book tail),
-      )
-
-  pub joined-none :
-      {r : Bool} → r ≡ leb size (length joined) → r ≡ false → (left : Bytes) → left ≡ zeroedFrom 0 joined →
-      Joined false left
-  unfolding zeroedFrom area
-  joined-none {r} r-is fails left left-is =
-      let e : leb size (length joined) ≡ false = sym r-is ∙ fails in
-      (sym e, left-is ∙ rw (joined-by e))
-
-  -- where the joined book ends
-  pub end-room :
-      {r : Bool} → r ≡ leb size (length joined) → r ≡ true → {end : ℕ} → end ≡ size →
-      end ≡ length (joinedBook (length joined) book tail)
-  end-room r-is taken e = e ∙ sym (ap length (joined-by (sym r-is ∙ taken)) ∙ length-append book tail)
-
-  pub end-none :
-      {r : Bool} → r ≡ leb size (length joined) → r ≡ false → {end : ℕ} → end ≡ 0 →
-      end ≡ length (joinedBook (length joined) book tail)
-  end-none r-is fails e = e ∙ sym (ap length (joined-by (sym r-is ∙ fails)))
-
--- what is written to an area is not longer than it
-pub area-holds : (n : ℕ) (b : Bytes) {end : ℕ} {left : Bytes} → end ≡ length b → left ≡ area n b → end ≤ length left
-unfolding area
-area-holds n b e left-is = omega (arith, e, ap length left-is, length-append b (replicate (n - length b) 0))
+use Rattle.runs.proofs.Elaboration.{part-written, second-marking}
+use Rattle.runs.proofs.JoinedBook.{joined-by}
+use Rattle.runs.proofs.ElaboratePromise.{WholeAnswer, whole-answer, unrefused-first, promised}
 
 -- ---- the comparison
 
@@ -165,43 +88,14 @@ module _ (a c : Elaborated) (run again : Bytes) where
   agree-all early v s n t e =
       compared-is (e ∙ rw (early, eq-eqb _ 0 v, eq-eqb _ _ s, eq-eqb _ _ n, eq-eqb _ 0 t))
 
--- ---- what is written has whole records
-
-record WholeAnswer (a : Answer) : Type 0 where
-  run : length (a .run) % 4 ≡ 0
-  tail : length (a .tail) % 4 ≡ 0
-
-nothing-whole : (v s n : ℕ) → WholeAnswer (answer v s n [] [])
-nothing-whole v s n = record { run = refl; tail = refl }
-
-whole-elaborated : (book : Bytes) (r t : ℕ) (m : Marking) → WholeAnswer (elaborated book r t m)
-unfolding elaborated
-whole-elaborated book r t m = go (fits book r t (addSteps book (written [] []) (m .steps)))
-  where
-    go : (x : Bool) → WholeAnswer (chosen book r t m x)
-    go true =
-        record {
-          run = rw (steps-grow book (m .steps) (written [] []) .run []) (whole-run _);
-          tail = omega (arith, tailBytes-length (addSteps book (written [] []) (m .steps) .tail));
-        }
-    go false = nothing-whole 8 _ _
-
-whole-answer : (book run : Bytes) (limit work r t : ℕ) → WholeAnswer (elaborate book run limit work r t)
-unfolding elaborate elaborateUnder
-whole-answer book run limit work r t = go (lentOk work limit)
-  where
-    go : (x : Bool) → WholeAnswer (by-lent book run limit work r t x)
-    go true = whole-elaborated book r t (mark (limited limit) book run)
-    go false = nothing-whole 1 0 0
-
 -- ---- the second marking
 
 -- the part of an area up to a byte, as it is lent
 abbrev pub upTo : ℕ → Bytes → Bytes
 upTo end b = take (end - 0) b
 
--- what the calls of `mark_again` answer and leave: the written parts of the first out areas, the joined book, the second
--- answer
+-- what the calls of `mark_again` answer and leave: the written parts of the first out areas, the joined book, the
+-- second answer
 pub record Calls
     (book : Bytes) (limit : ℕ) (work o t : Bytes) (first : Elaborated) (s : Second) (w : Bytes) (s′ : Second) : Type 0 where
   pub run : Bytes
@@ -329,81 +223,53 @@ module _ (m : Memory) (limit : ℕ) (s : Second) where
   abbrev a : Answer
   a = answerTo m limit
 
-  room :
-      Marked (m .book) (m .run) limit (length (m .work)) (length (m .outRun)) (length (m .outTail)) →
-      length (m .book) + length (a .tail) ≤ 65536
-  room u =
-      let w : Written = addSteps (m .book) (written [] []) (checkSteps (limited limit) (u .steps) (u .steps) 0 .steps) in
-      let long : length (a .tail) ≡ 32 * length (w .tail) =
-      ap (λ (z : Answer). length (z .tail)) (answer-is u) ∙ tailBytes-length (w .tail)
-      in
-      let fit : Fit (m .book) (length (m .outRun)) (length (m .outTail)) w = fit-of (u .fit) in
-      let read = read-length (m .book) (u .records) (u .read) in
-      omega (arith, long, read, accepted-count (m .book) (u .records) (u .read), fit .book)
-
   pub agrees-again :
-      T (not (isRefusal1to8 (a .verdict))) → AllPremises (mark (limited limit) (m .book) (m .run) .steps) →
-      65536 ≤ length (s .joined) → length (s .outRun) ≡ length (m .outRun) →
+      T (not (isRefusal1to8 (a .verdict))) → Every (λ x. NoSurplus (x .0)) (mark (limited limit) (m .book) (m .run) .steps) →
+      length (m .book) + length (a .tail) ≤ length (s .joined) → length (s .outRun) ≡ length (m .outRun) →
       length (s .outTail) ≡ length (m .outTail) → agreesAgain m limit s ≡ true
   unfolding agreesAgain answerAgain
-  agrees-again free premises large run tail =
-      let u = unrefused (m .book) (m .run) limit (length (m .work)) (length (m .outRun)) (length (m .outTail)) free in
-      let fit : leb (length (m .book) + length (a .tail)) (length (s .joined)) ≡ true =
-      le-leb (length (m .book) + length (a .tail)) (length (s .joined)) (omega (arith, room u))
-      in
-      let elaboration =
-      demand3 (m .book) (m .run) limit (length (m .work)) (length (m .outRun)) (length (m .outTail)) free premises
+  agrees-again free surplus room run tail =
+      let fit : leb (length (m .book) + length (a .tail)) (length (s .joined)) ≡ true = le-leb _ _ room in
+      let second =
+      second-marking (m .book) (m .run) limit (length (m .work)) (length (m .outRun)) (length (m .outTail)) free surplus
       in
       let is : answerAgain m limit s ≡ answer 0 (a .steps) (a .visits) (a .run) [] =
-      rw (joined-by (m .book) (a .tail) (s .joined) fit, run, tail) (elaboration .again)
+      rw (joined-by (m .book) (a .tail) (s .joined) fit, run, tail) (second .again)
       in
       rw (fit, is) (agrees-same a free)
 
 -- ---- both markings
 
--- what `elaborate_again` answers and leaves: first and o, t of the first marking, again and w, s′ of the second
+-- `elaborate` answered first and left work, o and t; the second marking answered again and left w and s′
 module _
-    (m : Memory) (limit : ℕ) (s : Second) {first : Elaborated} (first-is : first ≡ elaboratedOf (answerTo m limit))
-    {work o t : Bytes} (after-is : lent (m .book) (m .run) work o t ≡ memoryAfter m limit)
-    {again : Bool} {w : Bytes} {s′ : Second}
+    (m : Memory) (limit : ℕ) (s : Second) {first : Elaborated} {work o t : Bytes}
+    (done : ElaborateDone m limit (lent (m .book) (m .run) work o t) first) {again : Bool} {w : Bytes} {s′ : Second}
     (marks :
     (n : Memory) → n .book ≡ m .book → length (n .work) ≡ length work → first ≡ elaboratedOf (answerTo n limit) →
     o ≡ memoryAfter n limit .outRun → t ≡ memoryAfter n limit .outTail → MarkedAgain n limit s again w s′) where
   o-after : o ≡ memoryAfter m limit .outRun
-  o-after = ap (λ (z : Memory). z .outRun) after-is
+  o-after = ap (λ (z : Memory). z .outRun) (done .left)
 
   t-after : t ≡ memoryAfter m limit .outTail
-  t-after = ap (λ (z : Memory). z .outTail) after-is
+  t-after = ap (λ (z : Memory). z .outTail) (done .left)
 
   second-marked : MarkedAgain m limit s again w s′
   second-marked =
       let long : length work ≡ length (m .work) =
-      ap (λ (z : Memory). length (z .work)) after-is ∙ length-replicate (length (m .work)) 0
+      ap (λ (z : Memory). length (z .work)) (done .left) ∙ length-replicate (length (m .work)) 0
       in
-      marks m refl (sym long) first-is o-after t-after
+      marks m refl (sym long) (done .answered) o-after t-after
 
   pub both-markings :
-      (first ≡ elaboratedOf (answerTo m limit))
-      × ((again ≡ agreesAgain m limit s)
-      × ((lent (m .book) (m .run) w o t ≡ memoryAfter m limit)
-      × ((s′ ≡ secondAfter m limit s)
-      × (T (not (isRefusal1to8 (first .verdict))) → AllPremises (mark (limited limit) (m .book) (m .run) .steps) →
-      65536 ≤ length (s .joined) → length (s .outRun) ≡ length (m .outRun) →
-      length (s .outTail) ≡ length (m .outTail) → again ≡ true))))
-  both-markings = (
-    first-is,
-    (
-      second-marked .answered,
-      (
-        rw (o-after, t-after, second-marked .cleared),
-        (
-          second-marked .left,
-          λ free premises large run tail.
-              second-marked .answered
-              ∙ agrees-again m limit s
-              (subst (λ (z : Elaborated). T (not (isRefusal1to8 (z .verdict)))) first-is free)
-              premises large run tail,
-        ),
-      ),
-    ),
-  )
+      AgainDone m limit s (lent (m .book) (m .run) w o t) s′ (record { first = first; again = again })
+  both-markings =
+      let size : length (answerTo m limit .tail) ≡ first .tail = sym (ap (λ (z : Elaborated). z .tail) (done .answered)) in
+      record {
+        first = promised m limit (done .answered) (rw (o-after, t-after, second-marked .cleared));
+        again = second-marked .answered;
+        left = second-marked .left;
+        agrees = λ applies room run tail.
+            second-marked .answered
+            ∙ agrees-again m limit s (unrefused-first m limit (done .answered) (applies .free)) (applies .noSurplus)
+            (omega (arith, size, room)) run tail;
+      }

@@ -24,7 +24,7 @@ use Rattle.runs.specs.Run.{Step, step}
 use Rattle.runs.specs.Check.{Accepted, accepted, traced, clausesOf, checkStep, Marking, marking, before}
 use Rattle.runs.specs.Check.{checkSteps}
 use Rattle.runs.specs.Elaborate.{elaboratedRule}
-use Rattle.runs.specs.Demands.{Every, end, also}
+use Rattle.runs.specs.Demands.{Every, end, also, NoSurplus}
 use Rattle.runs.proofs.RunTerms.{Ordered, one, next}
 
 -- e is s elaborated: rule 6 is 5, and the numbers that s inferred stand behind its arguments as real constants
@@ -42,10 +42,6 @@ pub data AllElaborate : List (Step × List Rational) → List Step → Type 0 wh
   first :
       {s : Step} {qs : List Rational} {ss : List (Step × List Rational)} {e : Step} {es : List Step} →
       Elaborates s qs e → AllElaborate ss es → AllElaborate ((s, qs) ∷ ss) (e ∷ es)
-
--- demand 3's premise: no rule 6 step has more arguments than literals
-abbrev pub NoSurplus : Step → Type 0
-NoSurplus s = s .rule ≡ 6 → length (s .args) ≤ length (s .clause)
 
 -- steps that infer nothing
 abbrev pub untraced : List Step → List (Step × List Rational)

@@ -26,7 +26,7 @@ use Rattle.runs.proofs.Memory.{Early}
 use Rattle.runs.proofs.RunTerms.{markBook}
 
 -- none of refusals 1 to 8
-abbrev Free : ℕ → Type 0
+abbrev pub Free : ℕ → Type 0
 Free v = T (not (isRefusal1to8 v))
 
 early-not-free : {A : Type 0} (v : ℕ) → Early v → Free v → A
@@ -120,14 +120,14 @@ run-early book run = search (along-run, steps-early)
 
 -- ---- a marking whose verdict is none of these
 
-record Ran (book run : Bytes) : Type 0 where
-  records : ℕ
-  steps : List Step
-  read : readBook book ≡ Records records
-  ran : readRun book run ≡ ok steps
+pub record Ran (book run : Bytes) : Type 0 where
+  pub records : ℕ
+  pub steps : List Step
+  pub read : readBook book ≡ Records records
+  pub ran : readRun book run ≡ ok steps
 
 module _ (l : Limits) (book run : Bytes) where
-  free-ran : Free (mark l book run .verdict) → Ran book run
+  pub free-ran : Free (mark l book run .verdict) → Ran book run
   unfolding mark markRun
   free-ran = by-book (readBook book) refl (book-early book)
     where

@@ -7,7 +7,7 @@ use lib.Dec.{eqb, leb}
 use lib.ListN.{getD}
 use Rattle.terms.specs.Rational.{Rational}
 use Rattle.terms.specs.Bytes.{Bytes}
-use Rattle.terms.specs.Book.{readBook}
+use Rattle.terms.specs.Book.{readBook, refusalOf}
 use Rattle.terms.specs.declared.book.BookRead.the-variants.{Records, RefusedAt}
 use Rattle.rules.specs.Refusal.{Result, _>>=_, number}
 use Rattle.rules.specs.Refusal.Result.{ok, refused}
@@ -102,7 +102,10 @@ markRun l (ok ss) = checkSteps l ss ss 0
 markRun l (refused r) = nothingMarked (number r)
 
 unfoldable pub mark : Limits → Bytes → Bytes → Marking
-mark l book run = elim (readBook book) [ Records n ↦ markRun l (readRun book run) | RefusedAt c i ↦ nothingMarked c ]
+mark l book run = elim (readBook book) [
+  | Records n ↦ markRun l (readRun book run)
+  | RefusedAt c i ↦ nothingMarked (refusalOf (RefusedAt c i))
+]
 
 -- a work area of 65,536 bytes and a limit from 1 to 1,000,000
 abbrev pub lentOk : ℕ → ℕ → Bool

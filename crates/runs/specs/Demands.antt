@@ -1,22 +1,28 @@
--- The three demands, as statements over the definitions, for all bytes, lengths, limits and lent memory. Each part is commented with
--- the sentence that it renders. Nothing is proved here: proofs/Memory, proofs/Meeting and proofs/Elaboration prove demands 1, 2 and 3 of the definitions.
+-- The three demands, as statements over the definitions, for all bytes, lengths, limits and lent memory. Each part is
+-- commented with the sentence that it renders. Nothing is proved here: proofs/Memory proves demand 1 and that the
+-- trace makes no difference, proofs/Meeting demand 2, proofs/Elaboration demand 3 and its two halves, the second
+-- marking and the truth of the clauses.
 use mathlib.Core.Path.{_≡_}
 use mathlib.Core.Bool.{Bool, _&&_, _||_, not}
 use mathlib.Core.List.{List, [], _∷_, _++_}
+use mathlib.Core.Logic.{_⊎_}
 use Prim.Native.Nat.{ℕ, _-_, _≤_}
 use lib.Dec.{T, eqb, leb}
-use lib.ListN.{length, replicate}
+use lib.ListN.{length, replicate, getD}
 use Rattle.terms.specs.Rational.{Rational}
 use Rattle.terms.specs.Bytes.{Bytes}
 use Rattle.terms.specs.Term.{Term}
 use Rattle.terms.specs.Smtlib.{Assignment, holds}
+use Rattle.rules.specs.Refusal.{Result}
 use Rattle.rules.specs.Refusal.Result.{ok, refused}
 use Rattle.rules.specs.Limits.{theRust, limited}
 use Rattle.rules.specs.LinearArithmetic.{Clause}
-use Rattle.rules.specs.Premises.{allEven, wholeLiterals, givenArgs}
+use Rattle.rules.specs.Premises.{allEven, wholeLiterals}
 use Rattle.rules.specs.Alethe as Alethe
-use Rattle.runs.specs.Run.{Step, readRun}
-use Rattle.runs.specs.Check.{mark, check, clausesOf}
+use Rattle.rules.specs.AletheDifferences.{NegativeEquality, QuotientBound, VanishingMonomial, WholeBounds}
+use Rattle.rules.specs.AletheDifferences.{NoZeroArgument}
+use Rattle.runs.specs.Run.{Step, step, readRun}
+use Rattle.runs.specs.Check.{Marking, mark, check, clausesOf}
 use Rattle.runs.specs.Elaborate.{Answer, answer, elaborateUnder, elaborate, area, writtenPart}
 
 -- P holds of each element
@@ -70,54 +76,70 @@ pub record KnownState (m after : Memory) (a : Answer) : Type 0 where
   pub refusedRun : T (isRefusal1to8 (a .verdict)) → after .outRun ≡ zeros (m .outRun)
   pub refusedTail : T (isRefusal1to8 (a .verdict)) → after .outTail ≡ zeros (m .outTail)
 
--- That every entry point finishes and puts no condition on its caller is the code's proof; that it refuses by document 01's table is
--- its contract, which equates the answer with `elaborate` and `check`. The two give one verdict and one count, refusal 8 aside, which
--- does not arise where nothing was accepted: so 1 to 7 come before it.
+-- That every entry point finishes and puts no condition on its caller is the code's proof; that it refuses by
+-- document 01's table is its contract, which equates the answer with `elaborate` and `check`.
 pub record Demand1 : Type 0 where
   pub memory : (m : Memory) (limit : ℕ) → KnownState m (memoryAfter m limit) (answerTo m limit)
-  pub sameVerdict :
-      (m : Memory) (limit : ℕ) → (answerTo m limit .verdict ≡ 8 → ⊥) →
-      answerTo m limit .verdict ≡ check (m .book) (m .run) limit (length (m .work)) .verdict
-  pub nothingFits :
-      (m : Memory) (limit : ℕ) → check (m .book) (m .run) limit (length (m .work)) .steps ≡ [] →
-      answerTo m limit .verdict ≡ check (m .book) (m .run) limit (length (m .work)) .verdict
-  pub sameSteps :
-      (m : Memory) (limit : ℕ) → answerTo m limit .steps ≡ length (check (m .book) (m .run) limit (length (m .work)) .steps)
-  pub sameVisits :
-      (m : Memory) (limit : ℕ) → answerTo m limit .visits ≡ check (m .book) (m .run) limit (length (m .work)) .visits
+
+-- ---- trace on and off
+
+-- `elaborate` marks with the trace on, `check` with it off
+abbrev pub checkOf : Memory → ℕ → Marking
+checkOf m limit = check (m .book) (m .run) limit (length (m .work))
+
+-- the two give one verdict and one count
+pub record TraceOnAndOff (m : Memory) (limit : ℕ) : Type 0 where
+  -- one verdict, but that '8 is tested after the marking and replaces the run's verdict'
+  pub verdict : (answerTo m limit .verdict ≡ 8 → ⊥) → answerTo m limit .verdict ≡ checkOf m limit .verdict
+  -- 'accepted steps and visits stay in the answer', under refusal 8 too
+  pub steps : answerTo m limit .steps ≡ length (checkOf m limit .steps)
+  pub visits : answerTo m limit .visits ≡ checkOf m limit .visits
+  -- refusal 8 does not arise where nothing was accepted: so 1 to 7 come before it
+  pub nothingFits : checkOf m limit .steps ≡ [] → answerTo m limit .verdict ≡ checkOf m limit .verdict
+
+-- for all lent memory and limits
+abbrev pub TraceMakesNoDifference : Type 0
+TraceMakesNoDifference = (m : Memory) (limit : ℕ) → TraceOnAndOff m limit
 
 -- ---- demand 3's premises on the accepted steps
 
-pub record Premises (s : Step) (inferred : List Rational) : Type 0 where
+-- what the truth of its clause needs
+pub record MeaningPremises (s : Step) (inferred : List Rational) : Type 0 where
   -- 'each div of two written numbers with a nonzero divisor comes out even'
   pub evenDivs : T (allEven (s .clause) && allEven (s .args))
-  -- 'in la_generic and bounded_farkas each literal whose atoms, after cancelling, are all Int has whole coefficients and a whole argument,
-  -- given or inferred'
+  -- 'in la_generic and bounded_farkas each literal whose atoms, after cancelling, are all Int has whole coefficients
+  -- and a whole argument, given or inferred'
   pub whole : T (eqb (s .rule) 5 || eqb (s .rule) 6) → T (wholeLiterals (s .clause) (s .args) inferred)
-  -- 'no bounded_farkas step has more arguments than literals'
-  pub noSurplus : s .rule ≡ 6 → length (s .args) ≤ length (s .clause)
+
+-- what its second marking needs: 'no bounded_farkas step has more arguments than literals'
+abbrev pub NoSurplus : Step → Type 0
+NoSurplus s = s .rule ≡ 6 → length (s .args) ≤ length (s .clause)
+
+pub record Premises (s : Step) (inferred : List Rational) : Type 0 where
+  pub meaning : MeaningPremises s inferred
+  pub noSurplus : NoSurplus s
 
 abbrev pub AllPremises : List (Step × List Rational) → Type 0
 AllPremises = Every (λ x. Premises (x .0) (x .1))
 
 -- ---- demand 2: the Rust's answers
 
--- a step meets its rule as the Alethe specification words it; run has the clauses of the steps before it
-pub data Meets (run : List Step) (s : Step) (inferred : List Rational) : Type 0 where
-  assume : s .rule ≡ 0 → Meets run s inferred
-  laRwEq : (phi : Term) → s .rule ≡ 1 → s .clause ≡ phi ∷ [] → Alethe.LaRwEq phi → Meets run s inferred
-  laDisequality :
-      (phi : Term) → s .rule ≡ 2 → s .clause ≡ phi ∷ [] → Alethe.LaDisequality phi → Meets run s inferred
-  laTotality : (phi : Term) → s .rule ≡ 3 → s .clause ≡ phi ∷ [] → Alethe.LaTotality phi → Meets run s inferred
-  laTautology :
-      (phi : Term) → s .rule ≡ 4 → s .clause ≡ phi ∷ [] → Alethe.LaTautology phi → Meets run s inferred
+-- a step meets its rule as the Alethe specification words it, or by one of the departures that are granted; run has
+-- the clauses of the steps before it
+pub data Meets (by : Alethe.Departures) (run : List Step) (s : Step) (inferred : List Rational) : Type 0 where
+  assume : s .rule ≡ 0 → Meets by run s inferred
+  laRwEq : (phi : Term) → s .rule ≡ 1 → s .clause ≡ phi ∷ [] → Alethe.LaRwEq phi → Meets by run s inferred
+  laDisequality : (phi : Term) → s .rule ≡ 2 → s .clause ≡ phi ∷ [] → Alethe.LaDisequality phi → Meets by run s inferred
+  laTotality : (phi : Term) → s .rule ≡ 3 → s .clause ≡ phi ∷ [] → Alethe.LaTotality phi → Meets by run s inferred
+  laTautology : (phi : Term) → s .rule ≡ 4 → s .clause ≡ phi ∷ [] → Alethe.LaTautology by phi → Meets by run s inferred
   laGeneric :
-      T (eqb (s .rule) 5 || eqb (s .rule) 6) →
-      Alethe.LaGeneric (s .clause) (givenArgs (s .args) ++ inferred) → Meets run s inferred
-  polySimp : (phi : Term) → s .rule ≡ 7 → s .clause ≡ phi ∷ [] → Alethe.PolySimp phi → Meets run s inferred
+      (qs : List Rational) → s .rule ≡ 5 → Alethe.Arguments (s .args) qs → Alethe.LaGeneric by (s .clause) qs →
+      Meets by run s inferred
+  boundedFarkas : s .rule ≡ 6 → Alethe.BoundedFarkas by (s .clause) (s .args) inferred → Meets by run s inferred
+  polySimp : (phi : Term) → s .rule ≡ 7 → s .clause ≡ phi ∷ [] → Alethe.PolySimp by phi → Meets by run s inferred
   polySimpRel :
       (premise phi : Term) → s .rule ≡ 8 → clausesOf run (s .premises) ≡ (premise ∷ []) ∷ [] → s .clause ≡ phi ∷ [] →
-      Alethe.PolySimpRel premise phi → Meets run s inferred
+      Alethe.PolySimpRel by premise phi → Meets by run s inferred
 
 -- the steps of a run over a book
 abbrev pub stepsOf : Bytes → Bytes → List Step
@@ -127,27 +149,66 @@ stepsOf book run = elim (readRun book run) [ ok ss ↦ ss | refused r ↦ [] ]
 abbrev pub isRefusal1to12 : ℕ → Bool
 isRefusal1to12 v = leb 1 v && leb v 12
 
--- 'On every book and run that refusals 1 to 12 don't stop, each verdict, inferred coefficient and elaborated step equals the Rust's'
+-- 'On every book and run that refusals 1 to 12 don't stop, each verdict, inferred coefficient and elaborated step
+-- equals the Rust's'
 abbrev pub TheRustsAnswers : Type 0
 TheRustsAnswers =
     (book run : Bytes) (limit work outRun outTail : ℕ) →
     T (not (isRefusal1to12 (elaborate book run limit work outRun outTail .verdict))) →
     elaborate book run limit work outRun outTail ≡ elaborateUnder theRust book run outRun outTail
 
--- demand 3's premises are needed of a step of rule 5 or 6 alone
-abbrev pub NeededPremises : Step → List Rational → Type 0
-NeededPremises s inferred = T (eqb (s .rule) 5 || eqb (s .rule) 6) → Premises s inferred
+-- with the trace off: verdict, accepted steps, their visits and inferred numbers
+abbrev pub TheRustsMarking : Type 0
+TheRustsMarking =
+    (book run : Bytes) (limit work : ℕ) →
+    T (not (isRefusal1to12 (check book run limit work .verdict))) → check book run limit work ≡ mark theRust book run
 
--- 'and meets definitions written from the Alethe specification and SMT-LIB's theories': every accepted step does, one of rule 5 or 6 where
--- demand 3's premises hold of it. Without them the Rust accepts steps that the specification does not (K10: docs/DIFFERENCES.md).
+-- 'and meets definitions written from the Alethe specification and SMT-LIB's theories': every accepted step does, by
+-- the specification's words or by a departure that has a name
 abbrev pub MeetsAlethe : Type 0
 MeetsAlethe =
     (book run : Bytes) (limit : ℕ) →
-    Every (λ x. NeededPremises (x .0) (x .1) → Meets (stepsOf book run) (x .0) (x .1)) (mark (limited limit) book run .steps)
+    Every (λ x. Meets Alethe.carcara (stepsOf book run) (x .0) (x .1)) (mark (limited limit) book run .steps)
 
-pub record Demand2 : Type 0 where
+-- ---- and the other way round: refusals meet them too
+
+abbrev pub isRefusal20to42 : ℕ → Bool
+isRefusal20to42 v = leb 20 v && leb v 42
+
+-- the step at which a run stops
+abbrev pub stopsAt : Bytes → Bytes → ℕ → Step
+stopsAt book run limit = getD (stepsOf book run) (length (mark (limited limit) book run .steps)) (step 0 [] [] [])
+
+-- where Carcara refuses what the words accept
+pub data Differs (by : Alethe.Departures) (s : Step) : Type 0 where
+  negativeEquality : (phi : Term) → s .rule ≡ 4 → s .clause ≡ phi ∷ [] → NegativeEquality by phi → Differs by s
+  quotientBound : (phi : Term) → s .rule ≡ 4 → s .clause ≡ phi ∷ [] → QuotientBound phi → Differs by s
+  vanishingMonomial : (phi : Term) → s .rule ≡ 7 → s .clause ≡ phi ∷ [] → VanishingMonomial by phi → Differs by s
+
+-- of rule 5 every bound after step 3 is whole and no > literal has argument 0, unless Carcara's own reading of these
+-- is granted; rule 6 is not in the specification
+pub data Comparable (by : Alethe.Departures) (s : Step) : Type 0 where
+  otherRule : (s .rule ≡ 5 → ⊥) → (s .rule ≡ 6 → ⊥) → Comparable by s
+  laGeneric :
+      s .rule ≡ 5 → by Alethe.Departure.wholeProduct ⊎ WholeBounds by (s .clause) →
+      ((qs : List Rational) → Alethe.Arguments (s .args) qs →
+      by Alethe.Departure.argumentZero ⊎ NoZeroArgument by (s .clause) qs) →
+      Comparable by s
+
+-- a step that meets its rule, by the words or whatever departures are granted, is not refused 20 to 42, but for the
+-- differences named above
+abbrev pub WordsAccepted : Type 1
+WordsAccepted =
+    (by : Alethe.Departures) (book run : Bytes) (limit : ℕ) →
+    T (isRefusal20to42 (mark (limited limit) book run .verdict)) →
+    Meets by (stepsOf book run) (stopsAt book run limit) [] → Comparable by (stopsAt book run limit) →
+    Differs by (stopsAt book run limit)
+
+pub record Demand2 : Type 1 where
   pub theRust : TheRustsAnswers
+  pub marking : TheRustsMarking
   pub alethe : MeetsAlethe
+  pub words : WordsAccepted
 
 -- ---- demand 3: elaboration
 
@@ -159,20 +220,55 @@ clauses (s ∷ ss) = s .clause ∷ clauses ss
 abbrev pub AssumedTrue : Assignment → List Step → Type 0
 AssumedTrue ρ = Every (λ s. s .rule ≡ 0 → T (holds ρ (s .clause)))
 
-pub record Elaboration (book : Bytes) (limit work outRun outTail : ℕ) (a : Answer) : Type 0 where
-  -- 'marked once more under the same limit' over book and tail, with areas as large and of any content: 'accepted whole with nothing inferred:
-  -- verdict 0, exactly the accepted steps and visits of the first marking', 'and its own elaboration is the same run with an empty tail'
-  pub again : elaborate (book ++ a .tail) (writtenPart (area outRun (a .run)) (length (a .run))) limit work outRun outTail ≡ answer 0 (a .steps) (a .visits) (a .run) []
+-- the steps that an answer wrote: 'book, then tail, is the elaborated run's book'
+abbrev pub writtenSteps : Bytes → Answer → Result (List Step)
+writtenSteps book a = readRun (book ++ a .tail) (a .run)
+
+-- the second marking of what an answer wrote
+pub record AcceptedAgain (book : Bytes) (limit work outRun outTail : ℕ) (a : Answer) : Type 0 where
+  -- 'marked once more under the same limit' over book and tail, with areas as large and of any content: 'accepted
+  -- whole with nothing inferred: verdict 0, exactly the accepted steps and visits of the first marking', 'and its own
+  -- elaboration is the same run with an empty tail'
+  pub again :
+      elaborate (book ++ a .tail) (writtenPart (area outRun (a .run)) (length (a .run))) limit work outRun outTail
+      ≡ answer 0 (a .steps) (a .visits) (a .run) []
   -- its steps
   pub steps : List Step
-  pub read : readRun (book ++ a .tail) (a .run) ≡ ok steps
+  pub read : writtenSteps book a ≡ ok steps
   pub count : length steps ≡ a .steps
   -- 'it holds no rule 6'
   pub noRule6 : Every (λ s. s .rule ≡ 6 → ⊥) steps
-  -- 'Under every assignment of the right sorts that makes the assumed clauses true, every clause in it has a true literal'
-  pub truth : (ρ : Assignment) → AssumedTrue ρ steps → Every (λ c. T (holds ρ c)) (clauses steps)
 
--- 'For every book, run, limit and lent memory on which refusals 1 to 8 don't arise, wherever the run stops'
+-- 'Under every assignment of the right sorts that makes the assumed clauses true, every clause in it has a true
+-- literal'
+abbrev pub EveryClauseTrue : List Step → Type 0
+EveryClauseTrue steps = (ρ : Assignment) → AssumedTrue ρ steps → Every (λ c. T (holds ρ c)) (clauses steps)
+
+pub record Elaboration (book : Bytes) (limit work outRun outTail : ℕ) (a : Answer) : Type 0 where
+  pub marked : AcceptedAgain book limit work outRun outTail a
+  pub truth : EveryClauseTrue (marked .steps)
+
+-- Each of the following is 'for every book, run, limit and lent memory on which refusals 1 to 8 don't arise, wherever
+-- the run stops'.
+
+-- the second marking needs no more than that no bounded_farkas step has surplus arguments
+abbrev pub SecondMarking : Type 0
+SecondMarking =
+    (book run : Bytes) (limit work outRun outTail : ℕ) →
+    T (not (isRefusal1to8 (elaborate book run limit work outRun outTail .verdict))) →
+    Every (λ x. NoSurplus (x .0)) (mark (limited limit) book run .steps) →
+    AcceptedAgain book limit work outRun outTail (elaborate book run limit work outRun outTail)
+
+-- the truth of what was written needs no more than the premises on meaning
+abbrev pub ClausesTrue : Type 0
+ClausesTrue =
+    (book run : Bytes) (limit work outRun outTail : ℕ) →
+    T (not (isRefusal1to8 (elaborate book run limit work outRun outTail .verdict))) →
+    Every (λ x. MeaningPremises (x .0) (x .1)) (mark (limited limit) book run .steps) →
+    (steps : List Step) → writtenSteps book (elaborate book run limit work outRun outTail) ≡ ok steps →
+    EveryClauseTrue steps
+
+-- both, where all premises hold
 abbrev pub Demand3 : Type 0
 Demand3 =
     (book run : Bytes) (limit work outRun outTail : ℕ) →

@@ -3,7 +3,12 @@ pub mod Check
 pub mod Elaborate
 pub mod Demands
 pub mod StepParts
+pub mod OutAreas
 pub mod Lent
 pub mod Again
+pub mod EntryPoints
 pub mod Cases
 pub mod Marked
+pub mod PremiseTests
+pub mod Witnesses
+pub mod MarkedPremises

@@ -1247,6 +1247,100 @@ cases =
     ∷ operationRecord Equals (2 ∷ 1 ∷ []) ∷ operationRecord Equals (8 ∷ 9 ∷ []) ∷ [])
     (stepRecords 0 [] (7 ∷ []) [] ∷ stepRecords 8 (0 ∷ []) (10 ∷ []) [] ∷ []) usual
     (answers 33 1 0 (stepRecords 0 [] (7 ∷ []) [] ∷ []) [])
+    -- ---- Demand 3's premises
+    -- a div whose dividend is no number is an atom: rule 5, (not (< (div x 2) 3)) (not (> (div x 2) 2)),
+    -- arguments 1 1
+    ∷ marked
+    (atomRecord 2 0 0 ∷ integerRecord (pos 2) ∷ operationRecord IntDiv (0 ∷ 1 ∷ []) ∷ integerRecord (pos 3)
+    ∷ operationRecord LessThan (2 ∷ 3 ∷ []) ∷ operationRecord Not (4 ∷ [])
+    ∷ operationRecord GreaterThan (2 ∷ 1 ∷ []) ∷ operationRecord Not (6 ∷ []) ∷ integerRecord (pos 1) ∷ [])
+    (stepRecords 5 [] (5 ∷ 7 ∷ []) (8 ∷ 8 ∷ []) ∷ []) usual
+    (answers 0 1 4 (stepRecords 5 [] (5 ∷ 7 ∷ []) (8 ∷ 8 ∷ []) ∷ []) [])
+    -- a div whose divisor is no number is an atom: rule 5, (not (< (div 3 x) 3)) (not (> (div 3 x) 2)),
+    -- arguments 1 1
+    ∷ marked
+    (integerRecord (pos 3) ∷ atomRecord 2 0 0 ∷ operationRecord IntDiv (0 ∷ 1 ∷ [])
+    ∷ operationRecord LessThan (2 ∷ 0 ∷ []) ∷ operationRecord Not (3 ∷ []) ∷ integerRecord (pos 2)
+    ∷ operationRecord GreaterThan (2 ∷ 5 ∷ []) ∷ operationRecord Not (6 ∷ []) ∷ integerRecord (pos 1) ∷ [])
+    (stepRecords 5 [] (4 ∷ 7 ∷ []) (8 ∷ 8 ∷ []) ∷ []) usual
+    (answers 0 1 4 (stepRecords 5 [] (4 ∷ 7 ∷ []) (8 ∷ 8 ∷ []) ∷ []) [])
+    -- a div by 0 is an atom: rule 5, (not (< (div 3 0) 3)) (not (> (div 3 0) 2)), arguments 1 1
+    ∷ marked
+    (integerRecord (pos 3) ∷ integerRecord (pos 0) ∷ operationRecord IntDiv (0 ∷ 1 ∷ [])
+    ∷ operationRecord LessThan (2 ∷ 0 ∷ []) ∷ operationRecord Not (3 ∷ []) ∷ integerRecord (pos 2)
+    ∷ operationRecord GreaterThan (2 ∷ 5 ∷ []) ∷ operationRecord Not (6 ∷ []) ∷ integerRecord (pos 1) ∷ [])
+    (stepRecords 5 [] (4 ∷ 7 ∷ []) (8 ∷ 8 ∷ []) ∷ []) usual
+    (answers 0 1 4 (stepRecords 5 [] (4 ∷ 7 ∷ []) (8 ∷ 8 ∷ []) ∷ []) [])
+    -- a div that comes out even: rule 5, (not (< (+ x (div 6 2)) 6)) (not (> x 2)), arguments 1 1
+    ∷ marked
+    (atomRecord 2 0 0 ∷ integerRecord (pos 6) ∷ integerRecord (pos 2) ∷ operationRecord IntDiv (1 ∷ 2 ∷ [])
+    ∷ operationRecord Add (0 ∷ 3 ∷ []) ∷ operationRecord LessThan (4 ∷ 1 ∷ []) ∷ operationRecord Not (5 ∷ [])
+    ∷ operationRecord GreaterThan (0 ∷ 2 ∷ []) ∷ operationRecord Not (7 ∷ []) ∷ integerRecord (pos 1) ∷ [])
+    (stepRecords 5 [] (6 ∷ 8 ∷ []) (9 ∷ 9 ∷ []) ∷ []) usual
+    (answers 0 1 6 (stepRecords 5 [] (6 ∷ 8 ∷ []) (9 ∷ 9 ∷ []) ∷ []) [])
+    -- a div in an argument that does not come out even: rule 5, (not (<= u 1)) (not (>= u 2)), arguments (div
+    -- 7 2) (div 7 2)
+    ∷ marked
+    (atomRecord 3 4 0 ∷ integerRecord (pos 1) ∷ operationRecord LessEq (0 ∷ 1 ∷ [])
+    ∷ operationRecord Not (2 ∷ []) ∷ integerRecord (pos 2) ∷ operationRecord GreaterEq (0 ∷ 4 ∷ [])
+    ∷ operationRecord Not (5 ∷ []) ∷ integerRecord (pos 7) ∷ operationRecord IntDiv (7 ∷ 4 ∷ []) ∷ [])
+    (stepRecords 5 [] (3 ∷ 6 ∷ []) (8 ∷ 8 ∷ []) ∷ []) usual
+    (answers 0 1 4 (stepRecords 5 [] (3 ∷ 6 ∷ []) (8 ∷ 8 ∷ []) ∷ []) [])
+    -- / in an argument need not come out even: rule 5, (not (<= u 1)) (not (>= u 2)), arguments (/ 7 2) (/ 7
+    -- 2)
+    ∷ marked
+    (atomRecord 3 4 0 ∷ integerRecord (pos 1) ∷ operationRecord LessEq (0 ∷ 1 ∷ [])
+    ∷ operationRecord Not (2 ∷ []) ∷ integerRecord (pos 2) ∷ operationRecord GreaterEq (0 ∷ 4 ∷ [])
+    ∷ operationRecord Not (5 ∷ []) ∷ integerRecord (pos 7) ∷ operationRecord RealDiv (7 ∷ 4 ∷ []) ∷ [])
+    (stepRecords 5 [] (3 ∷ 6 ∷ []) (8 ∷ 8 ∷ []) ∷ []) usual
+    (answers 0 1 4 (stepRecords 5 [] (3 ∷ 6 ∷ []) (8 ∷ 8 ∷ []) ∷ []) [])
+    -- a fractional coefficient of an Int atom: rule 5, (not (> (* 1/2 x) 0)) (not (< (* 1/2 x) 1)), arguments
+    -- 1 1
+    ∷ marked
+    (realRecord (pos 1) (pos 2) ∷ atomRecord 2 0 0 ∷ operationRecord Mult (0 ∷ 1 ∷ []) ∷ integerRecord (pos 0)
+    ∷ operationRecord GreaterThan (2 ∷ 3 ∷ []) ∷ operationRecord Not (4 ∷ []) ∷ integerRecord (pos 1)
+    ∷ operationRecord LessThan (2 ∷ 6 ∷ []) ∷ operationRecord Not (7 ∷ []) ∷ [])
+    (stepRecords 5 [] (5 ∷ 8 ∷ []) (6 ∷ 6 ∷ []) ∷ []) usual
+    (answers 0 1 6 (stepRecords 5 [] (5 ∷ 8 ∷ []) (6 ∷ 6 ∷ []) ∷ []) [])
+    -- fractional coefficients and arguments with a Real atom: rule 5, (not (<= (* 1/2 u) 1)) (not (>= (* 1/2
+    -- u) 2)), arguments 1/2 1/2
+    ∷ marked
+    (realRecord (pos 1) (pos 2) ∷ atomRecord 3 4 0 ∷ operationRecord Mult (0 ∷ 1 ∷ []) ∷ integerRecord (pos 1)
+    ∷ operationRecord LessEq (2 ∷ 3 ∷ []) ∷ operationRecord Not (4 ∷ []) ∷ integerRecord (pos 2)
+    ∷ operationRecord GreaterEq (2 ∷ 6 ∷ []) ∷ operationRecord Not (7 ∷ []) ∷ [])
+    (stepRecords 5 [] (5 ∷ 8 ∷ []) (0 ∷ 0 ∷ []) ∷ []) usual
+    (answers 0 1 6 (stepRecords 5 [] (5 ∷ 8 ∷ []) (0 ∷ 0 ∷ []) ∷ []) [])
+    -- a Real atom that is left beside an Int one: rule 5, (not (>= (+ x u) 1)) (not (<= (+ x u) 0)),
+    -- arguments 1/2 1/2
+    ∷ marked
+    (atomRecord 2 0 0 ∷ atomRecord 3 4 0 ∷ operationRecord Add (0 ∷ 1 ∷ []) ∷ integerRecord (pos 1)
+    ∷ operationRecord GreaterEq (2 ∷ 3 ∷ []) ∷ operationRecord Not (4 ∷ []) ∷ integerRecord (pos 0)
+    ∷ operationRecord LessEq (2 ∷ 6 ∷ []) ∷ operationRecord Not (7 ∷ []) ∷ realRecord (pos 1) (pos 2) ∷ [])
+    (stepRecords 5 [] (5 ∷ 8 ∷ []) (9 ∷ 9 ∷ []) ∷ []) usual
+    (answers 0 1 8 (stepRecords 5 [] (5 ∷ 8 ∷ []) (9 ∷ 9 ∷ []) ∷ []) [])
+    -- a Real atom that cancels: rule 5, (not (>= (+ x u) (+ u 1))) (not (<= x 1)), arguments 1/2 1/2
+    ∷ marked
+    (atomRecord 2 0 0 ∷ atomRecord 3 4 0 ∷ operationRecord Add (0 ∷ 1 ∷ []) ∷ integerRecord (pos 1)
+    ∷ operationRecord Add (1 ∷ 3 ∷ []) ∷ operationRecord GreaterEq (2 ∷ 4 ∷ []) ∷ operationRecord Not (5 ∷ [])
+    ∷ operationRecord LessEq (0 ∷ 3 ∷ []) ∷ operationRecord Not (7 ∷ []) ∷ realRecord (pos 1) (pos 2) ∷ [])
+    (stepRecords 5 [] (6 ∷ 8 ∷ []) (9 ∷ 9 ∷ []) ∷ []) usual
+    (answers 0 1 8 (stepRecords 5 [] (6 ∷ 8 ∷ []) (9 ∷ 9 ∷ []) ∷ []) [])
+    -- a fractional argument of an equality of Ints: rule 5, (not (= x 1)) (not (= x 2)), arguments 1/2 (-
+    -- 1/2)
+    ∷ marked
+    (atomRecord 2 0 0 ∷ integerRecord (pos 1) ∷ operationRecord Equals (0 ∷ 1 ∷ [])
+    ∷ operationRecord Not (2 ∷ []) ∷ integerRecord (pos 2) ∷ operationRecord Equals (0 ∷ 4 ∷ [])
+    ∷ operationRecord Not (5 ∷ []) ∷ realRecord (pos 1) (pos 2) ∷ operationRecord Sub (7 ∷ []) ∷ [])
+    (stepRecords 5 [] (3 ∷ 6 ∷ []) (7 ∷ 8 ∷ []) ∷ []) usual
+    (answers 0 1 4 (stepRecords 5 [] (3 ∷ 6 ∷ []) (7 ∷ 8 ∷ []) ∷ []) [])
+    -- a fractional argument that is inferred: rule 6, (not (<= x 3)) (not (>= (* 2 x) 8)), arguments 1
+    ∷ marked
+    (atomRecord 2 0 0 ∷ integerRecord (pos 3) ∷ operationRecord LessEq (0 ∷ 1 ∷ [])
+    ∷ operationRecord Not (2 ∷ []) ∷ integerRecord (pos 2) ∷ operationRecord Mult (4 ∷ 0 ∷ [])
+    ∷ integerRecord (pos 8) ∷ operationRecord GreaterEq (5 ∷ 6 ∷ []) ∷ operationRecord Not (7 ∷ [])
+    ∷ integerRecord (pos 1) ∷ [])
+    (stepRecords 6 [] (3 ∷ 8 ∷ []) (9 ∷ []) ∷ []) usual
+    (answers 0 1 5 (stepRecords 5 [] (3 ∷ 8 ∷ []) (9 ∷ 10 ∷ []) ∷ []) (realRecord (pos 1) (pos 2) ∷ []))
     ∷ []
 
 all-marked : allMarked cases ≡ true

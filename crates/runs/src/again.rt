@@ -1,17 +1,14 @@
 // Demand 3 on running code: a run is elaborated, its elaboration is marked again over book and tail, and both answers
 // are compared.
 ghost use mathlib.Core.Path.{_≡_};
-ghost use mathlib.Core.Bool.{true, not};
-ghost use Prim.Native.Nat.{_+_, _≤_};
-ghost use lib.Dec.{T, leb};
+ghost use Prim.Native.Nat.{_+_};
+ghost use lib.Dec.{leb};
 ghost use lib.ListN.{length};
-ghost use Rattle.rules.specs.Limits.{limited};
-ghost use Rattle.runs.specs.Check.{mark};
 ghost use Rattle.runs.specs.Elaborate.{Answer, area};
-ghost use Rattle.runs.specs.Demands.{Memory, answerTo, memoryAfter, isRefusal1to8, AllPremises};
+ghost use Rattle.runs.specs.Demands.{Memory, answerTo, memoryAfter};
 ghost use Rattle.runs.specs.Lent.{lent, elaboratedOf};
-ghost use Rattle.runs.specs.Again.{Second, second, joinedBook, answerAgain, agree, agreesAgain, secondAfter};
-ghost use Rattle.runs.specs.Again.{MarkedAgain};
+ghost use Rattle.runs.specs.Again.{second, joinedBook, agree, MarkedAgain};
+ghost use Rattle.runs.specs.EntryPoints.{AgainDone};
 use crate::check::clear_from;
 use crate::elaborate::Elaborated;
 use crate::elaborate::elaborate;
@@ -102,8 +99,8 @@ fn mark_again(
 }
 
 // Elaborates a run as `elaborate` does, joins book and tail, elaborates the written run over them, and says whether
-// both agree. Under demand 3's conditions it always says yes, where the second out areas are as large as the first and
-// book and tail have room for 2,048 records.
+// both agree. It says yes where refusals 1 to 8 don't arise and no bounded_farkas step has more arguments than
+// literals, if `joined` has room for book and tail and the second out areas are as large as the first.
 pub fn elaborate_again(
     book: &[u8],
     run: &[u8],
@@ -115,23 +112,11 @@ pub fn elaborate_again(
     againrun: &mut [u8],
     againtail: &mut [u8],
 ) -> Twice
-    ensures { λ r. ⌜ r .first ≡ elaboratedOf (answerTo (lent (now (book .entry)) (now (run .entry))
-        (now (work .entry)) (now (outrun .entry)) (now (outtail .entry))) limit) ⌝ }
-    ensures { λ r. ⌜ r .again ≡ agreesAgain (lent (now (book .entry)) (now (run .entry)) (now (work .entry))
-        (now (outrun .entry)) (now (outtail .entry))) limit
-        (second (now (joined .entry)) (now (againrun .entry)) (now (againtail .entry))) ⌝ }
-    ensures { λ _. ⌜ lent (now (book .entry)) (now (run .entry)) (now (work .exit)) (now (outrun .exit))
-        (now (outtail .exit))
-        ≡ memoryAfter (lent (now (book .entry)) (now (run .entry)) (now (work .entry)) (now (outrun .entry))
-        (now (outtail .entry))) limit ⌝ }
-    ensures { λ _. ⌜ second (now (joined .exit)) (now (againrun .exit)) (now (againtail .exit))
-        ≡ secondAfter (lent (now (book .entry)) (now (run .entry)) (now (work .entry)) (now (outrun .entry))
+    ensures { λ r. ⌜ AgainDone (lent (now (book .entry)) (now (run .entry)) (now (work .entry)) (now (outrun .entry))
         (now (outtail .entry))) limit
-        (second (now (joined .entry)) (now (againrun .entry)) (now (againtail .entry))) ⌝ }
-    ensures { λ r. ⌜ (T (not (isRefusal1to8 (r .first .verdict))) →
-        AllPremises (mark (limited limit) (now (book .entry)) (now (run .entry)) .steps) →
-        65536 ≤ length (now (joined .entry)) → length (now (againrun .entry)) ≡ length (now (outrun .entry)) →
-        length (now (againtail .entry)) ≡ length (now (outtail .entry)) → r .again ≡ true) ⌝ }
+        (second (now (joined .entry)) (now (againrun .entry)) (now (againtail .entry)))
+        (lent (now (book .exit)) (now (run .exit)) (now (work .exit)) (now (outrun .exit)) (now (outtail .exit)))
+        (second (now (joined .exit)) (now (againrun .exit)) (now (againtail .exit))) r ⌝ }
 {
     let first = elaborate(book, run, limit, work, outrun, outtail);
     let again = mark_again(

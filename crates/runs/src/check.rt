@@ -9,9 +9,10 @@ ghost use Rattle.rules.specs.LinearSteps.{verdictOf};
 ghost use Rattle.rules.specs.WorkArea.{Ready};
 ghost use Rattle.runs.specs.Run.{readRun};
 ghost use Rattle.runs.specs.Check.{checkStep, checkSteps, check};
-ghost use Rattle.runs.specs.Demands.{stepsOf, zeros};
+ghost use Rattle.runs.specs.Demands.{stepsOf};
 ghost use Rattle.runs.specs.StepParts.{stepIn, StandsIn};
-ghost use Rattle.runs.specs.Lent.{visitsAfter, markedOf, zeroedFrom, openCode};
+ghost use Rattle.runs.specs.Lent.{visitsAfter, markedOf, zeroedFrom, openWork, Opens};
+ghost use Rattle.runs.specs.EntryPoints.{CheckDone};
 use crate::run::args;
 use crate::run::bytes;
 use crate::run::clause;
@@ -121,8 +122,7 @@ fn check_steps(book: &[u8], run: &[u8], limit: u32, work: &mut [u8]) -> Marked
 
 // Refusals 1 to 7, or 0: then the work area is ready for the first step.
 pub(crate) fn open(book: &[u8], run: &[u8], limit: u32, work: &mut [u8]) -> u8
-    ensures { λ r. ⌜ r ≡ openCode (now (book .entry)) (now (run .entry)) limit (length (now (work .entry))) ⌝ }
-    ensures { λ r. ⌜ (r ≡ 0 → Ready (now (book .entry)) (now (work .exit))) ⌝ }
+    ensures { λ r. ⌜ Opens (now (book .entry)) (now (run .entry)) limit (now (work .entry)) (now (work .exit)) r ⌝ }
 {
     if work.len() != 65536 {
         return 1;
@@ -152,6 +152,7 @@ pub(crate) fn clear_from(area: &mut [u8], n: usize)
 
 fn opened(book: &[u8], run: &[u8], limit: u32, work: &mut [u8]) -> Marked
     ensures { λ r. ⌜ r ≡ markedOf (check (now (book .entry)) (now (run .entry)) limit (length (now (work .entry)))) ⌝ }
+    ensures { λ _. ⌜ now (work .exit) ≡ openWork (now (book .entry)) limit (now (work .entry)) ⌝ }
 {
     let verdict = open(book, run, limit, work);
     if verdict != 0 {
@@ -166,8 +167,8 @@ fn opened(book: &[u8], run: &[u8], limit: u32, work: &mut [u8]) -> Marked
 
 // Marks a run over a book, under a limit of visits. The work area, whatever its length, is zeros afterwards.
 pub fn check(book: &[u8], run: &[u8], limit: u32, work: &mut [u8]) -> Marked
-    ensures { λ r. ⌜ r ≡ markedOf (check (now (book .entry)) (now (run .entry)) limit (length (now (work .entry)))) ⌝ }
-    ensures { λ _. ⌜ now (work .exit) ≡ zeros (now (work .entry)) ⌝ }
+    ensures { λ r. ⌜ CheckDone (now (book .entry)) (now (run .entry)) limit (now (work .entry)) (now (book .exit))
+        (now (run .exit)) (now (work .exit)) r ⌝ }
 {
     let m = opened(book, run, limit, work);
     clear_from(work, 0);

@@ -7,9 +7,10 @@ ghost use Rattle.rules.specs.Limits.{limited};
 ghost use Rattle.rules.specs.WorkArea.{Ready};
 ghost use Rattle.runs.specs.Run.{readRun};
 ghost use Rattle.runs.specs.Check.{Marking, checkSteps, check};
-ghost use Rattle.runs.specs.Elaborate.{elaborated, writtenPart};
-ghost use Rattle.runs.specs.Demands.{stepsOf, answerTo, memoryAfter, KnownState};
-ghost use Rattle.runs.specs.Lent.{lent, elaboratedOf, Elaborates, Closes};
+ghost use Rattle.runs.specs.Elaborate.{elaborated};
+ghost use Rattle.runs.specs.Demands.{stepsOf};
+ghost use Rattle.runs.specs.Lent.{lent, openWork, Elaborates, Closes};
+ghost use Rattle.runs.specs.EntryPoints.{ElaborateDone, WrittenDone};
 use crate::check::clear_from;
 use crate::check::open;
 use crate::farkas::Out;
@@ -49,6 +50,7 @@ fn elaborate_steps(
     ensures { λ r. ⌜ Elaborates (now (book .entry)) (now (outrun .exit)) (now (outtail .exit)) r
         (checkSteps (limited limit) (stepsOf (now (book .entry)) (now (run .entry))) (stepsOf (now (book .entry))
         (now (run .entry))) 0) ⌝ }
+    ensures { λ _. ⌜ now (work .exit) ≡ now (work .entry) ⌝ }
 {
     let mut at = 0;
     let mut steps = 0;
@@ -95,6 +97,7 @@ fn opened(
 ) -> Elaborating
     ensures { λ r. ⌜ Elaborates (now (book .entry)) (now (outrun .exit)) (now (outtail .exit)) r
         (check (now (book .entry)) (now (run .entry)) limit (length (now (work .entry)))) ⌝ }
+    ensures { λ _. ⌜ now (work .exit) ≡ openWork (now (book .entry)) limit (now (work .entry)) ⌝ }
 {
     let verdict = open(book, run, limit, work);
     if verdict != 0 {
@@ -160,17 +163,9 @@ pub fn elaborate(
     outrun: &mut [u8],
     outtail: &mut [u8],
 ) -> Elaborated
-    ensures { λ r. ⌜ r ≡ elaboratedOf (answerTo (lent (now (book .entry)) (now (run .entry)) (now (work .entry))
-        (now (outrun .entry)) (now (outtail .entry))) limit) ⌝ }
-    ensures { λ _. ⌜ lent (now (book .entry)) (now (run .entry)) (now (work .exit)) (now (outrun .exit))
-        (now (outtail .exit))
-        ≡ memoryAfter (lent (now (book .entry)) (now (run .entry)) (now (work .entry)) (now (outrun .entry))
-        (now (outtail .entry))) limit ⌝ }
-    ensures { λ _. ⌜ KnownState (lent (now (book .entry)) (now (run .entry)) (now (work .entry)) (now (outrun .entry))
-        (now (outtail .entry)))
-        (lent (now (book .entry)) (now (run .entry)) (now (work .exit)) (now (outrun .exit)) (now (outtail .exit)))
-        (answerTo (lent (now (book .entry)) (now (run .entry)) (now (work .entry)) (now (outrun .entry))
-        (now (outtail .entry))) limit) ⌝ }
+    ensures { λ r. ⌜ ElaborateDone (lent (now (book .entry)) (now (run .entry)) (now (work .entry))
+        (now (outrun .entry)) (now (outtail .entry))) limit
+        (lent (now (book .exit)) (now (run .exit)) (now (work .exit)) (now (outrun .exit)) (now (outtail .exit))) r ⌝ }
 {
     let e = opened(book, run, limit, work, outrun, outtail);
     clear_from(work, 0);
@@ -180,7 +175,7 @@ pub fn elaborate(
 // The written part of the out run, given its byte count; the empty part where that is above the area or not a multiple
 // of 4.
 pub fn written(outrun: &[u8], bytes: usize) -> &[u8]
-    ensures { λ r. ⌜ now r ≡ writtenPart (now (outrun .entry)) bytes ⌝ }
+    ensures { λ r. ⌜ WrittenDone (now (outrun .entry)) bytes (now (outrun .exit)) (now r) ⌝ }
 {
     if bytes <= outrun.len() {
         if bytes % 4 == 0 {

@@ -18,10 +18,12 @@ ghost use Rattle.rules.specs.WorkArea.{Ready};
 ghost use Rattle.rules.specs.LinearSteps.{termsIn, Inside};
 ghost use Rattle.runs.specs.Check.{traced, checkStep};
 ghost use Rattle.runs.specs.Elaborate.{realRecord, isReal, findReal, placeIn, tailBytes};
-ghost use Rattle.runs.specs.Elaborate.{Written, addReal, elaboratedRule};
+ghost use Rattle.runs.specs.Elaborate.{Written, addReal, elaboratedRule, fits};
 ghost use Rattle.runs.specs.Demands.{Every, stepsOf};
 ghost use Rattle.runs.specs.StepParts.{stepIn, StandsIn};
-ghost use Rattle.runs.specs.Lent.{placeOr, Holds, Writes, withArg, withConstant, withStep, SteppedLeft, judgedAs};
+ghost use Rattle.runs.specs.OutAreas.{Holds, Writes, WritesOne, withArg, withConstant, withStep};
+ghost use Rattle.runs.specs.Lent.{placeOr};
+ghost use Rattle.runs.specs.OutAreas.{moreReal, moreReals, farkasNumbers, moreStep, SteppedLeft, judgedAs};
 use crate::check::check_step;
 use crate::run::args;
 use crate::run::bytes;
@@ -167,7 +169,7 @@ pub fn paste(area: &mut [u8], at: usize, part: &[u8])
 
 // An argument: an A record of the number n.
 fn add_arg(outrun: &mut [u8], out: Out, n: usize) -> Out
-    ensures { λ r. ⌜ ((b t : Bytes) → Writes b (now (outrun .entry)) t out (now (outrun .exit)) t r (withArg n)) ⌝ }
+    ensures { λ r. ⌜ ((b t : Bytes) → WritesOne b (now (outrun .entry)) t out (now (outrun .exit)) t r (withArg n)) ⌝ }
 {
     let at = out.run;
     let tail = out.tail;
@@ -194,8 +196,8 @@ fn add_arg(outrun: &mut [u8], out: Out, n: usize) -> Out
 // A constant behind those of the tail.
 fn add_constant(book: &[u8], outtail: &mut [u8], out: Out, q: Number) -> Out
     requires { ⌜ Proper q ⌝ }
-    ensures { λ r. ⌜ ((o : Bytes) → Writes (now (book .entry)) o (now (outtail .entry)) out o (now (outtail .exit)) r
-        (withConstant q)) ⌝ }
+    ensures { λ r. ⌜ ((o : Bytes) → WritesOne (now (book .entry)) o (now (outtail .entry)) out o
+        (now (outtail .exit)) r (withConstant q)) ⌝ }
 {
     let run = out.run;
     let at = out.tail;
@@ -237,7 +239,9 @@ fn place_of(outtail: &[u8], out: Out, q: Number) -> usize
 fn add_real(book: &[u8], outrun: &mut [u8], outtail: &mut [u8], out: Out, q: Number) -> Out
     requires { ⌜ Proper q ⌝ }
     ensures { λ r. ⌜ Writes (now (book .entry)) (now (outrun .entry)) (now (outtail .entry)) out
-        (now (outrun .exit)) (now (outtail .exit)) r (λ w. addReal (now (book .entry)) w q) ⌝ }
+        (now (outrun .exit)) (now (outtail .exit)) r (λ w. addReal (now (book .entry)) w q)
+        (moreReal (fits (now (book .entry)) (length (now (outrun .entry))) (length (now (outtail .entry))))
+        (now (book .entry)) q) ⌝ }
 {
     let full = out.full;
     if full {
@@ -268,7 +272,7 @@ fn elaborated_rule(rule: u8) -> u8
 fn add_step(outrun: &mut [u8], out: Out, step: &[u8]) -> Out
     requires { ⌜ 4 ≤ length (now step) ⌝ }
     ensures { λ r. ⌜ ((b t run : Bytes) → StandsIn b run (now (step .entry)) →
-        Writes b (now (outrun .entry)) t out (now (outrun .exit)) t r (withStep (stepIn b (now (step .entry))))) ⌝ }
+        WritesOne b (now (outrun .entry)) t out (now (outrun .exit)) t r (withStep (stepIn b (now (step .entry))))) ⌝ }
 {
     let at = out.run;
     let tail = out.tail;
@@ -319,7 +323,11 @@ fn bounded_farkas(
     requires { ⌜ Ready (now book) (now work) × (Inside (now book) (now literals) × (length (now literals) ≤ 16384)) ⌝ }
     ensures { λ r. ⌜ SteppedLeft (now (book .entry)) (now (outrun .entry)) (now (outtail .entry)) out
         (now (outrun .exit)) (now (outtail .exit))
-        r (λ w. w) (traced (laGenericPartial (limited limit) (termsIn (now (book .entry)) (now (literals .entry)))
+        r (λ w. w)
+        (moreReals (fits (now (book .entry)) (length (now (outrun .entry))) (length (now (outtail .entry))))
+        (now (book .entry)) (farkasNumbers (limited limit) (termsIn (now (book .entry)) (now (literals .entry)))
+        (termsIn (now (book .entry)) (now (args .entry))) visits))
+        (traced (laGenericPartial (limited limit) (termsIn (now (book .entry)) (now (literals .entry)))
         (termsIn (now (book .entry)) (now (args .entry))) visits)) ⌝ }
     ensures { λ _. ⌜ now (work .exit) ≡ now (work .entry) ⌝ }
 {
@@ -370,6 +378,8 @@ pub fn elaborate_step(
     ensures { λ r. ⌜ SteppedLeft (now (book .entry)) (now (outrun .entry)) (now (outtail .entry)) out
         (now (outrun .exit)) (now (outtail .exit))
         r (withStep (stepIn (now (book .entry)) (now (step .entry))))
+        (moreStep (now (book .entry)) (length (now (outrun .entry))) (length (now (outtail .entry)))
+        (stepIn (now (book .entry)) (now (step .entry))) limit visits)
         (checkStep (limited limit) (stepsOf (now (book .entry)) (now (run .entry))) (stepIn (now (book .entry))
         (now (step .entry))) visits) ⌝ }
     ensures { λ _. ⌜ now (work .exit) ≡ now (work .entry) ⌝ }

@@ -18,7 +18,7 @@ use Rattle.terms.specs.Operator.{Sub}
 use Rattle.terms.specs.Term.{Term, unary}
 use Rattle.terms.specs.Term.Terms.{nil}
 use Rattle.terms.specs.Book.{isNumber, field1, node, tree}
-use Rattle.terms.specs.Readers.{Finds, Child, Children, found, foundTwo, ranged, bounded, asNumber}
+use Rattle.terms.specs.Readers.{Finds, readingRefusal, Child, Children, found, foundTwo, ranged, bounded, asNumber}
 use Rattle.terms.specs.Readers.{negated, asSignedNumber, quotientOf, asUnsignedFraction, over, divided}
 use Rattle.terms.specs.declared.number.Checked.{Checked}
 use Rattle.terms.specs.declared.number.Checked.the-variants as checked-as
@@ -41,7 +41,7 @@ Sound NotNumber = Unit {0}
 Sound OutOfRange = Unit {0}
 
 pub finds : {r a : Reading} → Sound r → r ≡ a → Finds r a
-finds {r} s e = record { is = e; proper = λ q h. go r s q h }
+finds {r} s e = record { is = e; number = ap readingRefusal e; proper = λ q h. go r s q h }
   where
     go : (r : Reading) → Sound r → (q : Rational) → r ≡ Value q → Proper q
     go (Value p) s q h = let same : p ≡ q = cc in subst Proper same s

@@ -5,7 +5,7 @@
 --     makes, gives, gives-same       `Makes` and `Gives` from an equation
 --     checked-of-proper, proper-neg, proper-abs, proper-floor       what is always in range
 --     num, den, nums, dens, leftCross, rightCross       parts and their products as expressions of `Machine`
-use mathlib.Core.Path.{_≡_, refl, sym, _∙_, ap₂, subst}
+use mathlib.Core.Path.{_≡_, refl, sym, _∙_, ap, ap₂, subst}
 use mathlib.Core.Bool.{Bool, true, false, cond}
 use Prim.Native.Nat.{ℕ, _≤_, _<_, suc-le-suc}
 use native.Mathlib.Nat.{div-le-self, le-trans, zero-lt-suc}
@@ -15,7 +15,7 @@ use lib.Dec.{T, leb, leb→le, lit≤}
 use lib.IntN.{ℤ, pos, negsuc, natAbs, _*ℤ_}
 use lib.Signed.{_<ℤ_}
 use mir.Facts.{and-yes}
-use Rattle.terms.specs.Rational.{Rational, frac, Proper, Makes, Gives, limit, inRange, checked, negQ}
+use Rattle.terms.specs.Rational.{Rational, frac, Proper, Makes, Gives, limit, inRange, checked, refusal, negQ}
 use Rattle.terms.specs.Rational.{absQ, floorZ, floorQ}
 use Rattle.terms.specs.declared.number.Checked.{Checked}
 use Rattle.terms.specs.declared.number.Checked.the-variants.{Value, OutOfRange}
@@ -85,7 +85,7 @@ same-size p e =
     }
 
 pub gives : {r : Checked} (q : Rational) → pos 0 <ℤ q .den → r ≡ checked q → Gives r (checked q)
-gives q p e = record { is = e; proper = λ s h. proper-of-checked q p s (sym e ∙ h) }
+gives q p e = record { is = e; number = ap refusal e; proper = λ s h. proper-of-checked q p s (sym e ∙ h) }
 
 pub gives-same : {r : Checked} {p q : Rational} → p ≡ q → Gives r (checked p) → Gives r (checked q)
 gives-same {r} = subst (λ (q : Rational). Gives r (checked q))

@@ -1,7 +1,7 @@
--- The book of terms (document 01's word): records of 32 bytes, numbered from 0. What a record's bytes say, the term below a
--- record, and refusals 2 to 5 in document 01's order.
--- Everything is defined for all bytes. A record that is not there, or whose bytes make no constant and no operation, is an
--- atom; an argument number that is not smaller than its record's own is not followed.
+-- The book of terms (document 01's word): records of 32 bytes, numbered from 0. What a record's bytes say, the term
+-- below a record, and refusals 2 to 5 in document 01's order. Everything is defined for all bytes. A record that is
+-- not there, or whose bytes make no constant and no operation, is an atom; an argument number that is not smaller
+-- than its record's own is not followed.
 use mathlib.Core.Path.{_≡_}
 use mathlib.Core.Bool.{Bool, true, false, _&&_, _||_, cond}
 use mathlib.Core.List.{List, [], _∷_}
@@ -21,6 +21,8 @@ use Rattle.terms.specs.declared.book.BookRead.{BookRead}
 use Rattle.terms.specs.declared.book.BookRead.the-variants.{Records, RefusedAt}
 use Rattle.terms.specs.declared.book.RecordRead.{RecordRead}
 use Rattle.terms.specs.declared.book.RecordRead.the-variants.{Sorted, Refused}
+use Rattle.terms.specs.declared.sort.Sorting.{Sorting}
+use Rattle.terms.specs.declared.sort.Sorting.the-variants.{Of, Broken}
 
 -- ---- a record's fields
 
@@ -195,6 +197,11 @@ sortOk (bitvector i v w) = true
 sortOk (atom i s n) = true
 sortOk (op i o ts) = takes o (sorts ts)
 
+-- document 01's number for each case of `Sorting`: 4 is 'sort broken', 0 no refusal
+abbrev pub sortingRefusal : Sorting → ℕ
+sortingRefusal (Of c) = 0
+sortingRefusal Broken = 4
+
 -- ---- refusal 5: equality
 
 unfoldable pub sameBytes : Bytes → Bytes → Bool
@@ -210,14 +217,14 @@ stands (suc n) b r = elim (stands n b r) [ true ↦ true | false ↦ sameBytes (
 
 -- ---- the book
 
--- refusal 3, 4 or 5, or the record's sort
+-- refusal 3, 4 or 5, or the record's sort; a refused case holds document 01's number
 unfoldable pub recordRead : Bytes → ℕ → RecordRead
 recordRead b i =
     elim (layoutOk i (recordOf b i)) [
       | false ↦ Refused 3
       | true ↦
           elim (sortOk (tree b i)) [
-            | false ↦ Refused 4
+            | false ↦ Refused (sortingRefusal Broken)
             | true ↦ elim (stands i b (recordOf b i)) [ true ↦ Refused 5 | false ↦ Sorted (sortCode (sort (tree b i))) ]
           ]
     ]
@@ -234,7 +241,7 @@ sizeOk b = eqb (length b % 32) 0 && leb (length b / 32) maxRecords
 unfoldable pub readBook : Bytes → BookRead
 readBook b = elim (sizeOk b) [ true ↦ readRecords (length b / 32) b 0 | false ↦ RefusedAt 2 0 ]
 
--- document 01's number; 0 is no refusal
+-- document 01's number for each case of `BookRead`; 0 is no refusal
 abbrev pub refusalOf : BookRead → ℕ
 refusalOf (Records n) = 0
 refusalOf (RefusedAt c i) = c

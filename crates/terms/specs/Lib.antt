@@ -9,3 +9,4 @@ pub mod Sorting
 pub mod Readers
 pub mod Smtlib
 pub mod BookExamples
+pub mod MeaningExamples

@@ -2,7 +2,7 @@
 -- where a gcd is taken. A number is in lowest terms with a denominator of at least 1 (`Lowest`); each operation is
 -- worked out on the parts and put in lowest terms. Document 01's range is a test by itself (`inRange`, `checked`).
 use mathlib.Core.Path.{_≡_, refl}
-use mathlib.Core.Bool.{Bool, false, _&&_, cond}
+use mathlib.Core.Bool.{Bool, true, false, _&&_, cond}
 use Prim.Native.Nat.{ℕ, zero, suc, _-_, _/_, _%_, _≤_}
 use native.Mathlib.Nat.{zero-lt-suc}
 use lib.Dec.{leb}
@@ -126,10 +126,19 @@ inRange q = leb (natAbs (q .num)) limit && leb (natAbs (q .den)) limit
 unfoldable pub checked : Rational → Checked
 checked q = cond (inRange q) (Value q) OutOfRange
 
--- document 01's number for each case; 0 is no refusal
+-- document 01's number for each case: 11 is 'number range', 0 no refusal
 abbrev pub refusal : Checked → ℕ
 refusal (Value q) = 0
 refusal OutOfRange = 11
+
+-- so it is 11 outside the range and nowhere else
+pub refusal-of-checked : (q : Rational) → refusal (checked q) ≡ cond (inRange q) 0 11
+unfolding checked
+refusal-of-checked q = go (inRange q)
+  where
+    go : (t : Bool) → refusal (cond t (Value q) OutOfRange) ≡ cond t 0 11
+    go true = refl
+    go false = refl
 
 -- ---- what the code's functions ask of a number, and promise of each number that they make
 
@@ -149,9 +158,10 @@ pub record Makes (r q : Rational) : Type 0 where
   pub is : r ≡ q
   pub proper : Proper r
 
--- r is the definition's answer
+-- r is the definition's answer, with its number
 pub record Gives (r a : Checked) : Type 0 where
   pub is : r ≡ a
+  pub number : refusal r ≡ refusal a
   pub proper : (q : Rational) → r ≡ Value q → Proper q
 
 -- ---- examples
@@ -177,7 +187,7 @@ unfolding floorQ
 floor-goes-down = refl
 
 -- K12: 2147483647 + 1 leaves the range, 2147483646 + 1 does not
-past-the-range : checked (addQ (whole (pos 2147483647)) (whole (pos 1))) ≡ OutOfRange
+past-the-range : refusal (checked (addQ (whole (pos 2147483647)) (whole (pos 1)))) ≡ 11
 unfolding checked inRange addQ lowest gcd gcdWithin
 past-the-range = refl
 

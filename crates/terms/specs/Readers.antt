@@ -1,5 +1,5 @@
--- The Rust's readers of terms, src/ast/term.rs. A quotient can leave the range of numbers, so `as_fraction` is read under
--- a bound: document 01's, or none, which is the Rust.
+-- The Rust's readers of terms, src/ast/term.rs. A quotient can leave the range of numbers, so `as_fraction` is read
+-- under a bound: document 01's, or none, which is the Rust.
 use mathlib.Core.Path.{_≡_}
 use mathlib.Core.Bool.{Bool, true, false, _&&_, cond}
 use mathlib.Core.Option.{Option, some, none}
@@ -12,7 +12,7 @@ use Rattle.terms.specs.Term.{Term, Terms, unary, binary}
 use Rattle.terms.specs.Term.Term.{integer, rational, bitvector, atom, op}
 use Rattle.terms.specs.Term.Terms.{nil}
 use Rattle.terms.specs.Bytes.{Bytes}
-use Rattle.terms.specs.Book.{tree, height}
+use Rattle.terms.specs.Book.{recordOf, numbers, argBytes, arguments, forest, tree, height}
 use Rattle.terms.specs.declared.term.Reading.{Reading}
 use Rattle.terms.specs.declared.term.Reading.the-variants.{Value, NotNumber, OutOfRange}
 use Rattle.terms.specs.declared.term.BitVector.{BitVector}
@@ -106,13 +106,40 @@ argumentsOf t = elim (asOp t) [ some p ↦ p .1 | none ↦ nil ]
 unfoldable pub removeNegation : Term → Option Term
 removeNegation t = unary Not t
 
--- ---- what the code's readers promise: r is the definition's reading
+-- ---- what the code's readers promise
 
+-- Document 01's number for each case, where a number is asked for: 25 is `ExpectedAnyNumber`, 11 'number range', 0 no
+-- refusal. A rule that does not ask for one takes a term that is no number for an atom.
+abbrev pub readingRefusal : Reading → ℕ
+readingRefusal (Value q) = 0
+readingRefusal NotNumber = 25
+readingRefusal OutOfRange = 11
+
+-- r is the definition's reading, with its number
 pub record Finds (r a : Reading) : Type 0 where
   pub is : r ≡ a
+  pub number : readingRefusal r ≡ readingRefusal a
   pub proper : (q : Rational) → r ≡ Value q → Proper q
 
--- the terms that record numbers stand for
+-- likewise where a bit-vector is asked for: 41 is `ExpectedBitvector`
+abbrev pub vectorRefusal : BitVector → ℕ
+vectorRefusal (Bits v w) = 0
+vectorRefusal NotBitvector = 41
+
+pub record FindsVector (r a : BitVector) : Type 0 where
+  pub is : r ≡ a
+  pub number : vectorRefusal r ≡ vectorRefusal a
+
+-- the part of a book that holds the arguments of record i
+pub record ArgumentPart (b : Bytes) (i : ℕ) (part : Bytes) : Type 0 where
+  -- its bytes: those of the record from byte 4 on, two for each argument; none where the record is no operation or is
+  -- not there
+  pub is : part ≡ argBytes (recordOf b i)
+  -- the terms that they stand for
+  pub terms : forest (tree b) (arguments i (numbers part)) ≡ argumentsOf (tree b i)
+
+-- The terms that record numbers stand for. `Neither` and `NotTwo` are no refusals: what a rule makes of a term of
+-- another form is the rule's own (`termOfWrongForm` and others).
 abbrev pub found : Bytes → Only → Option Term
 found b (Of x) = some (tree b x)
 found b Neither = none

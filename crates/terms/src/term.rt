@@ -2,9 +2,10 @@
 ghost use mathlib.Core.Path.{_≡_};
 ghost use Rattle.terms.specs.Term.{unary, binary};
 ghost use Rattle.terms.specs.Term.Terms.{nil};
-ghost use Rattle.terms.specs.Book.{node, tree, numbers, arguments, forest};
-ghost use Rattle.terms.specs.Readers.{Finds, Child, Children, ranged, asNumber, negated, asSignedNumber, quotientOf};
-ghost use Rattle.terms.specs.Readers.{asUnsignedFraction, asFraction, asBitvector, operatorOf, argumentsOf, removeNegation};
+ghost use Rattle.terms.specs.Book.{node, tree};
+ghost use Rattle.terms.specs.Readers.{ranged, asNumber, negated, asSignedNumber, quotientOf, asUnsignedFraction};
+ghost use Rattle.terms.specs.Readers.{asFraction, asBitvector, operatorOf, removeNegation};
+ghost use Rattle.terms.specs.Readers.{Finds, FindsVector, ArgumentPart, Child, Children};
 use crate::book::arg_bytes;
 use crate::book::argument;
 use crate::book::byte;
@@ -19,6 +20,7 @@ use crate::number::Number;
 // What a reader finds in a term.
 pub enum Reading {
     Value(Number),
+    // Refusal 25, where a number is asked for.
     NotNumber,
     // Refusal 11.
     OutOfRange,
@@ -27,6 +29,7 @@ pub enum Reading {
 pub enum BitVector {
     // Value and width.
     Bits(u64, u64),
+    // Refusal 41, where a bit-vector is asked for.
     NotBitvector,
 }
 
@@ -173,7 +176,7 @@ pub fn as_fraction(book: &[u8], id: usize) -> Reading
 }
 
 pub fn as_bitvector(book: &[u8], id: usize) -> BitVector
-    ensures { λ r. ⌜ r ≡ asBitvector (tree (now (book .entry)) id) ⌝ }
+    ensures { λ r. ⌜ FindsVector r (asBitvector (tree (now (book .entry)) id)) ⌝ }
 {
     let r = record(book, id);
     if byte(r, 0) == 3 {
@@ -194,7 +197,7 @@ pub fn operator(book: &[u8], id: usize) -> u8
 
 // The arguments of `as_op`, as the part of the record that holds them.
 pub fn args(book: &[u8], id: usize) -> &[u8]
-    ensures { λ r. ⌜ forest (tree (now (book .entry))) (arguments id (numbers (now r))) ≡ argumentsOf (tree (now (book .entry)) id) ⌝ }
+    ensures { λ r. ⌜ ArgumentPart (now (book .entry)) id (now r) ⌝ }
 {
     arg_bytes(record(book, id))
 }

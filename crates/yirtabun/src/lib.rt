@@ -7,11 +7,8 @@
 ghost use mathlib.Core.Path.{_≡_};
 ghost use mathlib.Core.List.{[], _∷_};
 ghost use lib.ListN.{length};
-ghost use Rattle.runs.specs.Check.{check};
-ghost use Rattle.runs.specs.Elaborate.{writtenPart};
-ghost use Rattle.runs.specs.Demands.{zeros, answerTo, memoryAfter};
 ghost use Rattle.runs.specs.Lent.{lent};
-ghost use Rattle.yirtabun.specs.Answers.{numberBytes, shown, markedNumbers, elaboratedNumbers};
+ghost use Rattle.yirtabun.specs.Answers.{numberBytes, shown, CheckShown, ElaborateShown, WrittenShown};
 use runs::check::check;
 use runs::elaborate::elaborate;
 use runs::elaborate::written;
@@ -65,11 +62,8 @@ pub extern "C" fn yirtabun_check(
     work: &mut [u8],
     answer: &mut [u8],
 ) -> u32
-    ensures { λ r. ⌜ r ≡ check (now (book .entry)) (now (run .entry)) limit (length (now (work .entry))) .verdict ⌝ }
-    ensures { λ _. ⌜ now (work .exit) ≡ zeros (now (work .entry)) ⌝ }
-    ensures { λ _. ⌜ now (answer .exit) ≡ shown (length (now (answer .entry)))
-        (numberBytes (markedNumbers (check (now (book .entry)) (now (run .entry)) limit
-        (length (now (work .entry)))))) ⌝ }
+    ensures { λ r. ⌜ CheckShown (now (book .entry)) (now (run .entry)) limit (now (work .entry))
+        (now (answer .entry)) (now (book .exit)) (now (run .exit)) (now (work .exit)) (now (answer .exit)) r ⌝ }
 {
     let m = check(book, run, limit, work);
     let verdict = m.verdict as u32;
@@ -90,15 +84,10 @@ pub extern "C" fn yirtabun_elaborate(
     outtail: &mut [u8],
     answer: &mut [u8],
 ) -> u32
-    ensures { λ r. ⌜ r ≡ answerTo (lent (now (book .entry)) (now (run .entry)) (now (work .entry))
-        (now (outrun .entry)) (now (outtail .entry))) limit .verdict ⌝ }
-    ensures { λ _. ⌜ lent (now (book .entry)) (now (run .entry)) (now (work .exit)) (now (outrun .exit))
-        (now (outtail .exit))
-        ≡ memoryAfter (lent (now (book .entry)) (now (run .entry)) (now (work .entry)) (now (outrun .entry))
-        (now (outtail .entry))) limit ⌝ }
-    ensures { λ _. ⌜ now (answer .exit) ≡ shown (length (now (answer .entry))) (numberBytes (elaboratedNumbers
-        (answerTo (lent (now (book .entry)) (now (run .entry)) (now (work .entry)) (now (outrun .entry))
-        (now (outtail .entry))) limit))) ⌝ }
+    ensures { λ r. ⌜ ElaborateShown (lent (now (book .entry)) (now (run .entry)) (now (work .entry))
+        (now (outrun .entry)) (now (outtail .entry))) limit (now (answer .entry))
+        (lent (now (book .exit)) (now (run .exit)) (now (work .exit)) (now (outrun .exit)) (now (outtail .exit)))
+        (now (answer .exit)) r ⌝ }
 {
     let e = elaborate(book, run, limit, work, outrun, outtail);
     let verdict = e.verdict as u32;
@@ -117,7 +106,7 @@ pub extern "C" fn yirtabun_elaborate(
 // not a multiple of 4.
 #[no_mangle]
 pub extern "C" fn yirtabun_written(outrun: &[u8], bytes: usize) -> usize
-    ensures { λ r. ⌜ r ≡ length (writtenPart (now (outrun .entry)) bytes) ⌝ }
+    ensures { λ r. ⌜ WrittenShown (now (outrun .entry)) bytes (now (outrun .exit)) r ⌝ }
 {
     written(outrun, bytes).len()
 }

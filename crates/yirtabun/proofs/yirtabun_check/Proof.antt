@@ -10,14 +10,19 @@ use Rattle.yirtabun.proofs.yirtabun_check.Statement.{statement}
 use Rattle.yirtabun.proofs.yirtabun_check.Tie as tie
 
 cast-steps : tie.Need-cast-show-marked
-cast-steps c = marked-fits _ _ _ _ (c .before .before .before .before .check .ensures .0)
+cast-steps c = marked-fits _ _ _ _ (c .before .before .before .before .check .ensures .answered)
 
 returns : tie.Need-returns
 returns c =
     let shows = c .before .before in
     let marks = shows .before .before .before .before .before .before .check .ensures in
-    let answer = shows .show-marked .ensures ∙ ap (shown _) (ap ofMarked (marks .0)) in
-    (ap (λ (r : Marked). r .verdict) (marks .0), (marks .1, answer))
+    record {
+      verdict = ap (λ (r : Marked). r .verdict) (marks .answered);
+      numbers = shows .show-marked .ensures ∙ ap (shown _) (ap ofMarked (marks .answered));
+      sameBook = marks .sameBook;
+      sameRun = marks .sameRun;
+      cleared = marks .cleared;
+    }
 
 pub yirtabun-check-spec : {M : Type 1} → statement M
 yirtabun-check-spec =

@@ -164,7 +164,7 @@ module _ (t : ℕ) where
       let pre = begun place .pre in
       let e = c .before .before .before .before .x .given .1 in
       let low = args-lower (pre .1) (place .descend .ensures) e in
-      (omega (arith, pre .0, low), args-pre (pre .1) (place .descend .ensures) e _ (c .before .args2 .ensures))
+      (omega (arith, pre .0, low), args-pre (pre .1) (place .descend .ensures) e _ (c .before .args2 .ensures .terms))
 
   add-term-add-constant-requires :
       add-term-lts.Need-add-constant-requires (add-term-claims t) (add-term-at t) add-term.Post
@@ -189,7 +189,7 @@ module _ (t : ℕ) where
       let args = c .before .before .before .before in
       let x = args .before .before .before in
       let place = x .before .before in
-      at-args (begun place .pre .1) (place .descend .ensures) (x .x .given .1) _ (args .args2 .ensures)
+      at-args (begun place .pre .1) (place .descend .ensures) (x .x .given .1) _ (args .args2 .ensures .terms)
       (c .before .before .add-args .ensures)
 
   add-term-returns-2 : add-term-lts.Need-returns-2 (add-term-claims t) (add-term-at t) add-term.Post

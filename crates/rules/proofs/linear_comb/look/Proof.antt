@@ -16,12 +16,12 @@ returns-2 c = sum-node _ _ (search needs) (c .before .before .before .pre)
 returns-3 : tie.Need-returns-3
 returns-3 c =
     negation-node _ _ (search needs) (c .before .before .neg .ensures)
-    (sym (counted _ _ _ _ (c .before .args2 .ensures)) ∙ search needs)
+    (sym (counted _ _ _ _ (c .before .args2 .ensures .terms)) ∙ search needs)
 
 returns-4 : tie.Need-returns-4
 returns-4 c =
     difference-node _ _ (search needs) (c .before .before .neg .ensures)
-    (λ n. c .if1 .left (counted _ _ _ _ (c .before .args2 .ensures) ∙ n))
+    (λ n. c .if1 .left (counted _ _ _ _ (c .before .args2 .ensures .terms) ∙ n))
     (c .before .before .before .before .before .before .pre)
 
 returns-5 : tie.Need-returns-5

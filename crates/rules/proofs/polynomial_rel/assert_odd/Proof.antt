@@ -6,17 +6,17 @@ use Rattle.rules.proofs.polynomial_rel.assert_odd.Statement.{statement}
 use Rattle.rules.proofs.polynomial_rel.assert_odd.Tie as tie
 
 returns : tie.Need-returns
-returns c = no-vector (sym (c .before .before .as-bitvector .ensures) ∙ c .enum-told .given .1)
+returns c = no-vector (sym (c .before .before .as-bitvector .ensures .is) ∙ c .enum-told .given .1)
 
 returns-2 : tie.Need-returns-2
 returns-2 c =
     let found = c .before .before in
-    odd-vector (sym (found .before .before .as-bitvector .ensures) ∙ found .v .given .1) (search needs)
+    odd-vector (sym (found .before .before .as-bitvector .ensures .is) ∙ found .v .given .1) (search needs)
 
 returns-3 : tie.Need-returns-3
 returns-3 c =
     let found = c .before .before in
-    even-vector (sym (found .before .before .as-bitvector .ensures) ∙ found .v .given .1) (search needs)
+    even-vector (sym (found .before .before .as-bitvector .ensures .is) ∙ found .v .given .1) (search needs)
 
 pub assert-odd-spec : {M : Type 1} → statement M
 assert-odd-spec =

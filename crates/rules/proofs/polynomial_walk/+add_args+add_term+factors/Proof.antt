@@ -155,7 +155,7 @@ module _ (t : ℕ) where
   add-term-add-args-requires c κs =
       let pre = c .before .before .before .before .before .before .before .before .before .pre in
       let look = c .before .before .before .before .before .look .ensures in
-      (omega (arith, pre .0), args-pre (pre .1) look (search needs) _ (c .args2 .ensures))
+      (omega (arith, pre .0), args-pre (pre .1) look (search needs) _ (c .args2 .ensures .terms))
 
   add-term-returns-2 :
       add-term-lts.Need-returns-2 (add-term-claims t) (add-term-at t) add-term.Post
@@ -169,7 +169,7 @@ module _ (t : ℕ) where
   add-term-factors-requires c κs =
       let pre = c .before .before .before .before .before .before .before .before .before .pre in
       let look = c .before .before .before .before .before .look .ensures in
-      (omega (arith, pre .0), factors-pre (pre .1) look (search needs) _ (c .args3 .ensures))
+      (omega (arith, pre .0), factors-pre (pre .1) look (search needs) _ (c .args3 .ensures .terms))
 
   add-term-clear-at-requires-3 :
       add-term-lts.Need-clear-at-requires-3 (add-term-claims t) (add-term-at t) add-term.Post
@@ -203,7 +203,7 @@ module _ (t : ℕ) where
       let args = c .before .before .before in
       let look = args .before .before .before .before .before in
       at-args (look .before .before .before .before .pre .1) (look .look .ensures) _ _ (search needs) (search needs)
-      _ (args .args2 .ensures) (c .before .before .add-args .ensures)
+      _ (args .args2 .ensures .terms) (c .before .before .add-args .ensures)
 
   add-term-returns-4 :
       add-term-lts.Need-returns-4 (add-term-claims t) (add-term-at t) add-term.Post
@@ -214,7 +214,7 @@ module _ (t : ℕ) where
       let look = told .before .before in
       let factors = called .factors in
       factors-refused (look .before .before .before .before .pre .1) (look .look .ensures) (shallow .if2 .left) _
-      (factors .kept .1 .0) _ _ (search needs) (told .enum-told .given .1) _ (called .before .args3 .ensures)
+      (factors .kept .1 .0) _ _ (search needs) (told .enum-told .given .1) _ (called .before .args3 .ensures .terms)
       (factors .ensures) (c .before .before .before .before .before .c .given .1)
       (c .before .before .clear-at3 .ensures)
 
@@ -227,7 +227,7 @@ module _ (t : ℕ) where
       let look = told .before .before in
       let factors = called .factors in
       factors-made (look .before .before .before .before .pre .1) (look .look .ensures) (shallow .if2 .left) _
-      (factors .kept .1 .0) _ _ (search needs) (told .enum-told .given .1) _ (called .before .args3 .ensures)
+      (factors .kept .1 .0) _ _ (search needs) (told .enum-told .given .1) _ (called .before .args3 .ensures .terms)
       (factors .ensures) (c .before .before .before .before .before .p .given .1)
       (c .before .before .add-scaled .ensures)
 

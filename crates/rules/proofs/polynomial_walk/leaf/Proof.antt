@@ -11,12 +11,12 @@ constant-requires c κs =
     (found .as-fraction .ensures .proper _ (c .before .q .given .1), found .before .before .pre)
 
 cast-whole : tie.Need-cast-whole
-cast-whole c = bits-fit _ _ (c .before .before .before .as-bitvector .ensures) (c .before .v .given .1)
+cast-whole c = bits-fit _ _ (c .before .before .before .as-bitvector .ensures .is) (c .before .v .given .1)
 
 constant-requires-2 : tie.Need-constant-requires-2
 constant-requires-2 c κs =
     let vector = c .before .before .before .before in (
-      bits-proper _ _ (vector .as-bitvector .ensures) (c .before .before .v .given .1) (c .whole .ensures),
+      bits-proper _ _ (vector .as-bitvector .ensures .is) (c .before .before .v .given .1) (c .whole .ensures),
       vector .before .before .before .before .before .pre,
     )
 
@@ -33,15 +33,15 @@ returns-3 c =
     let known = c .before .before .before in
     let vector = known .before .before in
     leaf-vector _ _ (vector .before .before .before .as-fraction .ensures) (vector .before .enum-told2 .given .1)
-    (vector .as-bitvector .ensures) (known .v .given .1)
-    (bits-whole _ _ (vector .as-bitvector .ensures) (known .v .given .1) (c .before .whole .ensures))
+    (vector .as-bitvector .ensures .is) (known .v .given .1)
+    (bits-whole _ _ (vector .as-bitvector .ensures .is) (known .v .given .1) (c .before .whole .ensures))
     (c .constant2 .ensures)
 
 returns-4 : tie.Need-returns-4
 returns-4 c =
     let vector = c .before .before in
     leaf-atom _ _ (vector .before .before .before .as-fraction .ensures) (vector .before .enum-told2 .given .1)
-    (vector .as-bitvector .ensures) (c .enum-told3 .given .1)
+    (vector .as-bitvector .ensures .is) (c .enum-told3 .given .1)
 
 pub leaf-spec : {M : Type 1} → statement M
 leaf-spec =

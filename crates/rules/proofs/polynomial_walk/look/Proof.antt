@@ -13,12 +13,12 @@ use Rattle.rules.proofs.polynomial_walk.look.Tie as tie
 returns : tie.Need-returns
 returns c =
     negation-node _ _ (c .before .before .before .before .neg .ensures) (search needs)
-    (sym (counted _ _ _ _ (c .before .args2 .ensures)) ∙ search needs)
+    (sym (counted _ _ _ _ (c .before .args2 .ensures .terms)) ∙ search needs)
 
 returns-2 : tie.Need-returns-2
 returns-2 c =
     difference-node _ _ (c .before .before .before .before .neg .ensures) (search needs)
-    (λ n. c .if1 .left (counted _ _ _ _ (c .before .args2 .ensures) ∙ n))
+    (λ n. c .if1 .left (counted _ _ _ _ (c .before .args2 .ensures .terms) ∙ n))
     (c .before .before .before .before .before .before .pre)
 
 returns-3 : tie.Need-returns-3

@@ -8,13 +8,13 @@ use Rattle.rules.proofs.polynomial_walk.quotient.Statement.{statement}
 use Rattle.rules.proofs.polynomial_walk.quotient.Tie as tie
 
 returns : tie.Need-returns
-returns c = few-sides _ _ _ _ (c .before .before .args2 .ensures) (search needs) (c .leaf .ensures)
+returns c = few-sides _ _ _ _ (c .before .before .args2 .ensures .terms) (search needs) (c .leaf .ensures)
 
 returns-2 : tie.Need-returns-2
 returns-2 c =
     let tested = c .before .before in
     let found = tested .before .before .before .before in
-    zero-divisor _ _ _ _ (found .before .before .before .args2 .ensures) (search needs)
+    zero-divisor _ _ _ _ (found .before .before .before .args2 .ensures .terms) (search needs)
     (found .before .argument .ensures) (found .as-fraction .ensures) (tested .before .before .q .given .1)
     (sym (tested .is-zero .ensures) ∙ c .before .if2 .taken) (c .leaf3 .ensures)
 
@@ -32,7 +32,7 @@ returns-3 c =
     let divided = c .before .before in
     let tested = divided .before .before in
     let found = tested .before .before .before .before in
-    quotient-outside _ _ _ _ (found .before .before .before .args2 .ensures) (search needs)
+    quotient-outside _ _ _ _ (found .before .before .before .args2 .ensures .terms) (search needs)
     (found .before .argument .ensures) (found .as-fraction .ensures) (tested .before .before .q .given .1)
     (sym (tested .is-zero .ensures) ∙ divided .before .if2 .left) (divided .div .ensures) (c .enum-told3 .given .1)
 
@@ -40,14 +40,14 @@ returns-4 : tie.Need-returns-4
 returns-4 c =
     let found = c .before .before in
     let sides = found .before .before .before in
-    divisor-outside _ _ _ _ (sides .args2 .ensures) (search needs) (found .before .argument .ensures)
+    divisor-outside _ _ _ _ (sides .args2 .ensures .terms) (search needs) (found .before .argument .ensures)
     (found .as-fraction .ensures) (c .enum-told .given .1)
 
 returns-5 : tie.Need-returns-5
 returns-5 c =
     let found = c .before .before .before in
     let sides = found .before .before .before in
-    no-divisor _ _ _ _ (sides .args2 .ensures) (search needs) (found .before .argument .ensures)
+    no-divisor _ _ _ _ (sides .args2 .ensures .terms) (search needs) (found .before .argument .ensures)
     (found .as-fraction .ensures) (c .before .enum-told2 .given .1) (c .leaf2 .ensures)
 
 returns-6 : tie.Need-returns-6
@@ -55,7 +55,7 @@ returns-6 c =
     let divided = c .before .before .before .before in
     let tested = divided .before .before in
     let found = tested .before .before .before .before in
-    quotient-found _ _ _ _ (found .before .before .before .args2 .ensures) (search needs)
+    quotient-found _ _ _ _ (found .before .before .before .args2 .ensures .terms) (search needs)
     (found .before .argument .ensures) (found .as-fraction .ensures) (tested .before .before .q .given .1)
     (sym (tested .is-zero .ensures) ∙ divided .before .if2 .left) (divided .div .ensures) (c .argument2 .ensures)
     (c .before .before .c .given .1)

@@ -14,7 +14,7 @@ returns c =
     let left = marked .mark-again .last .1 .1 .1 .1 .1 .1 in
     let m : Memory = lent (a .book .now) (a .run .now) (a .work .now) (a .outrun .now) (a .outtail .now) in
     both-markings m (a .limit) (second (a .joined .now) (a .againrun .now) (a .againtail .now))
-    (elaborated .elaborate .ensures .0) (elaborated .elaborate .ensures .1 .0)
+    (elaborated .elaborate .ensures)
     {s′ = second (left .0) (left .1 .0) (left .1 .1 .0)} (marked .mark-again .ensures)
 
 pub elaborate-again-spec : {M : Type 1} → statement M

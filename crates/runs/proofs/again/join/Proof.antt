@@ -2,7 +2,7 @@ use Prim.Native.Nat.{_+_, _≤_}
 use native.Mathlib.Omega.{arith}
 use borrow.Author.Needs.{needs}
 use lib.ListN.{length}
-use Rattle.runs.proofs.SecondAnswers.{has-room, joined-room, joined-none}
+use Rattle.runs.proofs.JoinedBook.{has-room, joined-room, joined-none}
 use Rattle.runs.proofs.again.join.Statement.{statement}
 use Rattle.runs.proofs.again.join.Tie as tie
 

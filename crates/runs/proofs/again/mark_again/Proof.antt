@@ -3,7 +3,8 @@ use mathlib.Core.Logic.{⊎-elim}
 use lib.ListN.{length}
 use borrow.Author.Needs.{needs}
 use Rattle.runs.specs.Again.{second, joinedBook}
-use Rattle.runs.proofs.SecondAnswers.{end-room, end-none, area-holds, Calls, marked-agreed, marked-none}
+use Rattle.runs.proofs.JoinedBook.{end-room, end-none, area-holds}
+use Rattle.runs.proofs.SecondAnswers.{Calls, marked-agreed, marked-none}
 use Rattle.runs.proofs.again.mark_again.Statement.{statement}
 use Rattle.runs.proofs.again.mark_again.Tie as tie
 
@@ -46,19 +47,19 @@ calls c =
     let joined = joins c in
     record {
       run = joined .before .before .before .written .result .now;
-      run-is = joined .before .before .before .written .ensures;
+      run-is = joined .before .before .before .written .ensures .answered;
       tail = joined .before .before .written2 .result .now;
-      tail-is = joined .before .before .written2 .ensures;
+      tail-is = joined .before .before .written2 .ensures .answered;
       fit = joined .join .result;
       fit-is = joined .join .ensures .0;
       joined-is = joined .join .ensures .1;
       end = ends c .if1 .n;
       end-is = end-is (ends c);
       answer = elaborated c .elaborate .result;
-      answer-is = elaborated c .elaborate .ensures .0;
-      after-is = elaborated c .elaborate .ensures .1 .0;
+      answer-is = elaborated c .elaborate .ensures .answered;
+      after-is = elaborated c .elaborate .ensures .left;
       again = c .before .written3 .result .now;
-      again-is = c .before .written3 .ensures;
+      again-is = c .before .written3 .ensures .answered;
       agreed = c .agree .result;
       agreed-is = c .agree .ensures;
     }

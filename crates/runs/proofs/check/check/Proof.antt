@@ -1,6 +1,7 @@
 -- The marking is that of `opened`; the work area is then cleared from its first byte on.
+use mathlib.Core.Path.{refl}
 use borrow.Author.Needs.{needs}
-use Rattle.runs.proofs.EntryPoints.{cleared-zeros}
+use Rattle.runs.proofs.ClearedAreas.{cleared-zeros}
 use Rattle.runs.proofs.check.check.Statement.{statement}
 use Rattle.runs.proofs.check.check.Tie as tie
 
@@ -8,7 +9,12 @@ returns : tie.Need-returns
 returns c =
     let cleared = c .before .before in
     let marked = cleared .before .before .before .before .opened in
-    (marked .ensures, cleared-zeros _ (cleared .clear-from .ensures) (marked .kept .1 .1 .1 .0))
+    record {
+      answered = marked .ensures .0;
+      sameBook = refl;
+      sameRun = refl;
+      cleared = cleared-zeros _ (cleared .clear-from .ensures) (marked .kept .1 .1 .1 .0);
+    }
 
 pub check-spec : {M : Type 1} → statement M
 check-spec =

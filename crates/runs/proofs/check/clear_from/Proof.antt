@@ -2,7 +2,7 @@
 use Prim.Native.Nat.{_-_}
 use native.Mathlib.Omega.{arith}
 use lib.ListN.{length}
-use Rattle.runs.proofs.EntryPoints.{ClearedTo, cleared-none, cleared-more, cleared-all}
+use Rattle.runs.proofs.ClearedAreas.{ClearedTo, cleared-none, cleared-more, cleared-all}
 use Rattle.runs.proofs.check.clear_from.Statement.{statement}
 use Rattle.runs.proofs.check.clear_from.Tie as tie
 

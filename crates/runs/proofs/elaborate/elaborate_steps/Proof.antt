@@ -77,7 +77,11 @@ same-length-3 : tie.Need-same-length-3 Inv-loop μ-loop
 same-length-3 c = turned (stopped c) .tailLength ∙ inside (stopped c) .before .loop .inv .tailLength
 
 returns : tie.Need-returns Inv-loop μ-loop
-returns c = going-refused (inside (stopped c) .before .loop .inv) (turned (stopped c)) _ (c .before .verdict .given .1)
+returns c =
+    let going = inside (stopped c) .before .loop .inv in (
+      going-refused going (turned (stopped c)) _ (c .before .verdict .given .1),
+      turned (stopped c) .kept ∙ going .marked .same,
+    )
 
 -- after a step that was accepted
 abbrev went : tie.After-bytes Inv-loop μ-loop → tie.After-elaborate-step Inv-loop μ-loop
@@ -114,7 +118,7 @@ same-length-6 : tie.Need-same-length-6 Inv-loop μ-loop
 same-length-6 c = c .before .loop .inv .tailLength
 
 returns-2 : tie.Need-returns-2 Inv-loop μ-loop
-returns-2 c = going-end (c .before .loop .inv) (c .loop-test .left)
+returns-2 c = (going-end (c .before .loop .inv) (c .loop-test .left), c .before .loop .inv .marked .same)
 
 pub elaborate-steps-spec : {M : Type 1} → statement M
 elaborate-steps-spec =

@@ -1,24 +1,29 @@
 -- By the code that `open` answers the marking is a refusal, with nothing written, or that of the steps.
+use mathlib.Core.Path.{_∙_}
 use borrow.Author.Needs.{needs}
 use Rattle.runs.proofs.EntryPoints.{refused-elaborating, opened-read, opened-elaborating}
 use Rattle.runs.proofs.elaborate.opened.Statement.{statement}
 use Rattle.runs.proofs.elaborate.opened.Tie as tie
 
 returns : tie.Need-returns
-returns c = refused-elaborating _ _ _ _ (c .before .before .before .«open» .ensures .0) (c .if1 .taken)
+returns c =
+    let opens = c .before .before .before .«open» .ensures in
+    (refused-elaborating _ _ _ _ (opens .code) (c .if1 .taken), opens .left)
 
 elaborate-steps-requires : tie.Need-elaborate-steps-requires
 elaborate-steps-requires c κs =
     let left = c .before .before .before in
     let opens = left .before .before .before .«open» .ensures in
-    (opens .1 (left .if1 .left), opened-read _ _ _ _ (opens .0) (left .if1 .left))
+    (opens .ready (left .if1 .left), opened-read _ _ _ _ (opens .code) (left .if1 .left))
 
 returns-2 : tie.Need-returns-2
 returns-2 c =
     let steps = c .before .before .before .before .before .before in
     let left = steps .before .before .before .before in
-    let opens = left .before .before .before .«open» .ensures in
-    opened-elaborating _ _ _ _ (opens .0) (left .if1 .left) (steps .elaborate-steps .ensures)
+    let opens = left .before .before .before .«open» .ensures in (
+      opened-elaborating _ _ _ _ (opens .code) (left .if1 .left) (steps .elaborate-steps .ensures .0),
+      steps .elaborate-steps .ensures .1 ∙ opens .left,
+    )
 
 pub opened-spec : {M : Type 1} → statement M
 opened-spec =

@@ -1,4 +1,5 @@
 -- The written part, or the empty part, by the two tests.
+use mathlib.Core.Path.{refl}
 use mathlib.Core.Logic.{inl, inr}
 use borrow.Author.Needs.{needs}
 use Rattle.runs.proofs.EntryPoints.{part-whole, part-long, part-broken}
@@ -6,13 +7,13 @@ use Rattle.runs.proofs.elaborate.written.Statement.{statement}
 use Rattle.runs.proofs.elaborate.written.Tie as tie
 
 returns : tie.Need-returns
-returns c = part-whole _ _ (c .before .before .if1 .taken) (c .before .if2 .taken)
+returns c = record { answered = part-whole _ _ (c .before .before .if1 .taken) (c .before .if2 .taken); same = refl }
 
 returns-2 : tie.Need-returns-2
 returns-2 c =
     elim (c .before .if1 .came) [
-      | inl w ↦ part-broken _ _ (w .0 .taken) (w .1 .left)
-      | inr w ↦ part-long _ _ (w .left)
+      | inl w ↦ record { answered = part-broken _ _ (w .0 .taken) (w .1 .left); same = refl }
+      | inr w ↦ record { answered = part-long _ _ (w .left); same = refl }
     ]
 
 pub written-spec : {M : Type 1} → statement M

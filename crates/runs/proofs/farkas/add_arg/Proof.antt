@@ -1,7 +1,7 @@
 use native.Mathlib.Omega.{arith}
 use borrow.Author.Needs.{needs}
 use Rattle.runs.proofs.OutAreas.{both-le, both-fits}
-use Rattle.runs.proofs.AddedReals.{arg-full, arg-written, arg-unwritten}
+use Rattle.runs.proofs.AddedPieces.{arg-full, arg-written, arg-unwritten}
 use Rattle.runs.proofs.farkas.add_arg.Statement.{statement}
 use Rattle.runs.proofs.farkas.add_arg.Tie as tie
 

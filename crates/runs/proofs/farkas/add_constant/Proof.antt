@@ -1,7 +1,7 @@
 use native.Mathlib.Omega.{arith}
 use borrow.Author.Needs.{needs}
 use Rattle.runs.proofs.OutAreas.{both-fits}
-use Rattle.runs.proofs.AddedReals.{constant-full, constant-room, constant-written, constant-unwritten}
+use Rattle.runs.proofs.AddedPieces.{constant-full, constant-room, constant-written, constant-unwritten}
 use Rattle.runs.proofs.farkas.add_constant.Statement.{statement}
 use Rattle.runs.proofs.farkas.add_constant.Tie as tie
 

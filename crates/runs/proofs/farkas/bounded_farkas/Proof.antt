@@ -92,10 +92,10 @@ abbrev ended : tie.After-judged Inv-loop μ-loop → tie.At-loop Inv-loop μ-loo
 ended c = turn (c .before .before .before .before .before .before .before .before .before .before)
 
 same-length-2 : tie.Need-same-length-2 Inv-loop μ-loop
-same-length-2 c = ended c .loop .inv .run-length
+same-length-2 c = ended c .loop .inv .writes .runLength
 
 same-length-3 : tie.Need-same-length-3 Inv-loop μ-loop
-same-length-3 c = ended c .loop .inv .tail-length
+same-length-3 c = ended c .loop .inv .writes .tailLength
 
 returns-2 : tie.Need-returns-2 Inv-loop μ-loop
 returns-2 c =
@@ -135,7 +135,6 @@ loop-again c =
     let folded = told .before .before .before .before in
     let added = c .before .before .before .before in
     traced-again (turn folded .loop .inv) (rested folded) _ _ _ (told .q2 .given .1) (added .add-real .ensures)
-    (added .add-real .kept .1 .0) (added .add-real .kept .1 .1 .0)
 
 same-length-4 : tie.Need-same-length-4 Inv-loop μ-loop
 same-length-4 c =
@@ -143,10 +142,10 @@ same-length-4 c =
     folded .fold-literals .kept .1 .0 ∙ part-length (turn folded .loop .inv .far)
 
 same-length-5 : tie.Need-same-length-5 Inv-loop μ-loop
-same-length-5 c = turn (c .before .before .before .before .before) .loop .inv .run-length
+same-length-5 c = turn (c .before .before .before .before .before) .loop .inv .writes .runLength
 
 same-length-6 : tie.Need-same-length-6 Inv-loop μ-loop
-same-length-6 c = turn (c .before .before .before .before .before) .loop .inv .tail-length
+same-length-6 c = turn (c .before .before .before .before .before) .loop .inv .writes .tailLength
 
 returns-3 : tie.Need-returns-3 Inv-loop μ-loop
 returns-3 c =

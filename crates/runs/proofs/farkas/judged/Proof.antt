@@ -1,6 +1,6 @@
 use mathlib.Core.Path.{ap, sym}
 use borrow.Author.Needs.{needs}
-use Rattle.runs.specs.Lent.{judgedAs}
+use Rattle.runs.specs.OutAreas.{judgedAs}
 use Rattle.runs.proofs.farkas.judged.Statement.{statement}
 use Rattle.runs.proofs.farkas.judged.Tie as tie
 
