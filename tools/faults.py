@@ -3,8 +3,8 @@
     python3 tools/faults.py CRATE.. [--dry]
 
 tools/faults.txt has the faults, three lines each: the file and what stands there, what comes in its place. Each is tried by `rt dev` on a copy of
-the repository, over what it has proved already: some ten seconds for one of rules, after the first. --dry only looks that each place is there
-once. A fault in a definition that a crate above pins, as one in a premise of demand 3, survives here and is refused there.
+the repository, up to the crate that pins the definition: half a minute for one of alethe, after the first. --dry only looks that each place is
+there once.
 """
 import os
 import shutil
@@ -17,26 +17,27 @@ ROOT = os.path.dirname(HERE)
 
 
 def faults():
-    """Each fault: crate, file, what stands there, what comes in its place."""
-    crate = None
+    """Each fault: crate, the crate that pins it, file, what stands there, what comes in its place."""
+    crate = pinned = None
     lines = [line.rstrip("\n") for line in open(os.path.join(HERE, "faults.txt"), encoding="utf8")]
     lines = [line for line in lines if line and not line.startswith("#")]
     while lines:
         if lines[0].startswith("crate "):
-            crate = lines.pop(0).split()[1]
+            crate, *above = lines.pop(0).split()[1:]
+            pinned = above[-1] if above else crate
         else:
             file, old, new = lines[:3]
             del lines[:3]
-            yield crate, file, old.lstrip("-").strip(), new.lstrip("+").strip().replace("\\n", "\n")
+            yield crate, pinned, file, old.lstrip("-").strip(), new.lstrip("+").strip().replace("\\n", "\n")
 
 
-def tried(root, crate, path, old, new):
+def tried(root, pinned, path, old, new):
     """The first error, or nothing where the fault survives."""
     with open(path, encoding="utf8") as f:
         text = f.read()
     with open(path, "w", encoding="utf8") as f:
         f.write(text.replace(old, new))
-    out = subprocess.run(["rt", "dev", crate], cwd=root, stdout=subprocess.PIPE, stderr=subprocess.STDOUT)
+    out = subprocess.run(["rt", "dev", pinned], cwd=root, stdout=subprocess.PIPE, stderr=subprocess.STDOUT)
     with open(path, "w", encoding="utf8") as f:
         f.write(text)
     errors = [line for line in out.stdout.decode().splitlines() if ": error" in line]
@@ -51,14 +52,14 @@ def main():
     bad = survive = 0
     with tempfile.TemporaryDirectory() as copy:
         root = ROOT if "--dry" in sys.argv else shutil.copytree(ROOT, os.path.join(copy, "root"), symlinks=True)
-        for crate, file, old, new in chosen:
+        for crate, pinned, file, old, new in chosen:
             path = os.path.join(root, "crates", crate, file)
             count = open(path, encoding="utf8").read().count(old)
             if count != 1:
                 bad += 1
                 print("%s has this %d times: %s" % (file, count, old))
             elif "--dry" not in sys.argv:
-                error = tried(root, crate, path, old, new)
+                error = tried(root, pinned, path, old, new)
                 survive += not error
                 print("%s | %s | %s" % ("refused " if error else "SURVIVES", new, error), flush=True)
     print("%d faults, %d survive, %d have no place" % (len(chosen), survive, bad))

@@ -1,4 +1,4 @@
-"""Writes crates/runs/specs/Marked.antt, the table of marked cases, and MarkedPremises.antt beside it, from tools/marked.txt.
+"""Writes crates/marked/specs/Marked.antt, the table of marked cases, and MarkedPremises.antt beside it, from tools/marked.txt.
 
     python3 tools/marked.py                     writes both files
     python3 tools/marked.py --oracle PROGRAM    compares the expected answers with the Rust's, and writes nothing
@@ -18,8 +18,8 @@ from books import Book, argument, batch, expressions, listed, record_text, run_b
 
 HERE = os.path.dirname(os.path.abspath(__file__))
 TEXT = os.path.join(HERE, "marked.txt")
-TABLE = os.path.join(HERE, "..", "crates", "runs", "specs", "Marked.antt")
-PREMISES = os.path.join(HERE, "..", "crates", "runs", "specs", "MarkedPremises.antt")
+TABLE = os.path.join(HERE, "..", "crates", "marked", "specs", "Marked.antt")
+PREMISES = os.path.join(HERE, "..", "crates", "marked", "specs", "MarkedPremises.antt")
 
 EXAMPLES = os.path.join(HERE, "..", "examples")
 
@@ -180,7 +180,7 @@ use lib.ListN.{replicate}
 use Rattle.terms.specs.Operator.{Not, And, Or, Equals, LessThan, LessEq, GreaterThan, GreaterEq}
 use Rattle.terms.specs.Operator.{Add, Sub, Mult, IntDiv, RealDiv, ToReal, BvAdd, BvSub, BvNeg, BvMul}
 use Rattle.terms.specs.BookExamples.{blank, integerRecord, realRecord, vectorRecord, atomRecord, operationRecord}
-use Rattle.runs.specs.Cases.{Case, marked, usual, answers, runRecord, stepRecords, allMarked, marks}
+use Rattle.marked.specs.Cases.{Case, marked, usual, answers, runRecord, stepRecords, allMarked, marks}
 """
 
 PREMISES_HEAD = """-- Written by tools/marked.py from tools/marked.txt: do not edit.
@@ -193,8 +193,8 @@ use lib.IntN.{pos, negsuc}
 use Rattle.terms.specs.Operator.{Not, And, Or, Equals, LessThan, LessEq, GreaterThan, GreaterEq}
 use Rattle.terms.specs.Operator.{Add, Sub, Mult, IntDiv, RealDiv, BvAdd, BvMul}
 use Rattle.terms.specs.BookExamples.{integerRecord, realRecord, vectorRecord, atomRecord, operationRecord}
-use Rattle.runs.specs.Cases.{stepRecords, marks}
-use Rattle.runs.specs.PremiseTests.{Tested, tested, allTested, tests}
+use Rattle.marked.specs.Cases.{stepRecords, marks}
+use Rattle.elaborate.specs.PremiseTests.{Tested, tested, allTested, tests}
 """
 
 

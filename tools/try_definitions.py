@@ -8,7 +8,7 @@ areas are in bytes. tools/marked.py --cases and tools/random_cases.py write such
 
 The cases become closed examples of a scratch crate, target/tried, N of them in a declaration (25 where nothing is said). Those of a
 declaration that is refused are tried again, one in a declaration, and of those that differ the definitions' answers are shown.
-The crates terms, rules and runs must be proved: `rt check runs` is run first. Exit status: 0 if no case differs, 1 if one does.
+The crate marked and those that it knows must be proved: `rt check marked` is run first. Exit status: 0 if no case differs, 1 if one does.
 """
 import os
 import re
@@ -30,12 +30,21 @@ use Prim.Native.Nat.{ℕ}
 use lib.IntN.{pos, negsuc}
 use Rattle.terms.specs.Operator.{Not, And, Or, Equals, LessThan, LessEq, GreaterThan, GreaterEq}
 use Rattle.terms.specs.Operator.{Add, Sub, Mult, IntDiv, RealDiv, ToReal, BvAdd, BvSub, BvNeg, BvMul}
-use Rattle.terms.specs.Bytes.{Bytes}
+use Rattle.numbers.specs.Bytes.{Bytes}
 use Rattle.terms.specs.BookExamples.{integerRecord, realRecord, vectorRecord, atomRecord, operationRecord, joined}
-use Rattle.runs.specs.Elaborate.{Answer, elaborate}
-use Rattle.runs.specs.Cases.{Case, marked, answers, runRecord, stepRecords, allMarked, marks}
+use Rattle.elaborate.specs.Elaborate.{Answer, elaborate}
+use Rattle.marked.specs.Cases.{Case, marked, answers, runRecord, stepRecords, allMarked, marks}
 
 """
+
+
+def known(crate):
+    """The crate, behind those that crates.txt says it knows."""
+    for line in open(os.path.join(ROOT, "crates.txt"), encoding="utf8"):
+        name, _, others = line.partition(":")
+        if name == crate:
+            return others.split() + [crate]
+    sys.exit("crates.txt has no crate " + crate)
 
 
 # ---- bytes as antt: by the record builders where a record is one, else as they are
@@ -150,7 +159,7 @@ def prove(modules):
     own = os.path.join(kit, "on", os.uname().machine)
     words = [os.path.join(own, "bin", "rattle"), "check", "--crate-name", "tried", os.path.join(CRATE, "src", "lib.rt")]
     words += ["--extern", "std=" + os.path.join(own, "rlib", "std.rlib")]
-    for crate in ("terms", "rules", "runs"):
+    for crate in known("marked"):
         words += ["--extern", "%s=%s" % (crate, os.path.join(TARGET, "rlib", crate + ".rlib"))]
     words += ["-L", "dependency=" + os.path.join(TARGET, "rlib"), "-L", "dependency=" + os.path.join(own, "rlib")]
     words += ["--antt-project", os.path.join(kit, "logic", "antt-project.json"), "--logic-built", os.path.join(own, "logic-built")]
@@ -172,7 +181,7 @@ def answer_of(name, said):
 def main():
     size = int(sys.argv[sys.argv.index("--chunk") + 1]) if "--chunk" in sys.argv else 25
     cases = [Case(i, line) for i, line in enumerate(open(sys.argv[1])) if line.strip()]
-    done = subprocess.run(["rt", "check", "runs"], cwd=ROOT, stdout=subprocess.PIPE, stderr=subprocess.STDOUT)
+    done = subprocess.run(["rt", "check", "marked"], cwd=ROOT, stdout=subprocess.PIPE, stderr=subprocess.STDOUT)
     if done.returncode:
         sys.exit(done.stdout.decode()[-3000:] + "the crates are not proved")
     start = time.time()

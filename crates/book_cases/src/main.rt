@@ -1,5 +1,5 @@
-// Reads the books of the file `cases` (tools/book_cases.py makes it) and compares what reading each of them finds with what
-// document 01 says. A case is 7 bytes, little-endian, and the book's last bytes:
+// Reads the books of the file `cases` (tools/book_cases.py makes it) and compares what reading each of them finds with
+// what document 01 says. A case is 7 bytes, little-endian, and the book's last bytes:
 //     0-1 how many records come first that the file leaves out: atoms of sort Int, named 0, 1, 2 and so on
 //     2-3 how many bytes of the book follow
 //     4 document 01's number of the refusal, or 0
@@ -7,11 +7,12 @@
 ghost use Prim.Native.Nat.{_*_, _≤_};
 ghost use lib.ListN.{length};
 use libc::STDOUT_FILENO;
+use numbers::bytes::read_u16;
+use numbers::bytes::write_u32;
 use terms::book::BookRead;
+use terms::book::book_number;
 use terms::book::byte;
 use terms::book::read_book;
-use terms::bytes::read_u16;
-use terms::bytes::write_u32;
 
 // A book of 2,050 records, two more than the most.
 const MOST: usize = 65600;
@@ -51,10 +52,10 @@ fn compare(i: u64, c: u8, at: usize, d: u8, found: usize) -> Outcome {
 }
 
 fn try_book(i: u64, book: &[u8], c: u8, at: usize) -> Outcome {
-    let mut sorts = [0u8; 2048];
-    match read_book(book, &mut sorts) {
+    let mut work = [0u8; 8192];
+    match read_book(book, &mut work) {
         BookRead::Records(n) => compare(i, c, at, 0, n),
-        BookRead::RefusedAt(d, id) => compare(i, c, at, d, id),
+        BookRead::RefusedAt(d, id) => compare(i, c, at, book_number(d), id),
     }
 }
 

@@ -4,8 +4,8 @@ use crate::files::write_beside;
 use crate::marking::print_answer;
 use crate::printing::print;
 use crate::printing::print_number;
-use runs::again::elaborate_again;
-use runs::elaborate::written;
+use again::again::elaborate_again;
+use elaborate::elaborate::written;
 
 // Both files are made beside their places first, so that neither is written where one cannot be.
 fn write_both(run: &[u8], tail: &[u8]) -> bool {

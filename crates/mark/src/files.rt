@@ -3,7 +3,7 @@ ghost use Prim.Native.Nat.{_≤_};
 ghost use lib.ListN.{length};
 ghost use Rattle.io.specs.Counts.{Counts};
 use libc::STDERR_FILENO;
-use terms::bytes::room;
+use numbers::bytes::room;
 
 pub(crate) struct FileRead {
     // Whether nothing failed.

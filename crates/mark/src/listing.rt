@@ -2,11 +2,11 @@
 use crate::printing::print;
 use crate::printing::print_number;
 use crate::printing::print_signed;
+use numbers::bytes::read_u64;
+use numbers::number::Number;
 use terms::book::argument;
 use terms::book::byte;
 use terms::book::record;
-use terms::bytes::read_u64;
-use terms::number::Number;
 use terms::term::BitVector;
 use terms::term::Reading;
 use terms::term::args;

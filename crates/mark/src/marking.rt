@@ -4,10 +4,12 @@ use crate::printing::print;
 use crate::printing::print_number;
 use crate::words::print_reason;
 use crate::words::print_rule;
+use rules::prepare::prepare;
 use runs::check::check;
 use terms::book::BookRead;
+use terms::book::BookRefusal;
+use terms::book::book_number;
 use terms::book::byte;
-use terms::book::read_book;
 
 // The rule of step k: the byte of the S record that follows k others.
 fn rule_of(run: &[u8], k: usize) -> u8 {
@@ -28,8 +30,8 @@ fn rule_of(run: &[u8], k: usize) -> u8 {
 
 // The record of the book that is refused.
 fn print_refused_record(book: &[u8]) {
-    let mut sorts = [0u8; 2048];
-    match read_book(book, &mut sorts) {
+    let mut work = [0u8; 8192];
+    match prepare(book, &mut work) {
         BookRead::Records(_) => print(b"the book: "),
         BookRead::RefusedAt(_, id) => {
             print(b"record ");
@@ -78,17 +80,20 @@ pub(crate) fn mark(book: &[u8], run: &[u8], limit: u32) {
 
 // Lists the records of a book, or says why it is refused.
 pub(crate) fn list(book: &[u8]) {
-    let mut sorts = [0u8; 2048];
-    match read_book(book, &mut sorts) {
-        BookRead::Records(n) => print_records(book, &sorts, n),
+    let mut work = [0u8; 8192];
+    match prepare(book, &mut work) {
+        BookRead::Records(n) => print_records(book, &work, n),
         BookRead::RefusedAt(c, id) => {
             print(b"book refused");
-            if c != 2 {
-                print(b" at record ");
-                print_number(id as u64);
+            match c {
+                BookRefusal::BookSize => {}
+                _ => {
+                    print(b" at record ");
+                    print_number(id as u64);
+                }
             }
             print(b", ");
-            print_reason(c);
+            print_reason(book_number(c));
         }
     }
 }

@@ -1,6 +1,6 @@
 // Bytes and numbers to standard output.
 use libc::STDOUT_FILENO;
-use terms::number::magnitude;
+use numbers::number::magnitude;
 
 pub(crate) fn print(text: &[u8]) {
     io::write_all(STDOUT_FILENO, text);

@@ -1,121 +1,134 @@
--- The ten bytes of an entry behind any front of bytes: a write puts them there and leaves the rest (`entry-at`), and a
--- read finds them (`key-found`, `value-found`). Zeros for entries are written by the loop of `clear` (`Cleared`).
-use mathlib.Core.Path.{_≡_, refl, sym, ap, _∙_}
+-- The bytes of an entry behind any front of bytes, for any encoding of keys: a write puts them there and leaves the
+-- rest (`entry-at`), and a read finds them (`key-found`, `value-found`). Zeros for entries are written by the loop of
+-- `clear` (`Cleared`).
+use mathlib.Core.Path.{_≡_, refl, sym, ap, ap₂, _∙_}
+use mathlib.Core.Bool.{true}
 use mathlib.Core.List.{[], _∷_, _++_, append-assoc}
 use Prim.Native.Nat.{ℕ, zero, suc, _+_, _*_, _≤_, _<_}
+use native.Mathlib.Nat.{mul-zero}
 use native.Mathlib.Numerals.{add-one}
 use native.Mathlib.Omega.{arith}
-use lib.ListN.{length, take, drop, replicate, length-append, length-take, length-drop, length-replicate}
-use lib.ListN.{take-append-drop}
-use Rattle.terms.specs.Rational.{Rational, Proper}
-use Rattle.terms.specs.Bytes.{Bytes, le, put, bytesOf, complement, numberAt, putNumber}
-use Rattle.terms.proofs.LittleEndian.{length-put}
-use Rattle.terms.proofs.StoredNumbers.{length-putNumber}
-use Rattle.rules.specs.WorkArea.{putEntry, blank, blanked}
+use lib.ListN.{length, take, drop, replicate, length-append, length-drop, length-replicate, take-append-drop}
+use lib.Seq.{length-take-le}
+use Rattle.numbers.specs.Rational.{Rational, Proper}
+use Rattle.numbers.specs.Bytes.{Bytes, bytesOf, complement, numberAt, putNumber}
+use Rattle.rules.specs.StoredMaps.{Encoding, size, putEntry, blanked}
+use Rattle.rules.specs.Parts.{blank}
 use Rattle.rules.proofs.Zeros.{zeros-join, zeros-behind}
-use Rattle.rules.proofs.NumberBytes.{length-bytesOf, put-at, le-at, parts, number-at, number-back}
+use Rattle.rules.proofs.NumberBytes.{parts, length-parts, number-at, number-back}
 
--- ---- the ten bytes of an entry
+-- What the laws ask of an encoding, where a key's code is one of those that are encoded.
+pub record Coded {K C : Type 0} (enc : Encoding K C) (Code : C → Type 0) : Type 0 where
+  pub long : {c : C} → Code c → length (enc .bytes c) ≡ enc .width
+  pub writes :
+      {c : C} → Code c → (f x r : Bytes) → length x ≡ enc .width →
+      enc .write c (f ++ (x ++ r)) (length f) ≡ f ++ (enc .bytes c ++ r)
+  pub reads : {c : C} → Code c → (f r : Bytes) → enc .read (f ++ (enc .bytes c ++ r)) (length f) ≡ c
+  pub equal : {c d : C} → enc .same c d ≡ true → c ≡ d
+  pub blank : Code (enc .blankKey)
+  pub zeros : enc .bytes (enc .blankKey) ≡ replicate (enc .width) 0
 
-abbrev pub cell : ℕ → Rational → Bytes
-cell key q = bytesOf 2 key ++ parts q
+abbrev pub cell : {K C : Type 0} → Encoding K C → C → Rational → Bytes
+cell enc c q = enc .bytes c ++ parts q
 
-pub length-cell : (key : ℕ) (q : Rational) → length (cell key q) ≡ 10
-length-cell key q = simp (length-append, length-bytesOf)
+module _ {K C : Type 0} {enc : Encoding K C} {Code : C → Type 0} (coded : Coded enc Code) where
+  -- ---- one entry
 
-module _ (f : Bytes) (k : ℕ) (place : length f ≡ 10 * k) (key : ℕ) (q : Rational) (r : Bytes) where
-  value-place : length (f ++ bytesOf 2 key) ≡ 10 * k + 2
-  value-place = simp (length-append, length-bytesOf, place)
+  pub length-cell : {c : C} → Code c → (q : Rational) → length (cell enc c q) ≡ size enc
+  length-cell {c} h q = length-append (enc .bytes c) (parts q) ∙ ap₂ _+_ (coded .long h) (length-parts q)
 
-  pub entry-at : (x : Bytes) → length x ≡ 10 → putEntry (f ++ (x ++ r)) k key q ≡ f ++ (cell key q ++ r)
-  unfolding putEntry
-  entry-at x h =
-      let low : length (take 2 x) ≡ 2 = rw (length-take, h) in
-      let high : length (drop 2 x) ≡ 8 = rw (length-drop, h) in
-      let both : f ++ (x ++ r) ≡ f ++ (take 2 x ++ (drop 2 x ++ r)) =
-      ap (λ (l : Bytes). f ++ (l ++ r)) (sym (take-append-drop 2 x)) ∙ simp append-assoc in
-      let first : put 2 key (f ++ (x ++ r)) (10 * k) ≡ (f ++ bytesOf 2 key) ++ (drop 2 x ++ r) =
-      ap (put 2 key (f ++ (x ++ r))) (sym place)
-      ∙ ap (λ (l : Bytes). put 2 key l (length f)) both
-      ∙ put-at 2 key f (take 2 x) (drop 2 x ++ r) low
-      ∙ simp append-assoc in
-      ap (λ (l : Bytes). putNumber q l (10 * k + 2)) first
-      ∙ ap (putNumber q ((f ++ bytesOf 2 key) ++ (drop 2 x ++ r))) (sym value-place)
-      ∙ number-at q (f ++ bytesOf 2 key) (drop 2 x) r high
-      ∙ simp append-assoc
+  module _ {c : C} (h : Code c) (f : Bytes) (k : ℕ) (place : length f ≡ size enc * k) (q : Rational) (r : Bytes) where
+    value-place : length (f ++ enc .bytes c) ≡ size enc * k + enc .width
+    value-place = length-append f (enc .bytes c) ∙ ap₂ _+_ place (coded .long h)
 
-  pub key-found : key < 65536 → le 2 (f ++ (cell key q ++ r)) (10 * k) ≡ key
-  key-found small =
-      ap (le 2 (f ++ (cell key q ++ r))) (sym place)
-      ∙ ap (λ (l : Bytes). le 2 (f ++ l) (length f)) (append-assoc (bytesOf 2 key) (parts q) r)
-      ∙ le-at 2 key f (parts q ++ r) small
+    in-two : f ++ (cell enc c q ++ r) ≡ (f ++ enc .bytes c) ++ (parts q ++ r)
+    in-two =
+        ap (λ (l : Bytes). f ++ l) (append-assoc (enc .bytes c) (parts q) r)
+        ∙ sym (append-assoc f (enc .bytes c) (parts q ++ r))
 
-  pub value-found : Proper q → numberAt (f ++ (cell key q ++ r)) (10 * k + 2) ≡ q
-  value-found proper =
-      let g : Bytes = f ++ bytesOf 2 key in
-      let same : f ++ (cell key q ++ r) ≡ g ++ (parts q ++ r) = simp append-assoc in
-      ap (λ (l : Bytes). numberAt l (10 * k + 2)) same
-      ∙ ap (numberAt (g ++ (parts q ++ r))) (sym value-place)
-      ∙ number-back q g r proper
+    pub entry-at : (x : Bytes) → length x ≡ size enc → putEntry enc (f ++ (x ++ r)) k c q ≡ f ++ (cell enc c q ++ r)
+    unfolding putEntry
+    entry-at x long =
+        let low : length (take (enc .width) x) ≡ enc .width = length-take-le (enc .width) x (omega arith) in
+        let high : length (drop (enc .width) x) ≡ 8 = rw (length-drop, long) (omega arith) in
+        let rest : Bytes = drop (enc .width) x ++ r in
+        let both : f ++ (x ++ r) ≡ f ++ (take (enc .width) x ++ rest) =
+        ap (λ (l : Bytes). f ++ l)
+        (ap (λ (l : Bytes). l ++ r) (sym (take-append-drop (enc .width) x)) ∙ append-assoc (take (enc .width) x) _ r) in
+        let first : enc .write c (f ++ (x ++ r)) (size enc * k) ≡ (f ++ enc .bytes c) ++ rest =
+        ap (enc .write c (f ++ (x ++ r))) (sym place)
+        ∙ ap (λ (l : Bytes). enc .write c l (length f)) both
+        ∙ coded .writes h f (take (enc .width) x) rest low
+        ∙ sym (append-assoc f (enc .bytes c) rest) in
+        ap (λ (l : Bytes). putNumber q l (size enc * k + enc .width)) first
+        ∙ ap (putNumber q ((f ++ enc .bytes c) ++ rest)) (sym value-place)
+        ∙ number-at q (f ++ enc .bytes c) (drop (enc .width) x) r high
+        ∙ sym in-two
 
--- ---- zeros
+    pub key-found : enc .read (f ++ (cell enc c q ++ r)) (size enc * k) ≡ c
+    key-found =
+        ap (enc .read (f ++ (cell enc c q ++ r))) (sym place)
+        ∙ ap (λ (l : Bytes). enc .read (f ++ l) (length f)) (append-assoc (enc .bytes c) (parts q) r)
+        ∙ coded .reads h f (parts q ++ r)
 
-blank-cell : cell 0 blank ≡ replicate 10 0
-unfolding bytesOf complement
-blank-cell = refl
+    pub value-found : Proper q → numberAt (f ++ (cell enc c q ++ r)) (size enc * k + enc .width) ≡ q
+    value-found proper =
+        ap (λ (l : Bytes). numberAt l (size enc * k + enc .width)) in-two
+        ∙ ap (numberAt ((f ++ enc .bytes c) ++ (parts q ++ r))) (sym value-place)
+        ∙ number-back q (f ++ enc .bytes c) r proper
 
--- the zeros of one place more
-pub one-more : (n : ℕ) → cell 0 blank ++ replicate (10 * n) 0 ≡ replicate (10 * suc n) 0
-one-more n =
-    ap (λ (l : Bytes). l ++ replicate (10 * n) 0) blank-cell ∙ zeros-join 10 (10 * n) (10 * suc n) (omega arith)
+  -- ---- zeros
 
-pub blanked-front : (k : ℕ) (x r : Bytes) → length x ≡ 10 * k → blanked k (x ++ r) ≡ replicate (10 * k) 0 ++ r
-unfolding blanked
-blanked-front zero [] r h = refl
-blanked-front zero (a ∷ x) r h = absurd (omega arith)
-blanked-front (suc k) x r h =
-    let front : length (take (10 * k) x) ≡ 10 * k = rw (length-take, h) (omega arith) in
-    let last : length (drop (10 * k) x) ≡ 10 = rw (length-drop, h) (omega arith) in
-    let split : x ++ r ≡ take (10 * k) x ++ (drop (10 * k) x ++ r) =
-    ap (λ (l : Bytes). l ++ r) (sym (take-append-drop (10 * k) x))
-    ∙ append-assoc (take (10 * k) x) (drop (10 * k) x) r in
-    ap (λ (l : Bytes). putEntry (blanked k l) k 0 blank) split
-    ∙ ap (λ (l : Bytes). putEntry l k 0 blank) (blanked-front k (take (10 * k) x) (drop (10 * k) x ++ r) front)
-    ∙ entry-at (replicate (10 * k) 0) k (length-replicate (10 * k) 0) 0 blank r (drop (10 * k) x) last
-    ∙ zeros-behind (10 * k) 10 (10 * suc k) (omega arith) (cell 0 blank) r blank-cell
+  blank-cell : cell enc (enc .blankKey) blank ≡ replicate (size enc) 0
+  unfolding bytesOf complement
+  blank-cell = ap (λ (l : Bytes). l ++ parts blank) (coded .zeros) ∙ zeros-join (enc .width) 8 (size enc) refl
 
--- ---- the function `clear`
+  -- the zeros of one place more
+  pub one-more : (n : ℕ) → cell enc (enc .blankKey) blank ++ replicate (size enc * n) 0 ≡ replicate (size enc * suc n) 0
+  one-more n =
+      ap (λ (l : Bytes). l ++ replicate (size enc * n) 0) blank-cell
+      ∙ zeros-join (size enc) (size enc * n) (size enc * suc n) (omega arith)
 
-length-putEntry : (w : Bytes) (k key : ℕ) (q : Rational) → length (putEntry w k key q) ≡ length w
-unfolding putEntry
-length-putEntry w k key q =
-    length-putNumber q (put 2 key w (10 * k)) (10 * k + 2) ∙ length-put 2 key w (10 * k)
-
-pub length-blanked : (k : ℕ) (w : Bytes) → length (blanked k w) ≡ length w
-unfolding blanked
-length-blanked zero w = refl
-length-blanked (suc k) w = length-putEntry (blanked k w) k 0 blank ∙ length-blanked k w
-
-pub record Cleared (w : Bytes) (n : ℕ) (w′ : Bytes) (k : ℕ) : Type 0 where
-  pub most : k ≤ n
-  pub is : w′ ≡ blanked k w
-
-module _ {w : Bytes} {n : ℕ} where
-  pub cleared-none : Cleared w n w 0
+  pub blanked-front :
+      (k : ℕ) (x r : Bytes) → length x ≡ size enc * k → blanked enc k (x ++ r) ≡ replicate (size enc * k) 0 ++ r
   unfolding blanked
-  cleared-none = record { most = omega arith; is = refl }
+  blanked-front zero [] r h = rw (mul-zero (size enc))
+  blanked-front zero (a ∷ x) r h = absurd (omega arith)
+  blanked-front (suc k) x r h =
+      let front : length (take (size enc * k) x) ≡ size enc * k = length-take-le (size enc * k) x (omega arith) in
+      let last : length (drop (size enc * k) x) ≡ size enc = rw (length-drop, h) (omega arith) in
+      let rest : Bytes = drop (size enc * k) x ++ r in
+      let split : x ++ r ≡ take (size enc * k) x ++ rest =
+      ap (λ (l : Bytes). l ++ r) (sym (take-append-drop (size enc * k) x))
+      ∙ append-assoc (take (size enc * k) x) (drop (size enc * k) x) r in
+      ap (λ (l : Bytes). putEntry enc (blanked enc k l) k (enc .blankKey) blank) split
+      ∙ ap (λ (l : Bytes). putEntry enc l k (enc .blankKey) blank) (blanked-front k (take (size enc * k) x) rest front)
+      ∙ entry-at (coded .blank) (replicate (size enc * k) 0) k (length-replicate (size enc * k) 0) blank r
+      (drop (size enc * k) x) last
+      ∙ zeros-behind (size enc * k) (size enc) (size enc * suc k) (omega arith) _ r blank-cell
+
+-- ---- the function `clear`: w′ is w with zeros for k entries
+
+pub record Cleared {K C : Type 0} (enc : Encoding K C) (w : Bytes) (n : ℕ) (w′ : Bytes) (k : ℕ) : Type 0 where
+  pub most : k ≤ n
+  pub is : w′ ≡ blanked enc k w
+  pub size : length w′ ≡ length w
+
+module _ {K C : Type 0} {enc : Encoding K C} {w : Bytes} {n : ℕ} where
+  pub cleared-none : Cleared enc w n w 0
+  unfolding blanked
+  cleared-none = record { most = omega arith; is = refl; size = refl }
 
   pub cleared-more :
-      {w′ : Bytes} {k : ℕ} (v : Bytes) → Cleared w n w′ k → k < n → v ≡ putEntry w′ k 0 blank → Cleared w n v (k + 1)
+      {w′ : Bytes} {k : ℕ} (v : Bytes) → Cleared enc w n w′ k → k < n → length v ≡ length w′ →
+      v ≡ putEntry enc w′ k (enc .blankKey) blank → Cleared enc w n v (k + 1)
   unfolding blanked
-  cleared-more {w′} {k} v c h e =
+  cleared-more {k} v c h kept e =
       record {
         most = omega arith;
-        is = rw (add-one k) (e ∙ ap (λ (l : Bytes). putEntry l k 0 blank) (c .is));
+        is = rw (add-one k) (e ∙ ap (λ (l : Bytes). putEntry enc l k (enc .blankKey) blank) (c .is));
+        size = kept ∙ c .size;
       }
 
-  pub cleared-length : {w′ : Bytes} {k : ℕ} → Cleared w n w′ k → length w′ ≡ length w
-  cleared-length {k} c = ap length (c .is) ∙ length-blanked k w
-
-  pub cleared-all : {w′ : Bytes} {k : ℕ} → Cleared w n w′ k → n ≤ k → w′ ≡ blanked n w
-  cleared-all {k} c h = let all : k ≡ n = omega (arith, c .most) in c .is ∙ ap (λ (i : ℕ). blanked i w) all
+  pub cleared-all : {w′ : Bytes} {k : ℕ} → Cleared enc w n w′ k → n ≤ k → w′ ≡ blanked enc n w
+  cleared-all {k} c h = let all : k ≡ n = omega (arith, c .most) in c .is ∙ ap (λ (i : ℕ). blanked enc i w) all

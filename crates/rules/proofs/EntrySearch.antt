@@ -1,6 +1,5 @@
--- The search for a key among entries of one size in bytes, as KeySearch has it for a record number and MonomialSearch
--- for a monomial: what the first m entries say of m + n, and what is left after k of n (`Searched`, the invariant of
--- the loops).
+-- The search for a key among entries of one size in bytes, which KeySearch has for any encoding of keys: what the first
+-- m entries say of m + n, and what is left after k of n (`Searched`, the invariant of the loops).
 use mathlib.Core.Path.{_≡_, refl, sym, ap, _∙_}
 use mathlib.Core.Bool.{Bool, true, false}
 use Prim.Native.Nat.{ℕ, zero, suc, _+_, _*_, _-_, _≤_, _<_}
@@ -10,7 +9,7 @@ use borrow.Author.Tests.{ltb-true, ltb-false, lt-ltb, le-ltb}
 use lib.Dec.{ltb}
 use lib.ListN.{drop}
 use lib.Seq.{drop-drop}
-use Rattle.terms.specs.Bytes.{Bytes}
+use Rattle.numbers.specs.Bytes.{Bytes}
 
 -- `has` says of the entry at the front of bytes whether it has the key; `place w n` is how many of the n entries of w
 -- stand before the first that has it.

@@ -1,52 +1,52 @@
--- The entries of a map as EntrySearch sees them: ten bytes, of which the first two are the key.
-use mathlib.Core.Path.{_≡_, refl}
-use mathlib.Core.Bool.{Bool, true, false}
-use mathlib.Core.List.{List, _∷_}
-use Prim.Native.Nat.{ℕ, suc, _+_, _≤_, _<_}
-use native.Mathlib.Nat.{add-zero}
-use native.Mathlib.Omega.{arith}
-use borrow.Author.Tests.{leb-true, leb-false}
-use lib.Dec.{eqb, leb}
-use lib.ListN.{length, getD, drop, length-drop}
-use lib.Seq.{getD-drop}
-use Rattle.terms.specs.Bytes.{Bytes, digits, le}
-use Rattle.terms.proofs.LittleEndian.{le-inside, le-outside}
-use Rattle.rules.specs.WorkArea.{keysOf, place}
+-- The entries of a stored map as EntrySearch sees them, and the place of a key among those of a map.
+use mathlib.Core.Path.{_≡_, refl, ap, _∙_}
+use mathlib.Core.Bool.{true, false}
+use mathlib.Core.List.{List, [], _∷_, _++_}
+use Prim.Native.Nat.{suc}
+use lib.ListN.{length}
+use Rattle.numbers.specs.Rational.{Rational}
+use Rattle.rules.specs.IndexMap.{Map, Keys}
+use Rattle.rules.specs.StoredMaps.{Encoding, size, keysOf, place, All, none, more}
 use Rattle.rules.proofs.EntrySearch.{Entries}
+use Rattle.rules.proofs.KeyedMaps.{Lacks, nothing, another, sameKey}
 
--- ---- the place of a key in a list
+module _ {K C : Type 0} (enc : Encoding K C) (c : C) where
+  pub keys : Entries (size enc) (λ w. enc .same (enc .read w 0) c) (λ w n. place enc (keysOf enc w n) c)
+  unfolding keysOf place
+  keys = record { none = λ w. refl; more = λ w n. refl }
 
-module _ (x key : ℕ) (l : List ℕ) where
-  pub place-here : eqb x key ≡ true → place (x ∷ l) key ≡ 0
-  unfolding place
-  place-here same = rw (same, place)
+  module _ (x : C) (l : List C) where
+    place-here : enc .same x c ≡ true → place enc (x ∷ l) c ≡ 0
+    unfolding place
+    place-here same = rw (same, place)
 
-  pub place-past : eqb x key ≡ false → place (x ∷ l) key ≡ suc (place l key)
-  unfolding place
-  place-past other = rw (other, place)
+    place-past : enc .same x c ≡ false → place enc (x ∷ l) c ≡ suc (place enc l c)
+    unfolding place
+    place-past other = rw (other, place)
 
--- ---- in bytes
+-- ---- among the keys of a map
 
--- a key at i is the first behind i bytes
-key-drop : (w : Bytes) (i : ℕ) → le 2 (drop i w) 0 ≡ le 2 w i
-unfolding digits
-key-drop w i = go (leb (i + 2) (length w)) refl
-  where
-    go : (t : Bool) → leb (i + 2) (length w) ≡ t → le 2 (drop i w) 0 ≡ le 2 w i
-    go true e =
-        let room : i + 2 ≤ length w = leb-true (i + 2) (length w) e in
-        let short : 0 + 2 ≤ length (drop i w) = rw length-drop (omega arith) in
-        let first : getD (drop i w) 0 0 ≡ getD w i 0 = rw (getD-drop i w 0 0, add-zero i) in
-        rw (le-inside 2 (drop i w) 0 short, le-inside 2 w i room, digits, first, getD-drop i w 1 0)
-    go false e =
-        let room : length w < i + 2 = leb-false (i + 2) (length w) e in
-        let short : length (drop i w) < 0 + 2 = rw length-drop (omega arith) in
-        rw (le-outside 2 (drop i w) 0 short, le-outside 2 w i room)
+unfoldable pub codes : {K C : Type 0} → Encoding K C → Map K → List C
+codes enc [] = []
+codes enc (e ∷ m) = enc .code (e .0) ∷ codes enc m
 
-pub keys : (key : ℕ) → Entries 10 (λ w. eqb (le 2 w 0) key) (λ w n. place (keysOf w n) key)
-unfolding keysOf place
-keys key = record { none = λ w. refl; more = λ w n. refl }
+-- c tells an entry's key from others as the key x does
+abbrev pub Agrees : {K C : Type 0} → Encoding K C → Keys K → C → K → K × Rational → Type 0
+Agrees enc keyed c x e = enc .same (enc .code (e .0)) c ≡ keyed .same (e .0) x
 
--- x is the key of the entry at i
-pub has-key : {x : ℕ} (w : Bytes) (i key : ℕ) → x ≡ le 2 w i → eqb x key ≡ eqb (le 2 (drop i w) 0) key
-has-key w i key is = rw (is, key-drop w i)
+module _ {K C : Type 0} (enc : Encoding K C) (keyed : Keys K) (c : C) (x : K) where
+  pub place-missing :
+      {m : Map K} → Lacks (sameKey keyed x) m → All (Agrees enc keyed c x) m → place enc (codes enc m) c ≡ length m
+  unfolding place codes
+  place-missing nothing none = refl
+  place-missing (another {e} {m} other rest) (more told agree) =
+      place-past enc c (enc .code (e .0)) (codes enc m) (told ∙ other) ∙ ap suc (place-missing rest agree)
+
+  pub place-found :
+      {p : Map K} → Lacks (sameKey keyed x) p → (e : K × Rational) (s : Map K) → keyed .same (e .0) x ≡ true →
+      All (Agrees enc keyed c x) (p ++ e ∷ s) → place enc (codes enc (p ++ e ∷ s)) c ≡ length p
+  unfolding codes
+  place-found nothing e s is (more told agree) = place-here enc c (enc .code (e .0)) (codes enc s) (told ∙ is)
+  place-found (another {e = f} {m = p} other rest) e s is (more told agree) =
+      place-past enc c (enc .code (f .0)) (codes enc (p ++ e ∷ s)) (told ∙ other)
+      ∙ ap suc (place-found rest e s is agree)

@@ -8,11 +8,11 @@ use Prim.Native.Nat.{ℕ, suc, _+_}
 use native.Mathlib.Nat.{add-zero}
 use native.Mathlib.Omega.{arith}
 use lib.ListN.{length}
-use Rattle.terms.specs.Rational.{Rational, isZero}
-use Rattle.terms.specs.Term.{if_then_else_}
+use Rattle.numbers.specs.Rational.{Rational, isZero}
+use Rattle.numbers.specs.Choice.{if_then_else_}
 use Rattle.terms.specs.Readers.{within}
 use Rattle.rules.specs.Refusal.{Result, _>>=_, assert}
-use Rattle.rules.specs.Refusal.Result.{ok, refused}
+use Rattle.rules.specs.Refusal.Outcome.{ok, refused}
 use Rattle.rules.specs.Refusal.Refusal.{polynomialSize}
 use Rattle.rules.specs.Limits.{Limits, plus}
 use Rattle.rules.specs.IndexMap.{Map, Keys, get, enter, insert, swapRemove}

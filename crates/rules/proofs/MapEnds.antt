@@ -1,12 +1,13 @@
--- Maps of any keys, cut at an entry: the length, and the last entry, which a removal moves to the front of what stood
--- behind the removed one.
+-- Maps of any keys, cut at an entry: the length, what holds of each entry, and the last entry, which a removal moves to
+-- the front of what stood behind the removed one.
 use mathlib.Core.Path.{_≡_, refl, ap, _∙_}
 use mathlib.Core.List.{[], _∷_, _++_}
 use Prim.Native.Nat.{suc}
 use native.Mathlib.Omega.{arith}
 use lib.ListN.{length, length-append}
-use Rattle.terms.specs.Rational.{Rational}
+use Rattle.numbers.specs.Rational.{Rational}
 use Rattle.rules.specs.IndexMap.{Map, lastFirst, swapRemove}
+use Rattle.rules.specs.StoredMaps.{All, none, more}
 
 module _ {K : Type 0} where
   pub length-middle : (e : K × Rational) (p s : Map K) → length (p ++ e ∷ s) ≡ suc (length (p ++ s))
@@ -43,3 +44,23 @@ module _ {K : Type 0} where
 
   pub length-swapRemove : (s : Map K) → length (swapRemove s) ≡ length s
   length-swapRemove s = length-ends (ends s)
+
+-- ---- what holds of each entry
+
+module _ {K : Type 0} {P : K × Rational → Type 0} where
+  pub all-join : (p : Map K) {s : Map K} → All P p → All P s → All P (p ++ s)
+  all-join [] none h = h
+  all-join (e ∷ p) (more g r) h = more g (all-join p r h)
+
+  -- the entries before one, it, and those behind it
+  pub all-cut : (p : Map K) (e : K × Rational) (s : Map K) → All P (p ++ e ∷ s) → All P p × (P e × All P s)
+  all-cut [] e s (more g r) = (none, (g, r))
+  all-cut (f ∷ p) e s (more g r) = let cut = all-cut p e s r in (more g (cut .0), cut .1)
+
+  pub all-of : ((e : K × Rational) → P e) → (m : Map K) → All P m
+  all-of f [] = none
+  all-of f (e ∷ m) = more (f e) (all-of f m)
+
+  pub all-map : {Q : K × Rational → Type 0} → ((e : K × Rational) → P e → Q e) → {m : Map K} → All P m → All Q m
+  all-map f none = none
+  all-map f (more {e} g r) = more (f e g) (all-map f r)

@@ -9,13 +9,13 @@ use native.Mathlib.Omega.{arith}
 use borrow.Author.Tests.{eqb-true, eqb-false, ne-eqb, not-true}
 use lib.Dec.{eqb}
 use lib.ListN.{length}
-use Rattle.terms.specs.Rational.{Rational, Proper}
-use Rattle.terms.specs.Bytes.{Bytes}
+use Rattle.numbers.specs.Rational.{Rational, Proper}
+use Rattle.numbers.specs.Bytes.{Bytes}
 use Rattle.terms.specs.Term.{Term, recordNumber}
 use Rattle.terms.specs.Book.{count}
-use Rattle.terms.proofs.Truths.{both}
+use Rattle.numbers.proofs.Truths.{both}
 use Rattle.rules.specs.IndexMap.{Map}
-use Rattle.rules.specs.WorkArea.{absent, Entry, Good}
+use Rattle.rules.specs.Entries.{absent, Entry, Good}
 use Rattle.rules.proofs.KeyedMaps.{Lacks, nothing, another, Look, found, missing, look}
 use Rattle.rules.proofs.MapEnds.{length-middle}
 

@@ -8,10 +8,10 @@ use native.Mathlib.Nat.{suc-add}
 use native.Mathlib.Omega.{arith}
 use lib.Dec.{leb·suc-suc}
 use lib.ListN.{length, take, drop, set, length-append, length-take, length-drop, take-append-drop}
-use Rattle.terms.specs.Rational.{Rational, Proper}
-use Rattle.terms.specs.Bytes.{Bytes, room, le, put, putDigits, bytesOf, complement, numberAt, putNumber}
-use Rattle.terms.proofs.LittleEndian.{put-inside, read-after-write-small}
-use Rattle.terms.proofs.StoredNumbers.{putNumber-inside, number-after-write}
+use Rattle.numbers.specs.Rational.{Rational, Proper}
+use Rattle.numbers.specs.Bytes.{Bytes, room, le, put, putDigits, bytesOf, complement, numberAt, putNumber}
+use Rattle.numbers.proofs.LittleEndian.{put-inside, read-after-write-small}
+use Rattle.numbers.proofs.StoredNumbers.{putNumber-inside, number-after-write}
 
 -- ---- n bytes
 

@@ -9,14 +9,14 @@ use borrow.Author.Tests.{eqb-true, eqb-false}
 use lib.Dec.{eqb}
 use lib.ListN.{length, getD, set, drop, replicate, length-replicate}
 use lib.Seq.{getD-set-same, getD-set-other}
-use Rattle.terms.specs.Bytes.{Bytes}
+use Rattle.numbers.specs.Bytes.{Bytes}
 use Rattle.terms.specs.Term.{sort, sortCode}
 use Rattle.terms.specs.Book.{count, tree, readBook, putSorts, recordsRead, BookDone}
 use Rattle.terms.specs.declared.book.BookRead.{BookRead}
 use Rattle.terms.specs.declared.book.BookRead.the-variants.{Records}
 use Rattle.terms.proofs.BookReading.{length-putSorts}
 use Rattle.terms.proofs.Accepted.{accepted-count, accepted-layout}
-use Rattle.rules.specs.WorkArea.{Ready}
+use Rattle.rules.specs.Parts.{Ready}
 
 -- a byte that was written is a sort
 sort-written : (n : ℕ) (b w : Bytes) (j : ℕ) → n ≤ length w → j < n → getD (putSorts n b w) j 0 ≡ sortCode (sort (tree b j))

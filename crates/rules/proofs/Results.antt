@@ -8,22 +8,20 @@
 --     refused-verdict, refused-with, accepted-with       a step's verdict
 use mathlib.Core.Path.{_≡_, refl, sym, ap, _∙_}
 use mathlib.Core.Bool.{Bool, true}
-use Prim.Native.Nat.{ℕ, _<_}
+use Prim.Native.Nat.{ℕ, _≤_}
 use native.Mathlib.Omega.{arith}
 use Rattle.rules.specs.Refusal.{Refusal, Result, _>>=_, assert, number}
-use Rattle.rules.specs.Refusal.Result.{ok, refused}
-use Rattle.rules.specs.Refusal.Refusal.{workAreaOrLimit, bookSize, recordLayout, sortBroken, recordRepeated}
-use Rattle.rules.specs.Refusal.Refusal.{runSize, runRecord, noRoom, visitLimit, numberRange, polynomialSize}
-use Rattle.rules.specs.Refusal.Refusal.{wrongNumberOfArgs, wrongNumberOfPremises, wrongLengthOfClause}
-use Rattle.rules.specs.Refusal.Refusal.{wrongLengthOfPremiseClause, termOfWrongForm, expectedAnyNumber}
-use Rattle.rules.specs.Refusal.Refusal.{invalidDisequalityOp, tooManyArgsInDisequality, notUnit, coeffNotFound}
+use Rattle.rules.specs.Refusal.Outcome.{ok, refused}
+use Rattle.rules.specs.Refusal.Refusal.{visitLimit, numberRange, polynomialSize, wrongNumberOfArgs}
+use Rattle.rules.specs.Refusal.Refusal.{wrongNumberOfPremises, wrongLengthOfClause, wrongLengthOfPremiseClause}
+use Rattle.rules.specs.Refusal.Refusal.{termOfWrongForm, expectedAnyNumber, invalidDisequalityOp}
+use Rattle.rules.specs.Refusal.Refusal.{tooManyArgsInDisequality, notUnit, coeffNotFound}
 use Rattle.rules.specs.Refusal.Refusal.{disequalityIsNotContradiction, notValidTautologyCase}
 use Rattle.rules.specs.Refusal.Refusal.{disequalityIsNotTautology, expectedEqual, expectedLessThan}
 use Rattle.rules.specs.Refusal.Refusal.{expectedLessEq, polynomialsNotEqual, coeffIsZero, coeffDifferentSignums}
 use Rattle.rules.specs.Refusal.Refusal.{coeffEven, invalidOperators, expectedBitvector, expectedOperationTerm}
-use Rattle.rules.specs.WorkArea.{Refuses}
-use Rattle.rules.specs.LinearSteps.{codeOf, after, verdictOf}
-use Rattle.rules.specs.declared.linear_shapes.Verdict.the-variants as verdict
+use Rattle.rules.specs.Parts.{Refuses, codeOf, after, verdictOf}
+use Rattle.rules.specs.declared.verdict.Verdict.the-variants as verdict
 
 -- ---- along `>>=`
 
@@ -69,41 +67,34 @@ refused-then f r = refuses-as r (λ c. ends f)
 
 -- ---- their numbers
 
-number-positive : (r : Refusal) → 0 < number r
-number-positive workAreaOrLimit = omega arith
-number-positive bookSize = omega arith
-number-positive recordLayout = omega arith
-number-positive sortBroken = omega arith
-number-positive recordRepeated = omega arith
-number-positive runSize = omega arith
-number-positive runRecord = omega arith
-number-positive noRoom = omega arith
-number-positive visitLimit = omega arith
-number-positive numberRange = omega arith
-number-positive polynomialSize = omega arith
-number-positive wrongNumberOfArgs = omega arith
-number-positive wrongNumberOfPremises = omega arith
-number-positive wrongLengthOfClause = omega arith
-number-positive wrongLengthOfPremiseClause = omega arith
-number-positive termOfWrongForm = omega arith
-number-positive expectedAnyNumber = omega arith
-number-positive invalidDisequalityOp = omega arith
-number-positive tooManyArgsInDisequality = omega arith
-number-positive notUnit = omega arith
-number-positive coeffNotFound = omega arith
-number-positive disequalityIsNotContradiction = omega arith
-number-positive notValidTautologyCase = omega arith
-number-positive disequalityIsNotTautology = omega arith
-number-positive expectedEqual = omega arith
-number-positive expectedLessThan = omega arith
-number-positive expectedLessEq = omega arith
-number-positive polynomialsNotEqual = omega arith
-number-positive coeffIsZero = omega arith
-number-positive coeffDifferentSignums = omega arith
-number-positive coeffEven = omega arith
-number-positive invalidOperators = omega arith
-number-positive expectedBitvector = omega arith
-number-positive expectedOperationTerm = omega arith
+-- a rule's refusals are numbered from 10 on
+pub number-late : (r : Refusal) → 10 ≤ number r
+number-late visitLimit = omega arith
+number-late numberRange = omega arith
+number-late polynomialSize = omega arith
+number-late wrongNumberOfArgs = omega arith
+number-late wrongNumberOfPremises = omega arith
+number-late wrongLengthOfClause = omega arith
+number-late wrongLengthOfPremiseClause = omega arith
+number-late termOfWrongForm = omega arith
+number-late expectedAnyNumber = omega arith
+number-late invalidDisequalityOp = omega arith
+number-late tooManyArgsInDisequality = omega arith
+number-late notUnit = omega arith
+number-late coeffNotFound = omega arith
+number-late disequalityIsNotContradiction = omega arith
+number-late notValidTautologyCase = omega arith
+number-late disequalityIsNotTautology = omega arith
+number-late expectedEqual = omega arith
+number-late expectedLessThan = omega arith
+number-late expectedLessEq = omega arith
+number-late polynomialsNotEqual = omega arith
+number-late coeffIsZero = omega arith
+number-late coeffDifferentSignums = omega arith
+number-late coeffEven = omega arith
+number-late invalidOperators = omega arith
+number-late expectedBitvector = omega arith
+number-late expectedOperationTerm = omega arith
 
 -- a result by its number
 module _ {A : Type 0} where
@@ -113,7 +104,7 @@ module _ {A : Type 0} where
 
   pub code-none : (r : Result A) → 0 ≡ codeOf r → Passed r
   code-none (ok a) h = record { value = a; is = refl }
-  code-none (refused c) h = absurd (omega (arith, number-positive c))
+  code-none (refused c) h = absurd (omega (arith, number-late c))
 
   pub code-some : (r : Result A) (c : ℕ) → c ≡ codeOf r → (c ≡ 0 → ⊥) → Refuses c r
   code-some (ok a) c h other = absurd (other h)

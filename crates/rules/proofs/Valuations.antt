@@ -11,19 +11,20 @@ use Prim.Native.Nat.{zero, suc, _<_}
 use native.Mathlib.Nat.{zero-lt-suc}
 use lib.Dec.{T}
 use lib.IntN.{ℤ, pos, negsuc, natAbs}
-use Rattle.terms.specs.Pair.{wholeP, invP, eqZ}
-use Rattle.terms.specs.Rational as Rational
-use Rattle.terms.specs.Rational.{Rational, whole, Lowest, addQ, mulQ, negQ, divQ, isZero}
-use Rattle.terms.proofs.Integers.{_⊗_, 𝟙, _≐_, _·_, _and_, _from_}
-use Rattle.terms.proofs.Ring.{Ring, derive}
-use Rattle.terms.proofs.Order.{at-positive}
-use Rattle.terms.proofs.Pairs.{mul-inv}
-use Rattle.terms.proofs.LowestTerms.{whole-is-lowest}
-use Rattle.terms.proofs.Rationals.{add-value, mul-value, neg-value, div-value, whole-value, isZero-value}
-use Rattle.terms.proofs.Rationals.{add-lowest, mul-lowest, neg-lowest, div-lowest, eqZ-eq}
-use Rattle.terms.proofs.Quotient.{ℚ, mk, ℚring, product, mk-eq, mk-add, mk-mul, mk-neg, mk-whole}
+use Rattle.numbers.specs.Pair.{wholeP, invP, eqZ}
+use Rattle.numbers.specs.Rational as Rational
+use Rattle.numbers.specs.Rational.{Rational, whole, Lowest, addQ, mulQ, negQ, divQ, isZero}
+use Rattle.numbers.proofs.Integers.{_⊗_, 𝟙, _≐_, _·_, _and_, _from_}
+use Rattle.numbers.proofs.Ring.{Ring, derive, _and_}
+use Rattle.numbers.proofs.Order.{at-positive}
+use Rattle.numbers.proofs.Pairs.{mul-inv}
+use Rattle.numbers.proofs.LowestTerms.{whole-is-lowest, eq-of-value-eq}
+use Rattle.numbers.proofs.Rationals.{add-value, mul-value, neg-value, div-value, whole-value, isZero-value, add-lowest}
+use Rattle.numbers.proofs.Rationals.{mul-lowest, neg-lowest, div-lowest, eqZ-eq}
+use Rattle.numbers.proofs.Quotient.{ℚ, mk, ℚring, product, mk-eq, mk-add, mk-mul, mk-neg, mk-whole, ≈-of-mk-eq}
 use Rattle.rules.specs.Limits.{Limits, plus, times}
 use Rattle.rules.proofs.Yields.{Yields, weaker, plus-yields, times-yields}
+use Rattle.terms.specs.Term.{Term, same}
 
 pub record Valuation (R : Ring) : Type 1 where
   pub number : Rational → R .carrier
@@ -113,3 +114,11 @@ module _ (a b : Rational) (la : Lowest a) (lb : Lowest b) (h : isZero b ≡ fals
 
 pub rational-division : Division rationals
 rational-division = record { good-div = div-lowest; number-div = quotient-number }
+
+-- atoms of one record number have one value
+abbrev pub Respects : {A : Type 0} → (Term → Type 0) → (Term → A) → Type 0
+Respects Known v = (s t : Term) → Known s → Known t → same s t ≡ true → v s ≡ v t
+
+-- numbers in lowest terms that stand for one value are one number
+pub number-unique : (a b : Rational) → Lowest a → Lowest b → numberℚ a ≡ numberℚ b → a ≡ b
+number-unique a b la lb e = eq-of-value-eq a b la lb (≈-of-mk-eq (Rational.value a) (Rational.value b) e)

@@ -5,11 +5,11 @@ use mathlib.Core.Bool.{true}
 use mathlib.Core.List.{[], _∷_}
 use Prim.Native.Nat.{ℕ}
 use lib.IntN.{ℤ, pos, negℤ, _+ℤ_, _*ℤ_}
-use Rattle.terms.specs.Rational.{Rational, whole, lowest, addQ, mulQ, negQ, isZero}
-use Rattle.terms.proofs.Integers.{_⊕_, _⊗_, 𝟙, _≐_, solveℤ}
-use Rattle.terms.proofs.LowestTerms.{lowest-whole}
-use Rattle.terms.proofs.Rationals.{eqZ-eq}
-use Rattle.terms.proofs.Residues.{residues, residue, residue-add, residue-mul, residue-neg}
+use Rattle.numbers.specs.Rational.{Rational, whole, lowest, addQ, mulQ, negQ, isZero}
+use Rattle.numbers.proofs.Integers.{_⊕_, _⊗_, 𝟙, _≐_, solveℤ}
+use Rattle.numbers.proofs.LowestTerms.{lowest-whole}
+use Rattle.numbers.proofs.Rationals.{eqZ-eq}
+use Rattle.numbers.proofs.Residues.{residues, residue, residue-add, residue-mul, residue-neg}
 use Rattle.rules.proofs.Valuations.{Valuation}
 
 abbrev pub IsWhole : Rational → Type 0

@@ -12,64 +12,64 @@ use mathlib.Core.Option.{Option, some, none}
 use Prim.Native.Nat.{ℕ}
 use native.Mathlib.Omega.{arith}
 use lib.IntN.{natAbs}
-use Rattle.terms.specs.Rational.{Rational, addQ, mulQ, divQ}
+use Rattle.numbers.specs.Rational.{Rational, addQ, mulQ, divQ}
 use Rattle.terms.specs.Term.{Term}
 use Rattle.terms.specs.Readers.{within, bounded, unbounded, asFraction}
 use Rattle.terms.specs.declared.term.Reading.{Reading}
 use Rattle.terms.specs.declared.term.Reading.the-variants.{Value, NotNumber, OutOfRange}
 use Rattle.terms.proofs.Readings.{fraction-unbounded}
-use Rattle.rules.specs.Refusal.{Refusal, Result, _>>=_, assert}
-use Rattle.rules.specs.Refusal.Result.{ok, refused}
+use Rattle.rules.specs.Refusal.{Outcome, _>>=_, assert}
+use Rattle.rules.specs.Refusal.Outcome.{ok, refused}
 use Rattle.rules.specs.Limits.{Limits, inLimit, numberOr, ranged, plus, times, over, fractionOf}
 
-pub data Yields {A : Type 0} (P : A → Type 0) : Result A → Type 0 where
+pub data Yields {E A : Type 0} (P : A → Type 0) : Outcome E A → Type 0 where
   gives : {a : A} → P a → Yields P (ok a)
-  refuses : {r : Refusal} → Yields P (refused r)
+  refuses : {r : E} → Yields P (refused r)
 
-pub at-ok : {A : Type 0} {P : A → Type 0} {x : Result A} → Yields P x → {a : A} → x ≡ ok a → P a
+pub at-ok : {E A : Type 0} {P : A → Type 0} {x : Outcome E A} → Yields P x → {a : A} → x ≡ ok a → P a
 at-ok {P = P} (gives {a = b} p) {a} e = let h : b ≡ a = cc in subst P h p
 at-ok refuses e = let z : _≡_ {A = ℕ} 0 1 = cc in absurd (omega arith)
 
-pub by-answer : {A : Type 0} {P : A → Type 0} (x : Result A) → ((a : A) → x ≡ ok a → P a) → Yields P x
+pub by-answer : {E A : Type 0} {P : A → Type 0} (x : Outcome E A) → ((a : A) → x ≡ ok a → P a) → Yields P x
 by-answer (ok a) h = gives (h a refl)
 by-answer (refused r) h = refuses
 
 -- x answers a, and f goes on from there to b
-pub record Through {A B : Type 0} (x : Result A) (f : A → Result B) (b : B) : Type 0 where
+pub record Through {E A B : Type 0} (x : Outcome E A) (f : A → Outcome E B) (b : B) : Type 0 where
   pub middle : A
   pub first : x ≡ ok middle
   pub then : f middle ≡ ok b
 
-pub through : {A B : Type 0} (x : Result A) (f : A → Result B) (b : B) → (x >>= f) ≡ ok b → Through x f b
+pub through : {E A B : Type 0} (x : Outcome E A) (f : A → Outcome E B) (b : B) → (x >>= f) ≡ ok b → Through x f b
 unfolding _>>=_
 through (ok a) f b e = record { middle = a; first = refl; then = e }
 through (refused r) f b e = let z : _≡_ {A = ℕ} 0 1 = cc in absurd (omega arith)
 
-module _ {A B : Type 0} {P : A → Type 0} {Q : B → Type 0} where
+module _ {E A B : Type 0} {P : A → Type 0} {Q : B → Type 0} where
   pub and-then :
-      {x : Result A} {f : A → Result B} → Yields P x → ((a : A) → P a → Yields Q (f a)) → Yields Q (x >>= f)
+      {x : Outcome E A} {f : A → Outcome E B} → Yields P x → ((a : A) → P a → Yields Q (f a)) → Yields Q (x >>= f)
   unfolding _>>=_
   and-then (gives {a} p) h = h a p
   and-then refuses h = refuses
 
-module _ {A B : Type 0} {Q : B → Type 0} where
+module _ {E A B : Type 0} {Q : B → Type 0} where
   -- the first value, and where it comes from
-  pub known : (m : Result A) {f : A → Result B} → ((a : A) → m ≡ ok a → Yields Q (f a)) → Yields Q (m >>= f)
+  pub known : (m : Outcome E A) {f : A → Outcome E B} → ((a : A) → m ≡ ok a → Yields Q (f a)) → Yields Q (m >>= f)
   unfolding _>>=_
   known (ok a) k = k a refl
   known (refused r) k = refuses
 
   -- nothing is known of the first value
-  pub past : (m : Result A) {f : A → Result B} → ((a : A) → Yields Q (f a)) → Yields Q (m >>= f)
+  pub past : (m : Outcome E A) {f : A → Outcome E B} → ((a : A) → Yields Q (f a)) → Yields Q (m >>= f)
   past m k = known m λ a e. k a
 
-pub weaker : {A : Type 0} {P Q : A → Type 0} {x : Result A} → ((a : A) → P a → Q a) → Yields P x → Yields Q x
+pub weaker : {E A : Type 0} {P Q : A → Type 0} {x : Outcome E A} → ((a : A) → P a → Q a) → Yields P x → Yields Q x
 weaker h (gives {a} p) = gives (h a p)
 weaker h refuses = refuses
 
 -- the test passed
 pub guarded :
-    {A : Type 0} {P : A → Type 0} (t : Bool) (r : Refusal) {f : Unit {0} → Result A} →
+    {E A : Type 0} {P : A → Type 0} (t : Bool) (r : E) {f : Unit {0} → Outcome E A} →
     (t ≡ true → (u : Unit {0}) → Yields P (f u)) → Yields P (assert t r >>= f)
 unfolding _>>=_ assert
 guarded true r h = h refl tt
@@ -77,17 +77,17 @@ guarded false r h = refuses
 
 -- along a test
 pub by-test :
-    {A : Type 0} {P : A → Type 0} (t : Bool) (x y : Result A) → (t ≡ true → Yields P x) →
-    (t ≡ false → Yields P y) → Yields P (elim t as (λ z. Result A) [ true ↦ x | false ↦ y ])
+    {E A : Type 0} {P : A → Type 0} (t : Bool) (x y : Outcome E A) → (t ≡ true → Yields P x) →
+    (t ≡ false → Yields P y) → Yields {E = E} P (elim t as (λ z. Outcome E A) [ true ↦ x | false ↦ y ])
 by-test true x y f g = f refl
 by-test false x y f g = g refl
 
 -- Q says what is known of the option
-module _ {A B : Type 0} {P : B → Type 0} where
+module _ {E A B : Type 0} {P : B → Type 0} where
   pub by-option :
-      (Q : Option A → Type 0) {f : A → Result B} {y : Result B} → ((a : A) → Q (some a) → Yields P (f a)) →
+      (Q : Option A → Type 0) {f : A → Outcome E B} {y : Outcome E B} → ((a : A) → Q (some a) → Yields P (f a)) →
       (Q none → Yields P y) → (o : Option A) → Q o →
-      Yields P (elim o as (λ x. Result B) [ some a ↦ f a | none ↦ y ])
+      Yields {E = E} P (elim o as (λ x. Outcome E B) [ some a ↦ f a | none ↦ y ])
   by-option Q g h (some a) q = g a q
   by-option Q g h none q = h q
 

@@ -3,7 +3,7 @@ use mathlib.Core.Path.{_≡_, sym, ap, _∙_}
 use mathlib.Core.List.{_++_, append-assoc}
 use Prim.Native.Nat.{ℕ, _+_}
 use lib.ListN.{replicate, replicate-append-replicate}
-use Rattle.terms.specs.Bytes.{Bytes}
+use Rattle.numbers.specs.Bytes.{Bytes}
 
 abbrev pub zeros : ℕ → Bytes
 zeros n = replicate n 0

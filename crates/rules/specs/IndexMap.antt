@@ -6,11 +6,11 @@ use mathlib.Core.List.{List, [], _∷_}
 use mathlib.Core.Option.{Option, some, none}
 use Prim.Native.Nat.{ℕ, suc}
 use lib.IntN.{pos}
-use Rattle.terms.specs.Rational.{Rational, whole, negQ, isZero}
-use Rattle.terms.specs.Term.{if_then_else_}
+use Rattle.numbers.specs.Rational.{Rational, whole, negQ, isZero}
+use Rattle.numbers.specs.Choice.{if_then_else_}
 use Rattle.terms.specs.Readers.{Bound, within}
 use Rattle.rules.specs.Refusal.{Result, _>>=_, assert}
-use Rattle.rules.specs.Refusal.Result.{ok}
+use Rattle.rules.specs.Refusal.Outcome.{ok}
 use Rattle.rules.specs.Refusal.Refusal.{visitLimit, polynomialSize}
 use Rattle.rules.specs.Limits.{Limits, times, plus}
 

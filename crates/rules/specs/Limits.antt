@@ -2,13 +2,13 @@
 -- under the visit limit n, with `theRust` they are the Rust itself. And the operations on numbers under a limit.
 use mathlib.Core.Option.{Option, some, none}
 use Prim.Native.Nat.{ℕ}
-use Rattle.terms.specs.Rational.{Rational, mulQ, divQ, addQ, limit}
+use Rattle.numbers.specs.Rational.{Rational, mulQ, divQ, addQ, limit}
 use Rattle.terms.specs.Term.{Term}
 use Rattle.terms.specs.Readers.{Bound, unbounded, atMost, bounded, asSignedNumber, asFraction}
 use Rattle.terms.specs.declared.term.Reading.{Reading}
 use Rattle.terms.specs.declared.term.Reading.the-variants.{Value, NotNumber, OutOfRange}
 use Rattle.rules.specs.Refusal.{Result, _>>=_, orElse}
-use Rattle.rules.specs.Refusal.Result.{ok, refused}
+use Rattle.rules.specs.Refusal.Outcome.{ok, refused}
 use Rattle.rules.specs.Refusal.Refusal.{numberRange, expectedAnyNumber}
 
 pub record Limits : Type 0 where

@@ -3,9 +3,10 @@
 use mathlib.Core.Bool.{Bool, true, false}
 use mathlib.Core.Option.{Option, some, none}
 use Prim.Native.Nat.{ℕ}
+use lib.Dec.{leb}
 
+-- Refusals of a rule, on one step. Those of what is lent (1 to 8) are another type, of the layer above: so no rule gives them.
 pub data Refusal : Type 0 where
-  workAreaOrLimit bookSize recordLayout sortBroken recordRepeated runSize runRecord noRoom : Refusal
   visitLimit numberRange polynomialSize : Refusal
   wrongNumberOfArgs wrongNumberOfPremises wrongLengthOfClause wrongLengthOfPremiseClause : Refusal
   termOfWrongForm expectedAnyNumber : Refusal
@@ -15,14 +16,6 @@ pub data Refusal : Type 0 where
   expectedBitvector expectedOperationTerm : Refusal
 
 abbrev pub number : Refusal → ℕ
-number workAreaOrLimit = 1
-number bookSize = 2
-number recordLayout = 3
-number sortBroken = 4
-number recordRepeated = 5
-number runSize = 6
-number runRecord = 7
-number noRoom = 8
 number visitLimit = 10
 number numberRange = 11
 number polynomialSize = 12
@@ -50,27 +43,36 @@ number invalidOperators = 40
 number expectedBitvector = 41
 number expectedOperationTerm = 42
 
-pub data Result (A : Type 0) : Type 0 where
-  ok : A → Result A
-  refused : Refusal → Result A
+-- a limit that document 01 adds to the Rust: 10 to 12
+abbrev pub isLimit : Refusal → Bool
+isLimit r = leb (number r) (number polynomialSize)
+
+-- an answer, or why there is none
+pub data Outcome (E A : Type 0) : Type 0 where
+  ok : A → Outcome E A
+  refused : E → Outcome E A
+
+-- of a rule
+abbrev pub Result : Type 0 → Type 0
+Result A = Outcome Refusal A
 
 -- `?`
 infixl 20 _>>=_
-unfoldable pub _>>=_ : {A B : Type 0} → Result A → (A → Result B) → Result B
+unfoldable pub _>>=_ : {E A B : Type 0} → Outcome E A → (A → Outcome E B) → Outcome E B
 ok a >>= f = f a
 refused r >>= f = refused r
 
 infixl 20 _>>_
-unfoldable pub _>>_ : {A B : Type 0} → Result A → Result B → Result B
+unfoldable pub _>>_ : {E A B : Type 0} → Outcome E A → Outcome E B → Outcome E B
 ok a >> b = b
 refused r >> b = refused r
 
 -- `rassert!`
-unfoldable pub assert : Bool → Refusal → Result (Unit {0})
+unfoldable pub assert : {E : Type 0} → Bool → E → Outcome E (Unit {0})
 assert true r = ok tt
 assert false r = refused r
 
 -- `ok_or`
-unfoldable pub orElse : {A : Type 0} → Option A → Refusal → Result A
+unfoldable pub orElse : {E A : Type 0} → Option A → E → Outcome E A
 orElse (some a) r = ok a
 orElse none r = refused r

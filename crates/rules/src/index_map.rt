@@ -6,19 +6,19 @@ ghost use mathlib.Core.Bool.{true};
 ghost use Prim.Native.Nat.{ℕ, _+_, _*_, _-_, _≤_, _<_};
 ghost use lib.Dec.{ltb};
 ghost use lib.ListN.{length, drop};
-ghost use Rattle.terms.specs.Rational.{Makes, Proper};
-ghost use Rattle.terms.specs.Bytes.{Bytes, le, numberAt};
+ghost use Rattle.numbers.specs.Rational.{Makes, Proper};
+ghost use Rattle.numbers.specs.Bytes.{Bytes, le, numberAt};
 ghost use Rattle.terms.specs.Book.{count, tree};
 ghost use Rattle.rules.specs.Limits.{limited};
 ghost use Rattle.rules.specs.IndexMap.{insert, get};
-ghost use Rattle.rules.specs.LinearComb.{terms};
-ghost use Rattle.rules.specs.WorkArea.{keysOf, entriesOf, place, putEntry, blank, blanked, swapped, absent};
-ghost use Rattle.rules.specs.WorkArea.{Kept, Grown, Inserts, CoefficientIs};
+ghost use Rattle.rules.specs.Entries.{terms, keysOf, entriesOf, place, putEntry, blanked, swapped, absent, Kept};
+ghost use Rattle.rules.specs.Entries.{Grown, Inserts, CoefficientIs, EntryPlace, NewEntry};
+ghost use Rattle.rules.specs.Parts.{blank};
 ghost use Rattle.rules.specs.declared.index_map.Inserted.the-variants as inserted;
-use terms::bytes::read_u16;
-use terms::bytes::write_u16;
-use terms::number::Checked;
-use terms::number::Number;
+use numbers::bytes::read_u16;
+use numbers::bytes::write_u16;
+use numbers::number::Checked;
+use numbers::number::Number;
 
 // How many entries there are after an insertion.
 pub enum Inserted {
@@ -48,7 +48,7 @@ pub fn value_at(entries: &[u8], k: usize) -> Number
 }
 
 pub fn put_entry(entries: &mut [u8], k: usize, key: usize, value: Number)
-    requires { ⌜ (k ≤ 4096) × (key < 65536) ⌝ }
+    requires { ⌜ EntryPlace k key ⌝ }
     ensures { λ _. ⌜ now (entries .exit) ≡ putEntry (now (entries .entry)) k key value ⌝ }
 {
     write_u16(entries, 10 * k, key as u32);
@@ -63,7 +63,7 @@ fn blank_entry(entries: &mut [u8], k: usize)
 }
 
 // A byte as a count.
-fn wide(x: u8) -> usize
+pub(crate) fn wide(x: u8) -> usize
     ensures { λ r. ⌜ (r ≡ x) × (r < 256) ⌝ }
 {
     x as usize
@@ -183,8 +183,8 @@ fn swap_remove(entries: &mut [u8], n: usize, k: usize)
 
 // Appends an entry whose key no other has: the search for it is spared. 0 is not entered. How many entries there are
 // then.
-pub(crate) fn append(entries: &mut [u8], n: usize, key: usize, value: Number) -> usize
-    requires { ⌜ (n ≤ 4096) × ((key < 65536) × Proper value) ⌝ }
+pub fn append(entries: &mut [u8], n: usize, key: usize, value: Number) -> usize
+    requires { ⌜ NewEntry n key value ⌝ }
     ensures { λ r. ⌜ r ≤ n + 1 ⌝ }
     ensures { λ r. ⌜ ((b : Bytes) → Kept b (now (entries .entry)) n → key < count b →
         absent key (entriesOf b (now (entries .entry)) n) ≡ true → (l : ℕ) →
@@ -200,7 +200,7 @@ pub(crate) fn append(entries: &mut [u8], n: usize, key: usize, value: Number) ->
 
 // Adds to the entry that has the key, or appends one; an entry that becomes 0 is removed.
 pub fn insert(entries: &mut [u8], n: usize, key: usize, value: Number) -> Inserted
-    requires { ⌜ (n ≤ 4096) × ((key < 65536) × Proper value) ⌝ }
+    requires { ⌜ NewEntry n key value ⌝ }
     ensures { λ r. ⌜ Grown n r ⌝ }
     ensures { λ r. ⌜ ((b : Bytes) → Kept b (now (entries .entry)) n → key < count b → (l : ℕ) →
         Inserts b (now (entries .exit)) r (insert terms (limited l) (entriesOf b (now (entries .entry)) n) (tree b key) value)) ⌝ }

@@ -1,12 +1,5 @@
-// Layer 2: the rules, on one step.
-mod disequality;
-mod index_map;
-pub mod linear_arithmetic;
-pub mod linear_comb;
-pub mod linear_shapes;
-mod monomials;
-pub mod poly_simp;
-mod polynomial;
-pub mod polynomial_rel;
-mod polynomial_walk;
-pub mod work_area;
+// Layer 2, what all rules share: limits, maps, shapes of terms, parts of a step, verdicts, and the work area before the first step.
+pub mod index_map;
+pub mod prepare;
+pub mod shapes;
+pub mod verdict;

@@ -3,13 +3,13 @@
 // left, is compared with what the file says.
 ghost use Prim.Native.Nat.{_≤_};
 ghost use lib.ListN.{length};
+use again::again::elaborate_again;
+use elaborate::elaborate::Elaborated;
+use elaborate::elaborate::elaborate;
 use libc::STDOUT_FILENO;
-use runs::again::elaborate_again;
+use numbers::bytes::read_u32;
 use runs::check::check;
-use runs::elaborate::Elaborated;
-use runs::elaborate::elaborate;
 use terms::book::same_bytes;
-use terms::bytes::read_u32;
 
 // The bytes in front of a case, and the most that a book, a run and an area of a case may have.
 const HEAD: usize = 48;

@@ -1,34 +1,37 @@
--- Going through a run step by step, as `check_steps` and `elaborate_steps` do: the marking of the run is that of the
--- steps that are left, behind those that are accepted.
+-- Turns of a marking, in the definition and by value (`stateOf`), as `turn` and `check_steps` make them. A loop that
+-- takes turns of its own, with more beside the state, uses the same laws.
 --     refused-as, accepted-as       what a verdict says of the answer
---     leftFrom, left-none, left-refused, left-next       the marking of the steps that are left, by the first of them
---     MarkedSoFar, marked-begin, marked-stop, marked-end       the loop's invariant, where it begins and ends
---     marked-stands, marked-within, marked-less       what a turn asks
---     marked-next       a step that is accepted
---     marked-refused, marked-again       the turns of `check_steps`, by the verdict on the step
-use mathlib.Core.Path.{_≡_, refl, sym, ap, _∙_}
-use mathlib.Core.List.{[], _∷_}
-use Prim.Native.Nat.{ℕ, suc, _+_, _-_, _≤_, _<_}
+--     Turned, turned       a turn stays, ends or goes on
+--     turn-reached, turn-less, turn-outcome       what each turn keeps, that it has an end, and where that is
+--     turn-stands, turn-room, turn-within       a state by value: what a turn asks
+--     turn-same, turn-over, turn-answered       the next state
+--     turn-stays, turn-done, turn-refused, turn-accepted       that state by value
+--     OnTheWay, way-begins, way-goes, way-less, way-marking, way-ends       a loop of turns
+use mathlib.Core.Path.{_≡_, refl, sym, ap, _∙_, subst}
+use mathlib.Core.Bool.{Bool, true, false}
+use mathlib.Core.List.{List, [], _∷_, _++_}
+use mathlib.Core.Option.{Option, some, none}
+use Prim.Native.Nat.{ℕ, zero, suc, _+_, _-_, _≤_, _<_}
 use native.Mathlib.Numerals.{add-one}
 use native.Mathlib.Omega.{arith}
-use lib.ListN.{length, drop}
-use Rattle.terms.specs.Bytes.{Bytes}
+use lib.ListN.{length, drop, length-append, length-drop}
+use Rattle.numbers.specs.Bytes.{Bytes}
+use Rattle.numbers.proofs.Truths.{never}
 use Rattle.rules.specs.Refusal.{Result, _>>=_}
-use Rattle.rules.specs.Refusal.Result.{ok, refused}
+use Rattle.rules.specs.Refusal.Outcome.{ok, refused}
 use Rattle.rules.specs.Limits.{limited}
-use Rattle.rules.specs.LinearSteps.{verdictOf}
-use Rattle.rules.specs.WorkArea.{Ready, Refuses}
-use Rattle.rules.specs.declared.linear_shapes.Verdict.{Verdict}
-use Rattle.rules.specs.declared.linear_shapes.Verdict.the-variants as verdict
+use Rattle.rules.specs.Parts.{verdictOf, Refuses}
+use Rattle.rules.specs.declared.verdict.Verdict.the-variants as verdict
 use Rattle.rules.proofs.RunParts.{drop-to-end}
-use Rattle.runs.specs.Run.{readRun}
-use Rattle.runs.specs.Check.{Accepted, Marking, marking, before, checkStep, checkSteps}
-use Rattle.runs.specs.Demands.{stepsOf}
+use Rattle.runs.specs.Verdict.{Verdict, verdictNumber}
+use Rattle.runs.specs.Run.{Step, readRun, stepsOf}
+use Rattle.runs.specs.Check.{Accepted, State, state, counter, ended, answered, onward, checkStep, turn, turns}
+use Rattle.runs.specs.Check.{markingOf, checkSteps}
 use Rattle.runs.specs.StepParts.{stepIn, bytesIn, StandsIn}
-use Rattle.runs.specs.Lent.{visitsAfter, markedOf}
+use Rattle.runs.specs.Lent.{visitsAfter, markedOf, placeOf, stateOf, Reached, Underway}
+use Rattle.runs.specs.declared.check.State as by-value
 use Rattle.runs.specs.declared.check.Marked.{Marked}
-use Rattle.runs.proofs.RunTerms.{next}
-use Rattle.runs.proofs.RunRecords.{partFrom, begins-next, begins-less, Passed, passed-first, passed-next}
+use Rattle.runs.proofs.RunRecords.{partFrom, Begins, begins-first, begins-next, passed-next}
 use Rattle.runs.proofs.Standing.{stands, step-now, no-more}
 
 -- ---- what a verdict says
@@ -38,132 +41,350 @@ unfolding _>>=_
 refused-as c (ok a) e = let z : _≡_ {A = ℕ} 0 1 = cc in absurd (omega arith)
 refused-as c (refused r) e = record { reason = r; is = refl; code = cc }
 
-accepted-as :
+pub accepted-as :
     (v : ℕ) (d : Result Accepted) → verdict.Accepted v ≡ verdictOf (visitsAfter d) →
     (a : Accepted) × ((d ≡ ok a) × (v ≡ a .visits))
 unfolding _>>=_
 accepted-as v (ok a) e = (a, (refl, cc))
 accepted-as v (refused r) e = let z : _≡_ {A = ℕ} 0 1 = cc in absurd (omega arith)
 
--- ---- the loop
+-- ---- a turn
 
--- the marking of a run's steps from k on, after n visits
-abbrev pub leftFrom : Bytes → Bytes → ℕ → ℕ → ℕ → Marking
-leftFrom b run limit k n = checkSteps (limited limit) (stepsOf b run) (drop k (stepsOf b run)) n
+module _ (run : List Step) (σ : State) where
+  pub data Turned : State → Type 0 where
+    stays : {v : Verdict} → σ .verdict ≡ some v → Turned σ
+    ends : σ .verdict ≡ none → (v : Verdict) → Turned (ended σ v)
+    goes :
+        σ .verdict ≡ none → length (σ .steps) < length run → (x : Step) (a : Accepted) → Turned (answered σ x (ok a))
 
--- the answer to the step at byte `at`
-abbrev pub answerAt : Bytes → Bytes → ℕ → ℕ → ℕ → Result Accepted
-answerAt b run limit at n = checkStep (limited limit) (stepsOf b run) (stepIn b (partFrom run at)) n
+  pub turned : Turned (turn run σ)
+  unfolding turn
+  turned = by-verdict (σ .verdict) refl
+    where
+      by-answer :
+          σ .verdict ≡ none → length (σ .steps) < length run → (x : Step) (d : Result Accepted) → Turned (answered σ x d)
+      by-answer e h x (refused r) = ends e (Verdict.stopped r)
+      by-answer e h x (ok a) = goes e h x a
 
--- a marking behind k accepted steps
-abbrev behind : ℕ → Marking → Marked
-behind k m = record { verdict = m .verdict; steps = k + length (m .steps); visits = m .visits }
+      by-steps : σ .verdict ≡ none → (left : List Step) → drop (length (σ .steps)) run ≡ left →
+          Turned (onward run σ left)
+      by-steps e [] f = ends e Verdict.accepted
+      by-steps e (x ∷ left) f =
+          by-answer e (omega (arith, ap length f, length-drop (length (σ .steps)) run)) x
+          (checkStep (σ .counter .limits) run x (σ .counter .visits))
 
-abbrev pub stopped : ℕ → ℕ → ℕ → Marked
-stopped c k n = record { verdict = c; steps = k; visits = n }
+      by-verdict :
+          (v : Option Verdict) → σ .verdict ≡ v →
+          Turned (elim v [ some w ↦ σ | none ↦ onward run σ (drop (length (σ .steps)) run) ])
+      by-verdict (some v) e = stays e
+      by-verdict none e = by-steps e (drop (length (σ .steps)) run) refl
 
--- k steps are accepted, with n visits; the next begins at byte `at`, and the work area is as it was
-pub record MarkedSoFar (b run : Bytes) (limit : ℕ) (w₀ w : Bytes) (at k n : ℕ) : Type 0 where
-  pub ready : Ready b w₀
+pub turn-reached : {run : List Step} {limit : ℕ} {σ : State} → Reached run limit σ → Reached run limit (turn run σ)
+turn-reached {run} {limit} {σ} reached = go (turned run σ)
+  where
+    go : {τ : State} → Turned run σ τ → Reached run limit τ
+    go (stays e) = reached
+    go (ends e v) = record { limits = reached .limits; place = reached .place }
+    go (goes e h x a) =
+        record {
+          limits = reached .limits;
+          place = omega (arith, h, length-append (σ .steps) ((x, a .inferred) ∷ []));
+        }
+
+-- how many turns there are to the end
+abbrev pub turnsBy : ℕ → ℕ → Option Verdict → ℕ
+turnsBy n k v = elim v [ some w ↦ 0 | none ↦ suc (n - k) ]
+
+abbrev pub turnsLeft : List Step → State → ℕ
+turnsLeft run σ = turnsBy (length run) (length (σ .steps)) (σ .verdict)
+
+-- the end
+abbrev pub outcome : List Step → State → State
+outcome run σ = turns (turnsLeft run σ) run σ
+
+-- by the verdict
+abbrev turnBy : List Step → State → Option Verdict → State
+turnBy run σ v = elim v [ some w ↦ σ | none ↦ onward run σ (drop (length (σ .steps)) run) ]
+
+turn-ended : (run : List Step) (σ : State) {v : Verdict} → σ .verdict ≡ some v → turn run σ ≡ σ
+unfolding turn
+turn-ended run σ e = ap (turnBy run σ) e
+
+turns-ended : (k : ℕ) (run : List Step) (σ : State) {v : Verdict} → σ .verdict ≡ some v → turns k run σ ≡ σ
+unfolding turns
+turns-ended zero run σ e = refl
+turns-ended (suc k) run σ e = ap (turns k run) (turn-ended run σ e) ∙ turns-ended k run σ e
+
+module _ (run : List Step) (σ : State) where
+  pub turn-less : σ .verdict ≡ none → turnsLeft run (turn run σ) < turnsLeft run σ
+  turn-less under = omega (arith, go (turned run σ), ap (turnsBy (length run) (length (σ .steps))) under)
+    where
+      go : {τ : State} → Turned run σ τ → turnsLeft run τ < suc (length run - length (σ .steps))
+      go (stays e) = let z : _≡_ {A = ℕ} 0 1 = cc in absurd (omega arith)
+      go (ends e v) = omega arith
+      go (goes e h x a) = omega (arith, h, length-append (σ .steps) ((x, a .inferred) ∷ []))
+
+  pub turn-outcome : outcome run (turn run σ) ≡ outcome run σ
+  unfolding turns
+  turn-outcome = go (turned run σ) refl
+    where
+      first : σ .verdict ≡ none → outcome run σ ≡ turns (length run - length (σ .steps)) run (turn run σ)
+      first e = ap (λ v. turns (turnsBy (length run) (length (σ .steps)) v) run σ) e
+
+      go : {τ : State} → Turned run σ τ → turn run σ ≡ τ → outcome run (turn run σ) ≡ outcome run σ
+      go (stays e) f = ap (outcome run) f
+      go (ends e v) f =
+          ap (outcome run) f
+          ∙ sym (first e ∙ ap (turns (length run - length (σ .steps)) run) f ∙ turns-ended (length run - length (σ .steps)) run (ended σ v) refl)
+      go (goes e h x a) f =
+          let more = length-append (σ .steps) ((x, a .inferred) ∷ []) in
+          let n : suc (length run - length (σ .steps ++ (x, a .inferred) ∷ [])) ≡ length run - length (σ .steps) =
+          omega (arith, h, more)
+          in
+          ap (outcome run) f ∙ ap (λ k. turns k run (answered σ x (ok a))) n
+          ∙ sym (first e ∙ ap (turns (length run - length (σ .steps)) run) f)
+
+-- ---- by value
+
+begins-place : {run : Bytes} {at n : ℕ} → Begins run at n → placeOf run n ≡ at
+begins-place {run} {at} {n} begins =
+    omega (arith, ap length (begins .from), length-drop at run, begins .within)
+
+place-begins : (run : Bytes) (n : ℕ) → Begins run (placeOf run n) n
+place-begins run zero = rw (begins-place (begins-first run)) (begins-first run)
+place-begins run (suc n) =
+    let next = begins-next (place-begins run n) refl in
+    let here = rw add-one at next in
+    rw (begins-place here) here
+
+-- as long as a step is there, none before it is empty
+place-few : (run : Bytes) (n : ℕ) → placeOf run n < length run → n ≤ placeOf run n
+place-few run zero h = omega arith
+place-few run (suc n) h =
+    let begins = place-begins run n in
+    let place = rw add-one at (begins-place (begins-next begins refl)) in
+    let before : placeOf run n < length run = omega (arith, h, place) in
+    let passed = passed-next (record { begins = begins; few = place-few run n before }) before refl in
+    omega (arith, passed .few, place)
+
+ended-by : (v : Option Verdict) → elim v [ some w ↦ true | none ↦ false ] ≡ true → (w : Verdict) × (v ≡ some w)
+ended-by (some v) e = (v, refl)
+ended-by none e = never e
+
+under-by : (v : Option Verdict) → elim v [ some w ↦ true | none ↦ false ] ≡ false → v ≡ none
+under-by (some v) e = never (sym e)
+under-by none e = refl
+
+-- s is the state σ of a run that was read
+pub record Shows (b run : Bytes) (s : by-value.State) (σ : State) : Type 0 where
   pub read : readRun b run ≡ ok (stepsOf b run)
-  pub passed : Passed run at k
-  pub same : w ≡ w₀
-  pub left : behind k (leftFrom b run limit k n) ≡ markedOf (leftFrom b run limit 0 0)
+  pub reached : Reached (stepsOf b run) (s .counter .limit) σ
+  pub is : s ≡ stateOf run (s .counter .limit) σ
 
-pub marked-begin :
-    {b run w : Bytes} {limit : ℕ} → Ready b w → readRun b run ≡ ok (stepsOf b run) →
-    MarkedSoFar b run limit w w 0 0 0
-marked-begin {b} {run} {w} {limit} ready read =
-    let m = leftFrom b run limit 0 0 in
-    let none : 0 + length (m .steps) ≡ length (m .steps) = omega arith in
+-- the next state
+abbrev pub nextOf : Bytes → Bytes → by-value.State → State → by-value.State
+nextOf b run s σ = stateOf run (s .counter .limit) (turn (stepsOf b run) σ)
+
+-- the answer to the step at its place
+abbrev pub answerTo : Bytes → Bytes → by-value.State → Result Accepted
+answerTo b run s =
+    checkStep (limited (s .counter .limit)) (stepsOf b run) (stepIn b (partFrom run (s .at))) (s .counter .visits)
+
+-- the marking is ended by a verdict with number c; or m bytes are passed with v visits
+abbrev pub endedAs : by-value.State → ℕ → by-value.State
+endedAs s c = record { at = s .at; steps = s .steps; counter = s .counter; ended = true; verdict = c }
+
+abbrev pub placed : ℕ → ℕ → ℕ → ℕ → by-value.State
+placed at k v limit =
+    record { at = at; steps = k; counter = record { visits = v; limit = limit }; ended = false; verdict = 0 }
+
+module _ {b run : Bytes} {s : by-value.State} {σ : State} (shows : Shows b run s σ) where
+  begins : Begins run (s .at) (length (σ .steps))
+  begins = rw (ap (λ x. x .at) (shows .is)) (place-begins run (length (σ .steps)))
+
+  pub turn-same : s .ended ≡ true → turn (stepsOf b run) σ ≡ σ
+  turn-same e =
+      turn-ended (stepsOf b run) σ (ended-by (σ .verdict) (sym (ap (λ x. x .ended) (shows .is)) ∙ e) .1)
+
+  pub turn-stays : s .ended ≡ true → s ≡ nextOf b run s σ
+  turn-stays e = shows .is ∙ ap (stateOf run (s .counter .limit)) (sym (turn-same e))
+
+  module _ (h : s .at < length run) where
+    pub turn-stands : StandsIn b run (partFrom run (s .at))
+    turn-stands = rw (drop-to-end run (s .at)) (stands b run _ (shows .read) begins h)
+
+    pub turn-room : s .steps < length run
+    turn-room =
+        let place = ap (λ x. x .at) (shows .is) in
+        let steps = ap (λ x. x .steps) (shows .is) in
+        omega (arith, h, place, steps, place-few run (length (σ .steps)) (omega (arith, h, place)))
+
+  -- m is how many bytes the step has
+  pub turn-within : {m : ℕ} → m ≡ bytesIn (partFrom run (s .at)) → s .at + m ≤ length run
+  turn-within size = begins-next begins size .within
+
+  module _ (e : s .ended ≡ false) where
+    pub under : σ .verdict ≡ none
+    under = under-by (σ .verdict) (sym (ap (λ x. x .ended) (shows .is)) ∙ e)
+
+    onwards :
+        (left : List Step) → drop (length (σ .steps)) (stepsOf b run) ≡ left →
+        turn (stepsOf b run) σ ≡ onward (stepsOf b run) σ left
+    unfolding turn
+    onwards left f = ap (turnBy (stepsOf b run) σ) under ∙ ap (onward (stepsOf b run) σ) f
+
+    ends-as :
+        (v : Verdict) → turn (stepsOf b run) σ ≡ ended σ v → {c : ℕ} → c ≡ verdictNumber v →
+        endedAs s c ≡ nextOf b run s σ
+    ends-as v f {c} c-is =
+        ap (λ x. endedAs x c) (shows .is) ∙ ap (endedAs (stateOf run (s .counter .limit) σ)) c-is
+        ∙ ap (stateOf run (s .counter .limit)) (sym f)
+
+    pub turn-over : length run ≤ s .at → turn (stepsOf b run) σ ≡ ended σ Verdict.accepted
+    turn-over h = onwards [] (no-more b run _ (shows .read) begins h)
+
+    pub turn-done : length run ≤ s .at → endedAs s 0 ≡ nextOf b run s σ
+    turn-done h = ends-as Verdict.accepted (turn-over h) refl
+
+    module _ (h : s .at < length run) where
+      pub turn-answered :
+          turn (stepsOf b run) σ ≡ answered σ (stepIn b (partFrom run (s .at))) (answerTo b run s)
+      turn-answered =
+          let ss = stepsOf b run in
+          let x = stepIn b (partFrom run (s .at)) in
+          let now = rw (← drop-to-end run (s .at)) at (step-now b run _ (shows .read) begins h) in
+          onwards _ now
+          ∙ ap (λ l. answered σ x (checkStep l ss x (σ .counter .visits))) (shows .reached .limits)
+          ∙ ap (λ n. answered σ x (checkStep (limited (s .counter .limit)) ss x n))
+          (sym (ap (λ y. y .counter .visits) (shows .is)))
+
+      pub turn-refused : {c : ℕ} → Refuses c (answerTo b run s) → endedAs s c ≡ nextOf b run s σ
+      turn-refused r =
+          ends-as (Verdict.stopped (r .reason))
+          (turn-answered ∙ ap (answered σ (stepIn b (partFrom run (s .at)))) (r .is)) (r .code)
+
+      pub turn-accepted :
+          (a : Accepted) → answerTo b run s ≡ ok a → {v m : ℕ} → v ≡ a .visits → m ≡ bytesIn (partFrom run (s .at)) →
+          placed (s .at + m) (s .steps + 1) v (s .counter .limit) ≡ nextOf b run s σ
+      turn-accepted a f {v} v-is size =
+          let limit = s .counter .limit in
+          let x = stepIn b (partFrom run (s .at)) in
+          let k = length (σ .steps ++ (x, a .inferred) ∷ []) in
+          let more : length (σ .steps) + 1 ≡ k = omega (arith, length-append (σ .steps) ((x, a .inferred) ∷ [])) in
+          let place = sym (begins-place (begins-next begins size)) ∙ ap (placeOf run) more in
+          let steps = ap (λ y. y .steps + 1) (shows .is) ∙ more in
+          ap (λ at. placed at (s .steps + 1) v limit) place
+          ∙ ap (λ j. placed (placeOf run k) j v limit) steps
+          ∙ ap (λ u. placed (placeOf run k) k u limit) v-is
+          ∙ ap (stateOf run limit) (sym (turn-answered ∙ ap (answered σ x) f))
+
+-- ---- a loop of turns
+
+-- the first state
+abbrev pub first : ℕ → State
+first limit = state [] (counter (limited limit) 0) none
+
+pub first-is : (run : Bytes) (limit : ℕ) → placed 0 0 0 limit ≡ stateOf run limit (first limit)
+first-is run limit = ap (λ at. placed at 0 0 limit) (sym (begins-place (begins-first run)))
+
+module _ {b run : Bytes} {s : by-value.State} {σ : State} (shows : Shows b run s σ) where
+  pub shows-underway : Underway b run s
+  shows-underway = record { state = σ; reached = shows .reached; is = shows .is }
+
+  pub shows-next : {r : by-value.State} → r ≡ nextOf b run s σ → Shows b run r (turn (stepsOf b run) σ)
+  shows-next {r} e =
+      let same : s .counter .limit ≡ r .counter .limit = sym (ap (λ x. x .counter .limit) e) in
+      record {
+        read = shows .read;
+        reached = subst (λ l. Reached (stepsOf b run) l (turn (stepsOf b run) σ)) same (turn-reached (shows .reached));
+        is = e ∙ ap (λ l. stateOf run l (turn (stepsOf b run) σ)) same;
+      }
+
+-- s is a state on the way from the first to the end
+pub record OnTheWay (b run : Bytes) (limit : ℕ) (s : by-value.State) : Type 0 where
+  pub state : State
+  pub shows : Shows b run s state
+  pub under-limit : s .counter .limit ≡ limit
+  pub end : outcome (stepsOf b run) state ≡ outcome (stepsOf b run) (first limit)
+
+abbrev pub way-begins :
+    {b run : Bytes} {limit : ℕ} → readRun b run ≡ ok (stepsOf b run) → {s : by-value.State} →
+    ((r : Bytes) → s ≡ stateOf r limit (first limit)) → OnTheWay b run limit s
+way-begins {b} {run} {limit} read {s} is =
+    let same : limit ≡ s .counter .limit = sym (ap (λ x. x .counter .limit) (is run)) in
     record {
-      ready = ready;
-      read = read;
-      passed = passed-first run;
-      same = refl;
-      left = ap (λ j. stopped (m .verdict) j (m .visits)) none;
+      state = first limit;
+      shows =
+          record {
+            read = read;
+            reached = record { limits = ap limited same; place = omega arith };
+            is = is run ∙ ap (λ l. stateOf run l (first limit)) same;
+          };
+      under-limit = sym same;
+      end = refl;
     }
 
-module _ {b run : Bytes} {limit : ℕ} {w₀ w : Bytes} {at k n : ℕ} (far : MarkedSoFar b run limit w₀ w at k n) where
-  -- nothing more is accepted
-  pub marked-stop :
-      {c : ℕ} → leftFrom b run limit k n ≡ marking c [] n → stopped c k n ≡ markedOf (leftFrom b run limit 0 0)
-  marked-stop {c} e =
-      let none : k ≡ k + 0 = omega arith in
-      ap (λ j. stopped c j n) none ∙ ap (behind k) (sym e) ∙ far .left
+-- how many turns there are to the end, by value
+abbrev pub turnsIn : Bytes → Bytes → by-value.State → ℕ
+turnsIn b run s = elim (s .ended) [ true ↦ 0 | false ↦ suc (length (stepsOf b run) - s .steps) ]
 
-  pub left-none : length run ≤ at → leftFrom b run limit k n ≡ marking 0 [] n
+turns-in :
+    (b run : Bytes) (limit : ℕ) (σ : State) {s : by-value.State} → s ≡ stateOf run limit σ →
+    turnsIn b run s ≡ turnsLeft (stepsOf b run) σ
+turns-in b run limit σ is = ap (turnsIn b run) is ∙ go (σ .verdict)
+  where
+    go :
+        (v : Option Verdict) →
+        elim (elim v as (λ x. Bool) [ some w ↦ true | none ↦ false ]) as (λ x. ℕ) [
+          | true ↦ 0
+          | false ↦ suc (length (stepsOf b run) - length (σ .steps))
+        ] ≡
+        turnsBy (length (stepsOf b run)) (length (σ .steps)) v
+    go (some v) = refl
+    go none = refl
+
+-- what is answered at the end
+abbrev pub markedIn : by-value.State → Marked
+markedIn s = record { verdict = s .verdict; steps = s .steps; visits = s .counter .visits }
+
+marked-is : (run : Bytes) (limit : ℕ) (σ : State) → markedIn (stateOf run limit σ) ≡ markedOf (markingOf σ)
+marked-is run limit σ = ap (λ v. record { verdict = v; steps = length (σ .steps); visits = σ .counter .visits }) (go (σ .verdict))
+  where
+    go :
+        (v : Option Verdict) →
+        elim v as (λ x. ℕ) [ some w ↦ verdictNumber w | none ↦ 0 ] ≡
+        verdictNumber (elim v [ some w ↦ w | none ↦ Verdict.accepted ])
+    go (some v) = refl
+    go none = refl
+
+module _ {b run : Bytes} {limit : ℕ} {s : by-value.State} (way : OnTheWay b run limit s) where
+  abbrev pub way-goes : {r : by-value.State} → r ≡ nextOf b run s (way .state) → OnTheWay b run limit r
+  way-goes e =
+      record {
+        state = turn (stepsOf b run) (way .state);
+        shows = shows-next (way .shows) e;
+        under-limit = ap (λ x. x .counter .limit) e ∙ way .under-limit;
+        end = turn-outcome (stepsOf b run) (way .state) ∙ way .end;
+      }
+
+  pub way-less :
+      {r : by-value.State} → s .ended ≡ false → r ≡ nextOf b run s (way .state) → turnsIn b run r < turnsIn b run s
+  way-less e f =
+      let σ = way .state in
+      let after = turns-in b run (s .counter .limit) (turn (stepsOf b run) σ) f in
+      let before = turns-in b run (s .counter .limit) σ (way .shows .is) in
+      omega (arith, after, before, turn-less (stepsOf b run) σ (under (way .shows) e))
+
+  pub way-marking : s .ended ≡ true → markingOf (way .state) ≡ checkSteps (limited limit) (stepsOf b run)
   unfolding checkSteps
-  left-none h =
-      ap (λ ss. checkSteps (limited limit) (stepsOf b run) ss n) (no-more b run _ (far .read) (far .passed .begins) h)
+  way-marking e =
+      let ss = stepsOf b run in
+      let σ = way .state in
+      let found = ended-by (σ .verdict) (sym (ap (λ x. x .ended) (way .shows .is)) ∙ e) in
+      let all : length ss - 0 ≡ length ss = omega arith in
+      ap markingOf (sym (turns-ended (turnsLeft ss σ) ss σ (found .1)) ∙ way .end)
+      ∙ ap (λ n. markingOf (turns (suc n) ss (first limit))) all
 
-  pub marked-end : length run ≤ at → (stopped 0 k n ≡ markedOf (leftFrom b run limit 0 0)) × (w ≡ w₀)
-  marked-end h = (marked-stop (left-none h), far .same)
-
-  module _ (inside : at < length run) where
-    pub marked-stands : Ready b w × StandsIn b run (partFrom run at)
-    marked-stands =
-        (rw (far .same) (far .ready), rw (drop-to-end run at) (stands b run _ (far .read) (far .passed .begins) inside))
-
-    now : drop k (stepsOf b run) ≡ stepIn b (partFrom run at) ∷ drop (k + 1) (stepsOf b run)
-    now = rw (drop-to-end run at, add-one k) (step-now b run _ (far .read) (far .passed .begins) inside)
-
-    left-by :
-        (d : Result Accepted) → answerAt b run limit at n ≡ d →
-        leftFrom b run limit k n ≡
-        next (limited limit) (stepsOf b run) (stepIn b (partFrom run at)) (drop (k + 1) (stepsOf b run)) n d
-    unfolding checkSteps
-    left-by d e =
-        ap (λ ss. checkSteps (limited limit) (stepsOf b run) ss n) now
-        ∙ ap (next (limited limit) (stepsOf b run) (stepIn b (partFrom run at)) (drop (k + 1) (stepsOf b run)) n) e
-
-    pub left-refused : {c : ℕ} → Refuses c (answerAt b run limit at n) → leftFrom b run limit k n ≡ marking c [] n
-    left-refused r = left-by _ (r .is) ∙ ap (λ v. marking v [] n) (sym (r .code))
-
-    pub left-next :
-        (a : Accepted) → answerAt b run limit at n ≡ ok a →
-        leftFrom b run limit k n ≡
-        before (stepIn b (partFrom run at), a .inferred) (leftFrom b run limit (k + 1) (a .visits))
-    left-next a e = left-by (ok a) e
-
-    module _ {m : ℕ} (size : m ≡ bytesIn (partFrom run at)) where
-      pub marked-within : at + m ≤ length run
-      marked-within = begins-next (far .passed .begins) size .within
-
-      pub marked-less : length run - (at + m) < length run - at
-      marked-less = begins-less (far .passed .begins) size inside
-
-      pub marked-next :
-          {w′ : Bytes} {v : ℕ} (a : Accepted) → answerAt b run limit at n ≡ ok a → v ≡ a .visits → w′ ≡ w →
-          MarkedSoFar b run limit w₀ w′ (at + m) (k + 1) v
-      marked-next {v = v} a e v-is kept =
-          let rest = leftFrom b run limit (k + 1) (a .visits) in
-          let more : k + 1 + length (rest .steps) ≡ k + suc (length (rest .steps)) = omega arith in
-          record {
-            ready = far .ready;
-            read = far .read;
-            passed = passed-next (far .passed) inside size;
-            same = kept ∙ far .same;
-            left =
-                ap (λ u. behind (k + 1) (leftFrom b run limit (k + 1) u)) v-is
-                ∙ ap (λ j. stopped (rest .verdict) j (rest .visits)) more
-                ∙ ap (behind k) (sym (left-next a e))
-                ∙ far .left;
-          }
-
-    -- ---- the turns of `check_steps`
-
-    module _
-        {r : Verdict} (judged : r ≡ verdictOf (visitsAfter (answerAt b run limit at n)))
-        {w′ : Bytes} (kept : w′ ≡ w)
-      where
-        pub marked-refused :
-            {c : ℕ} → r ≡ verdict.Refused c → (stopped c k n ≡ markedOf (leftFrom b run limit 0 0)) × (w′ ≡ w₀)
-        marked-refused {c} e = (marked-stop (left-refused (refused-as c _ (sym e ∙ judged))), kept ∙ far .same)
-
-        pub marked-again :
-            {v m : ℕ} → r ≡ verdict.Accepted v → m ≡ bytesIn (partFrom run at) →
-            MarkedSoFar b run limit w₀ w′ (at + m) (k + 1) v
-        marked-again {v} e size =
-            let said = accepted-as v _ (sym e ∙ judged) in
-            marked-next size (said .0) (said .1 .0) (said .1 .1) kept
+  pub way-ends : s .ended ≡ true → markedIn s ≡ markedOf (checkSteps (limited limit) (stepsOf b run))
+  way-ends e =
+      ap markedIn (way .shows .is) ∙ marked-is run (s .counter .limit) (way .state) ∙ ap markedOf (way-marking e)

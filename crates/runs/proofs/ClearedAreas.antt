@@ -7,10 +7,9 @@ use Prim.Native.Nat.{ℕ, _+_, _-_, _≤_, _<_}
 use native.Mathlib.Nat.{sub-zero}
 use native.Mathlib.Omega.{arith}
 use borrow.Author.Fill.{fill-more}
-use lib.ListN.{length, take, drop, set, replicate, length-drop, length-set}
-use lib.ListN.{take-append-drop, drop-of-length-le}
+use lib.ListN.{length, take, drop, set, replicate, length-drop, length-set, take-append-drop, drop-of-length-le}
 use lib.Seq.{take-set-le, drop-set-add}
-use Rattle.terms.specs.Bytes.{Bytes}
+use Rattle.numbers.specs.Bytes.{Bytes}
 use Rattle.runs.specs.Lent.{zeroedFrom}
 
 -- ---- zeros from a byte on

@@ -12,15 +12,14 @@ use native.Mathlib.Omega.{arith}
 use borrow.Author.Tests.{eq-eqb, ltb-true}
 use lib.Dec.{eqb, ltb}
 use lib.ListN.{length}
-use Rattle.terms.specs.Bytes.{Bytes, bytesOf}
+use Rattle.numbers.specs.Bytes.{Bytes, bytesOf}
 use Rattle.terms.specs.Term.{Term, recordNumber, sort, sameSort}
 use Rattle.terms.specs.Term.Sort.{bool}
 use Rattle.terms.specs.Book.{count, tree}
-use Rattle.terms.proofs.Truths.{both}
+use Rattle.numbers.proofs.Truths.{both}
 use Rattle.terms.proofs.BookTerms.{OfBook, recordNumber-tree}
-use Rattle.runs.specs.Run.{Rec, P, rec, recs, leading, after, allRight, numbersOf, termsOf}
-use Rattle.runs.specs.Elaborate.{recordBytes, premiseBytes, termBytes}
-use Rattle.runs.specs.Demands.{Every, end, also}
+use Rattle.runs.specs.Run.{Rec, P, rec, recs, leading, after, allRight, numbersOf, termsOf, Every, recordBytes}
+use Rattle.runs.specs.Run.{premiseBytes, termBytes, end, also}
 
 -- ---- records of one mark, as bytes and as they are read
 

@@ -16,9 +16,9 @@ use native.Mathlib.Omega.{arith}
 use lib.Dec.{eqb}
 use lib.ListN.{length, getD, take, drop, length-append, length-take, length-drop, drop-of-length-le, take-append-drop}
 use lib.Seq.{take-all, take-nil, drop-nil, drop-drop, take-at, drop-at}
-use Rattle.terms.specs.Bytes.{Bytes, le}
-use Rattle.terms.proofs.LittleEndian.{le-cons, le-of-two}
-use Rattle.rules.specs.LinearSteps.{numbersIn, named, termsIn}
+use Rattle.numbers.specs.Bytes.{Bytes, le}
+use Rattle.numbers.proofs.LittleEndian.{le-cons, le-of-two}
+use Rattle.rules.specs.Parts.{numbersIn, named, termsIn}
 use Rattle.rules.proofs.RunParts.{drop-to-end}
 use Rattle.runs.specs.Run.{Rec, rec, recs, leading, after, numbersOf, termsOf, P, C, A}
 use Rattle.runs.specs.StepParts.{leadingIn, afterIn, premisesIn, clauseIn, argsIn, nextIn, bytesIn, headIn}

@@ -6,45 +6,55 @@
 use mathlib.Core.Path.{_≡_, refl, sym, ap, _∙_}
 use mathlib.Core.Bool.{Bool, true}
 use mathlib.Core.List.{List, [], _∷_, _++_}
-use Prim.Native.Nat.{ℕ, zero, suc, _+_, _/_, _%_, _≤_, _<_}
+use mathlib.Core.Option.{Option, some, none}
+use Prim.Native.Nat.{ℕ, zero, suc, _/_, _%_, _≤_, _<_}
 use native.Mathlib.Numerals.{add-one}
 use native.Mathlib.Omega.{arith}
 use borrow.Author.Tests.{eqb-true, leb-true}
 use lib.Dec.{eqb, leb, ltb}
 use lib.ListN.{length, getD, take, drop, length-append, length-drop, drop-of-length-le}
 use lib.Seq.{drop-cons, drop-drop, drop-nil}
-use Rattle.terms.specs.Bytes.{Bytes}
+use Rattle.numbers.specs.Bytes.{Bytes}
 use Rattle.terms.specs.Term.{sort, sameSort}
 use Rattle.terms.specs.Term.Sort.{bool}
 use Rattle.terms.specs.Book.{count, tree, allBelow}
-use Rattle.terms.proofs.Truths.{both}
-use Rattle.rules.specs.Refusal.Result.{ok}
-use Rattle.rules.specs.LinearSteps.{numbersIn, Inside}
-use Rattle.rules.proofs.Yields.{Yields, at-ok, by-answer, guarded, through}
+use Rattle.numbers.proofs.Truths.{both}
+use Rattle.rules.specs.Refusal.{orElse}
+use Rattle.rules.specs.Refusal.Outcome.{ok}
+use Rattle.rules.specs.Parts.{numbersIn, Inside}
+use Rattle.rules.proofs.Yields.{Yields, at-ok, by-answer, guarded, known, through}
 use Rattle.rules.proofs.Yields.Yields.{gives}
-use Rattle.runs.specs.Run.{Step, step, S, recs, allRight, readStep, readRun}
-use Rattle.runs.specs.Demands.{Every, end, also, stepsOf}
-use Rattle.runs.specs.StepParts.{premisesIn, clauseIn, argsIn, nextIn, bytesIn, headIn}
-use Rattle.runs.specs.StepParts.{readIn, stepIn, stepFrom, StandsIn}
+use Rattle.runs.specs.Verdict.LentRefusal.{runRecord}
+use Rattle.runs.specs.Rule.{ruleOf}
+use Rattle.runs.specs.Rule.Rule.{assume}
+use Rattle.runs.specs.Run.{Step, step, recs, allRight, headRule, readStep, readRun, Every, stepsOf, end, also}
+use Rattle.runs.specs.StepParts.{premisesIn, clauseIn, argsIn, nextIn, bytesIn, headIn, readIn, ruleIn, stepIn}
+use Rattle.runs.specs.StepParts.{stepFrom, StandsIn}
 use Rattle.runs.proofs.RowRecords.{isLiteral, right-numbers}
-use Rattle.runs.proofs.RunRecords.{length-recs, numbers-of, terms-of, rowsIn, length-own, next-drop, bytes-within}
-use Rattle.runs.proofs.RunRecords.{next-shorter, whole-next, Begins}
-use Rattle.runs.proofs.StepReading.{headOk, readPart, part-done, part-first}
+use Rattle.runs.proofs.RunRecords.{length-recs, numbers-of, terms-of, rowsIn, length-own, next-drop}
+use Rattle.runs.proofs.RunRecords.{bytes-within, next-shorter, whole-next, Begins}
+use Rattle.runs.proofs.StepRules.{head-rule, rule-is}
+use Rattle.runs.proofs.StepReading.{readPart, part-done, part-first}
 
 -- ---- one step
 
 -- what reading tests of step n
 pub record Tested (b : Bytes) (n : ℕ) (part : Bytes) : Type 0 where
-  pub head : headOk (headIn part) ≡ true
+  pub head : headRule (headIn part) ≡ some (ruleIn part)
   pub premises : allRight (λ p. ltb p n) (recs (premisesIn part)) ≡ true
   pub clause : allRight (isLiteral b) (recs (clauseIn part)) ≡ true
   pub args : allRight (λ a. ltb a (count b)) (recs (argsIn part)) ≡ true
 
+some-of : {E A : Type 0} (o : Option A) (r : E) {a : A} → orElse o r ≡ ok a → o ≡ some a
+unfolding orElse
+some-of (some b) r e = cc
+some-of none r e = let z : _≡_ {A = ℕ} 0 1 = cc in absurd (omega arith)
+
 read-as :
     (b : Bytes) (n : ℕ) (part : Bytes) → Yields (λ s. Tested b n part × (s ≡ stepIn b part)) (readIn b n part)
-unfolding readIn readStep stepIn
+unfolding readIn readStep stepIn headIn
 read-as b n part =
-    guarded _ _ λ e1 u1.
+    known _ λ rule e1.
     guarded _ _ λ e2 u2.
     guarded _ _ λ e3 u3.
     guarded _ _ λ e4 u4.
@@ -52,7 +62,9 @@ read-as b n part =
     let p = numbers-of (premisesIn part) in
     let c = terms-of b (clauseIn part) in
     let a = terms-of b (argsIn part) in
-    gives (record { head = e1; premises = e2; clause = e3; args = e4 }, rw (p, c, a))
+    let found = some-of (headRule (headIn part)) runRecord e1 in
+    let same = rule-is part (head-rule (headIn part) found) in
+    gives (record { head = found ∙ ap some (sym same); premises = e2; clause = e3; args = e4 }, rw (same, p, c, a))
 
 -- ---- the steps that are left
 
@@ -77,7 +89,7 @@ reads-none {b} {n} h = cc (h .read, none-read b n .read)
 
 module _ {b : Bytes} {n : ℕ} {ss : List Step} where
   reads-one : (part : Bytes) → Reads b n part ss → 0 < length part → ReadsOne b n part ss
-  reads-one part h some =
+  reads-one part h left =
       let size : 4 ≤ length part = omega (arith, h .whole) in
       let first = through (readIn b n part) _ ss (sym (part-first b n part size) ∙ h .read) in
       let rest = through (readPart b (suc n) (nextIn part)) _ ss (first .then) in
@@ -94,8 +106,8 @@ module _ {b : Bytes} {n : ℕ} {ss : List Step} where
 
   -- where steps are left, bytes are
   some-left : (part : Bytes) → Reads b n part ss → 0 < length ss → 0 < length part
-  some-left [] h some = absurd (omega (arith, ap length (reads-none h)))
-  some-left (m ∷ part) h some = omega arith
+  some-left [] h left = absurd (omega (arith, ap length (reads-none h)))
+  some-left (m ∷ part) h left = omega arith
 
 -- ---- the parts of a run
 
@@ -201,10 +213,10 @@ module _ {b run part : Bytes} (s : StandsIn b run part) where
 
   -- an earlier step, by its number
   pub stands-named :
-      (p : ℕ) → p < length (s .steps) → getD (s .steps) p (step 0 [] [] []) ≡ stepIn b (stepFrom p run)
+      (p : ℕ) → p < length (s .steps) → getD (s .steps) p (step assume [] [] []) ≡ stepIn b (stepFrom p run)
   stands-named p h =
       let o = reads-step b run (s .steps) (s .read) p h in
-      cc (drop-cons (s .steps) p (step 0 [] [] []) h, o .are)
+      cc (drop-cons (s .steps) p (step assume [] [] []) h, o .are)
 
   read-here : ReadsOne b (s .number) part (drop (s .number) (s .steps))
   read-here = rw (s .from) (reads-step b run (s .steps) (s .read) (s .number) (s .inside))
@@ -215,11 +227,10 @@ module _ {b run part : Bytes} (s : StandsIn b run part) where
   pub stands-tested : Tested b (s .number) part
   stands-tested = read-here .tested
 
-  pub stands-rule : getD part 1 0 ≤ 8
+  -- the rule has the byte of its number
+  pub stands-rule : ruleOf (getD part 1 0) ≡ some (ruleIn part)
   unfolding headIn
-  stands-rule =
-      let x = both (eqb (headIn part .mark) S) _ (stands-tested .head) in
-      leb-true (getD part 1 0) 8 (both (leb (getD part 1 0) 8) _ (x .1) .0)
+  stands-rule = head-rule (headIn part) (stands-tested .head)
 
   pub stands-premises : allBelow (s .number) (numbersIn (premisesIn part)) ≡ true
   stands-premises = names-below (s .number) (λ i e. e) (premisesIn part) (stands-tested .premises)

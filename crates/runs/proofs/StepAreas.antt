@@ -11,7 +11,7 @@ use native.Mathlib.Numerals.{add-one}
 use native.Mathlib.Omega.{arith}
 use borrow.Author.Tests.{eq-eqb, ne-eqb}
 use lib.ListN.{length, getD, take, drop, length-take, drop-of-length-le}
-use Rattle.terms.specs.Bytes.{Bytes}
+use Rattle.numbers.specs.Bytes.{Bytes}
 use Rattle.rules.proofs.RunParts.{drop-to-end}
 use Rattle.runs.specs.Run.{recs, leading, P, C, A}
 use Rattle.runs.specs.StepParts.{leadingIn, afterIn, premisesIn, clauseIn, argsIn, nextIn, bytesIn, stepFrom}

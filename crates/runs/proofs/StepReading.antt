@@ -9,6 +9,7 @@
 use mathlib.Core.Path.{_≡_, refl, sym, ap, _∙_, subst}
 use mathlib.Core.Bool.{Bool, true, false, _&&_, and-assoc}
 use mathlib.Core.List.{List, [], _∷_}
+use mathlib.Core.Option.{Option, some, none}
 use Prim.Native.Nat.{ℕ, zero, suc, _+_, _*_, _-_, _/_, _%_, _≤_, _<_}
 use native.Mathlib.Numerals.{add-one}
 use native.Mathlib.Nat.{add-zero}
@@ -17,22 +18,25 @@ use borrow.Author.Tests.{eq-eqb, ne-eqb, le-leb, lt-leb, lt-ltb, le-ltb}
 use lib.Dec.{eqb, leb, ltb}
 use lib.ListN.{length, getD, drop, length-drop}
 use lib.Seq.{getD-drop}
-use Rattle.terms.specs.Bytes.{Bytes, le}
+use Rattle.numbers.specs.Bytes.{Bytes, le}
 use Rattle.terms.specs.Book.{count, SortsBelow}
 use Rattle.terms.proofs.Layouts.{all, Walk, walk-on, walk-fails, walk-end}
-use Rattle.terms.proofs.Truths.{never}
-use Rattle.rules.specs.Refusal.{Result, _>>=_, assert}
-use Rattle.rules.specs.Refusal.Result.{ok, refused}
-use Rattle.rules.specs.Refusal.Refusal.{runRecord}
-use Rattle.rules.specs.LinearSteps.{codeOf}
+use Rattle.numbers.proofs.Truths.{never}
+use Rattle.rules.specs.Refusal.{Outcome, _>>=_, assert, orElse}
+use Rattle.rules.specs.Refusal.Outcome.{ok, refused}
 use Rattle.rules.proofs.RunParts.{drop-to-end}
-use Rattle.runs.specs.Run.{Step, Rec, rec, S, P, C, A, recs, leading, after, allRight, isEmpty, shapeOk}
+use Rattle.runs.specs.Verdict.{LentRefusal, lentCode}
+use Rattle.runs.specs.Verdict.LentRefusal.{runRecord}
+use Rattle.runs.specs.Rule.{Rule, ruleOf}
+use Rattle.runs.specs.Run.{Step, Rec, rec, P, C, A, recs, leading, after, allRight, isEmpty, shapeOk, headRule}
 use Rattle.runs.specs.Run.{readStep, readSteps, readRun, maxRunRecords}
-use Rattle.runs.specs.StepParts.{afterIn, premisesIn, clauseIn, argsIn, nextIn, bytesIn, headIn, partsOk}
-use Rattle.runs.specs.StepParts.{readIn, isOk}
+use Rattle.runs.specs.StepParts.{afterIn, premisesIn, clauseIn, argsIn, nextIn, bytesIn, headIn, partsOk, readIn}
+use Rattle.runs.specs.StepParts.{ruleIn, isSome, isOk}
+use Rattle.runs.proofs.Rules.{rule-number}
+use Rattle.runs.proofs.StepRules.{head-rule, rule-is}
 use Rattle.runs.proofs.RunRecords.{length-recs, recAt, recs-cons, head-is, after-drop, recs-leading, recs-after}
-use Rattle.runs.proofs.RunRecords.{whole-next, partFrom, begins-behind, begins-next, begins-less}
-use Rattle.runs.proofs.RunRecords.{Passed, passed-first, passed-next}
+use Rattle.runs.proofs.RunRecords.{whole-next, partFrom, begins-behind, begins-next, begins-less, Passed}
+use Rattle.runs.proofs.RunRecords.{passed-first, passed-next}
 use Rattle.runs.proofs.RowRecords.{isLiteral}
 
 -- record k
@@ -97,7 +101,8 @@ right-below m n p q n-is p-is = rw (n-is, p-is)
 
 -- c is a term of the book, and s the code of its sort
 pub literal-code :
-    (b w : Bytes) (n c s : ℕ) → c < n → s ≡ getD w c 0 → n ≡ count b → SortsBelow (count b) b w → eqb s 1 ≡ isLiteral b c
+    (b w : Bytes) (n c s : ℕ) → c < n → s ≡ getD w c 0 → n ≡ count b → SortsBelow (count b) b w →
+    eqb s 1 ≡ isLiteral b c
 literal-code b w n c s h s-is n-is sorts =
     let inside : c < count b = omega (arith, h, n-is) in
     rw (lt-ltb c (count b) inside, s-is, sorts .held c inside)
@@ -114,30 +119,39 @@ isEmpty-recs p = go (recs p) ∙ ap (λ (n : ℕ). eqb n 0) (length-recs p)
     go [] = refl
     go (r ∷ l) = sym (ne-eqb (suc (length l)) 0 (λ e. omega (arith, e)))
 
-module _ (rule : ℕ) (p c a : Bytes) where
-  pub other-rule : (rule ≡ 0 → ⊥) → true ≡ shapeOk rule (recs p) (recs c) (recs a)
-  other-rule h = rw (ne-eqb _ _ h)
+-- n is the number of the rule
+module _ {n : ℕ} {rule : Rule} (known : ruleOf n ≡ some rule) (p c a : Bytes) where
+  pub other-rule : (n ≡ 0 → ⊥) → true ≡ shapeOk rule (recs p) (recs c) (recs a)
+  other-rule h = rw (rule-number n rule known, ne-eqb 0 n (λ e. h (sym e)))
 
-  module _ (h : rule ≡ 0) where
+  module _ (h : n ≡ 0) where
     -- of an assume, by how many records there are
     pub shape-counts :
         (x : Bool) → x ≡ (eqb (length p / 4) 0 && (eqb (length c / 4) 1 && eqb (length a / 4) 0)) →
         x ≡ shapeOk rule (recs p) (recs c) (recs a)
-    shape-counts x e = rw (h, isEmpty-recs p, length-recs c, isEmpty-recs a) e
+    shape-counts x e = rw (rule-number n rule known, h, isEmpty-recs p, length-recs c, isEmpty-recs a) e
 
 -- ---- a step is read where all tests hold; otherwise it is refusal 7
 
 -- t is what all tests on the way to x say
-record Judged {X : Type 0} (t : Bool) (x : Result X) : Type 0 where
+record Judged {X : Type 0} (t : Bool) (x : Outcome LentRefusal X) : Type 0 where
   is : isOk x ≡ t
   seven : isOk x ≡ false → x ≡ refused runRecord
 
 module _ {X : Type 0} where
   behind :
-      (t : Bool) {u : Bool} (f : Unit {0} → Result X) → Judged u (f tt) → Judged (t && u) (assert t runRecord >>= f)
+      (t : Bool) {u : Bool} (f : Unit {0} → Outcome LentRefusal X) → Judged u (f tt) →
+      Judged (t && u) (assert t runRecord >>= f)
   unfolding assert _>>=_
   behind true f j = j
   behind false f j = record { is = refl; seven = λ e. refl }
+
+  behind-some :
+      {Y : Type 0} (o : Option Y) {u : Bool} (f : Y → Outcome LentRefusal X) →
+      ((y : Y) → o ≡ some y → Judged u (f y)) → Judged (isSome o && u) (orElse o runRecord >>= f)
+  unfolding orElse _>>=_
+  behind-some (some y) f j = j y refl
+  behind-some none f j = record { is = refl; seven = λ e. refl }
 
   last-behind : (t : Bool) (x : X) → Judged t (assert t runRecord >>= λ _. ok x)
   unfolding assert _>>=_
@@ -147,30 +161,41 @@ module _ {X : Type 0} where
 grouped : (a b c d : Bool) → (a && (b && (c && d))) ≡ ((a && (b && c)) && d)
 grouped a b c d = sym (and-assoc a (b && c) d ∙ ap (λ x. a && x) (and-assoc b c d))
 
-abbrev pub headOk : Rec → Bool
-headOk s = eqb (s .mark) S && (leb (s .byte) 8 && eqb (s .number) 0)
+abbrev pub headOk : Bytes → Bool
+headOk part = isSome (headRule (headIn part))
 
 abbrev pub shapeIn : Bytes → Bool
-shapeIn part = shapeOk (headIn part .byte) (recs (premisesIn part)) (recs (clauseIn part)) (recs (argsIn part))
+shapeIn part = shapeOk (ruleIn part) (recs (premisesIn part)) (recs (clauseIn part)) (recs (argsIn part))
 
+some-there : {X : Type 0} (o : Option X) → isSome o ≡ true → (x : X) × (o ≡ some x)
+some-there (some x) e = (x, refl)
+some-there none e = never e
+
+-- the head is in order, and the byte that was read is that of its rule
 pub shape-is :
-    (part : Bytes) (rule : ℕ) (p c a : Bytes) (x : Bool) → rule ≡ getD part 1 0 → p ≡ premisesIn part →
-    c ≡ clauseIn part → a ≡ argsIn part → x ≡ shapeOk rule (recs p) (recs c) (recs a) → x ≡ shapeIn part
+    (part : Bytes) {h : Bool} → h ≡ headOk part → h ≡ true → {n : ℕ} → n ≡ getD part 1 0 →
+    {p c a : Bytes} → p ≡ premisesIn part → c ≡ clauseIn part → a ≡ argsIn part →
+    (x : Bool) → ((rule : Rule) → ruleOf n ≡ some rule → x ≡ shapeOk rule (recs p) (recs c) (recs a)) → x ≡ shapeIn part
 unfolding headIn
-shape-is part rule p c a x rule-is p-is c-is a-is e = rw (← rule-is, ← p-is, ← c-is, ← a-is) e
+shape-is part h-is h-holds n-is p-is c-is a-is x e =
+    let found = some-there (headRule (headIn part)) (sym h-is ∙ h-holds) in
+    let known = head-rule (headIn part) (found .1) in
+    rw (rule-is part known, ← p-is, ← c-is, ← a-is) (e (found .0) (ap ruleOf n-is ∙ known))
 
 module _ (b : Bytes) (n : ℕ) (part : Bytes) where
-  judged : Judged (headOk (headIn part) && (partsOk b n part && shapeIn part)) (readIn b n part)
-  unfolding readIn readStep partsOk
+  judged : Judged (headOk part && (partsOk b n part && shapeIn part)) (readIn b n part)
+  unfolding readIn readStep partsOk headIn
   judged =
       let ps = allRight (λ p. ltb p n) (recs (premisesIn part)) in
       let cs = allRight (isLiteral b) (recs (clauseIn part)) in
       let as′ = allRight (λ a. ltb a (count b)) (recs (argsIn part)) in
-      subst (λ (t : Bool). Judged (headOk (headIn part) && t) (readIn b n part)) (grouped ps cs as′ (shapeIn part))
-      (behind (headOk (headIn part)) _ (behind ps _ (behind cs _ (behind as′ _ (last-behind (shapeIn part) _)))))
+      subst (λ (t : Bool). Judged (headOk part && t) (readIn b n part)) (grouped ps cs as′ (shapeIn part))
+      (behind-some (headRule (headIn part)) _ λ r e.
+      rw (rule-is part (head-rule (headIn part) e))
+      (behind ps _ (behind cs _ (behind as′ _ (last-behind _ _)))))
 
   pub step-tests :
-      {x : Bool} → x ≡ (headOk (headIn part) && (partsOk b n part && shapeIn part)) → x ≡ isOk (readIn b n part)
+      {x : Bool} → x ≡ (headOk part && (partsOk b n part && shapeIn part)) → x ≡ isOk (readIn b n part)
   step-tests e = e ∙ sym (judged .is)
 
   pub not-read : isOk (readIn b n part) ≡ false → readIn b n part ≡ refused runRecord
@@ -189,10 +214,10 @@ next-short : (l : List Rec) → length (nextRecs l) ≤ length l
 next-short l = omega (arith, after-short A (after C (after P l)), after-short C (after P l), after-short P l)
 
 module _ (b : Bytes) where
-  abbrev followed : Result Step → Result (List Step) → Result (List Step)
+  abbrev followed : Outcome LentRefusal Step → Outcome LentRefusal (List Step) → Outcome LentRefusal (List Step)
   followed x y = x >>= λ s. y >>= λ ss. ok (s ∷ ss)
 
-  first : ℕ → Rec → List Rec → Result Step
+  first : ℕ → Rec → List Rec → Outcome LentRefusal Step
   first n r l = readStep b n r (leading P l) (leading C (after P l)) (leading A (after C (after P l)))
 
   none-left : (k n : ℕ) → readSteps k b n [] ≡ ok []
@@ -219,7 +244,7 @@ module _ (b : Bytes) where
       ∙ sym (some-left j n r l)
 
   -- all steps of a part, the first of them step n
-  unfoldable pub readPart : ℕ → Bytes → Result (List Step)
+  unfoldable pub readPart : ℕ → Bytes → Outcome LentRefusal (List Step)
   readPart n part = readSteps (length (recs part)) b n (recs part)
 
   module _ (n : ℕ) (part : Bytes) where
@@ -258,39 +283,41 @@ module _ (b : Bytes) where
     -- the first is read, and the others are left; or it is not
     pub part-read :
         4 ≤ length part → isOk (readIn b n part) ≡ true →
-        codeOf (readPart n part) ≡ codeOf (readPart (suc n) (nextIn part))
+        lentCode (readPart n part) ≡ lentCode (readPart (suc n) (nextIn part))
     unfolding _>>=_
-    part-read h e = ap codeOf (part-first h) ∙ go (readIn b n part) e (readPart (suc n) (nextIn part))
+    part-read h e = ap lentCode (part-first h) ∙ go (readIn b n part) e (readPart (suc n) (nextIn part))
       where
-        go : (x : Result Step) → isOk x ≡ true → (y : Result (List Step)) → codeOf (followed x y) ≡ codeOf y
+        go :
+            (x : Outcome LentRefusal Step) → isOk x ≡ true → (y : Outcome LentRefusal (List Step)) →
+            lentCode (followed x y) ≡ lentCode y
         go (ok s) e (ok ss) = refl
         go (ok s) e (refused r) = refl
         go (refused r) e y = never e
 
-    pub part-wrong : 4 ≤ length part → isOk (readIn b n part) ≡ false → codeOf (readPart n part) ≡ 7
+    pub part-wrong : 4 ≤ length part → isOk (readIn b n part) ≡ false → lentCode (readPart n part) ≡ 7
     unfolding _>>=_
     part-wrong h e =
-        ap codeOf (part-first h)
-        ∙ ap (λ x. codeOf (followed x (readPart (suc n) (nextIn part)))) (not-read b n part e)
+        ap lentCode (part-first h)
+        ∙ ap (λ x. lentCode (followed x (readPart (suc n) (nextIn part)))) (not-read b n part e)
 
 -- ---- the run
 
 module _ (b run : Bytes) where
-  size-wrong : (eqb (length run % 4) 0 && leb (length run / 4) maxRunRecords) ≡ false → 6 ≡ codeOf (readRun b run)
+  size-wrong : (eqb (length run % 4) 0 && leb (length run / 4) maxRunRecords) ≡ false → 6 ≡ lentCode (readRun b run)
   unfolding readRun assert _>>=_
   size-wrong e = rw e
 
-  pub not-whole : (length run % 4 ≡ 0 → ⊥) → 6 ≡ codeOf (readRun b run)
+  pub not-whole : (length run % 4 ≡ 0 → ⊥) → 6 ≡ lentCode (readRun b run)
   not-whole h = size-wrong (rw (ne-eqb _ _ h))
 
-  pub too-long : length run % 4 ≡ 0 → 16384 < length run → 6 ≡ codeOf (readRun b run)
+  pub too-long : length run % 4 ≡ 0 → 16384 < length run → 6 ≡ lentCode (readRun b run)
   too-long h g = size-wrong (rw (eq-eqb _ _ h) (lt-leb (length run / 4) maxRunRecords (omega (arith, h, g))))
 
   -- the steps before byte `at` are read, n of them
   pub record ReadSoFar (at n : ℕ) : Type 0 where
     pub passed : Passed run at n
     pub whole : length (drop at run) % 4 ≡ 0
-    pub left : codeOf (readRun b run) ≡ codeOf (readPart b n (drop at run))
+    pub left : lentCode (readRun b run) ≡ lentCode (readPart b n (drop at run))
 
   pub read-begin : length run % 4 ≡ 0 → length run ≤ 16384 → ReadSoFar 0 0
   unfolding readRun readPart assert _>>=_
@@ -300,12 +327,12 @@ module _ (b run : Bytes) where
         whole = h;
         left =
             rw (eq-eqb _ _ h, le-leb (length run / 4) maxRunRecords (omega (arith, g)))
-            (ap (λ (k : ℕ). codeOf (readSteps k b 0 (recs run))) (sym (length-recs run)));
+            (ap (λ (k : ℕ). lentCode (readSteps k b 0 (recs run))) (sym (length-recs run)));
       }
 
   module _ {at n : ℕ} (so : ReadSoFar at n) where
-    pub read-end : length run ≤ at → 0 ≡ codeOf (readRun b run)
-    read-end h = sym (so .left ∙ ap codeOf (part-done b n (drop at run) (omega (arith, h, length-drop at run))))
+    pub read-end : length run ≤ at → 0 ≡ lentCode (readRun b run)
+    read-end h = sym (so .left ∙ ap lentCode (part-done b n (drop at run) (omega (arith, h, length-drop at run))))
 
     -- another step is there
     module _ (h : at < length run) where
@@ -319,7 +346,7 @@ module _ (b run : Bytes) where
 
       -- x is whether the step can be read
       pub read-wrong :
-          (x : Bool) → x ≡ isOk (readIn b n (partFrom run at)) → x ≡ false → 7 ≡ codeOf (readRun b run)
+          (x : Bool) → x ≡ isOk (readIn b n (partFrom run at)) → x ≡ false → 7 ≡ lentCode (readRun b run)
       read-wrong x x-is e = sym (so .left ∙ part-wrong b n (drop at run) a-record (read-here x false x-is e))
 
       -- m is how many bytes it has

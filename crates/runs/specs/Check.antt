@@ -1,24 +1,39 @@
--- Marking (document 01's word for checking) a run: the steps are checked in turn up to the first that is refused. Refusals 1 to 7 come
--- first, in document 01's order.
+-- Marking (document 01's word for checking) a run: the steps are checked in turn up to the first that is refused.
+-- Refusals 1 to 7 come first, in document 01's order.
 use mathlib.Core.Bool.{Bool, true, false, _&&_}
-use mathlib.Core.List.{List, [], _∷_}
-use Prim.Native.Nat.{ℕ}
+use mathlib.Core.List.{List, [], _∷_, _++_}
+use mathlib.Core.Option.{Option, some, none}
+use Prim.Native.Nat.{ℕ, zero, suc}
 use lib.Dec.{eqb, leb}
-use lib.ListN.{getD}
-use Rattle.terms.specs.Rational.{Rational}
-use Rattle.terms.specs.Bytes.{Bytes}
-use Rattle.terms.specs.Book.{readBook, refusalOf}
+use lib.ListN.{length, getD, drop}
+use Rattle.numbers.specs.Rational.{Rational}
+use Rattle.numbers.specs.Bytes.{Bytes}
+use Rattle.terms.specs.Term.{Term}
+use Rattle.terms.specs.Book.{readBook}
 use Rattle.terms.specs.declared.book.BookRead.the-variants.{Records, RefusedAt}
-use Rattle.rules.specs.Refusal.{Result, _>>=_, number}
-use Rattle.rules.specs.Refusal.Result.{ok, refused}
-use Rattle.rules.specs.Refusal.Refusal.{workAreaOrLimit}
+use Rattle.rules.specs.Refusal.{Outcome, Result, _>>=_}
+use Rattle.rules.specs.Refusal.Outcome.{ok, refused}
 use Rattle.rules.specs.Limits.{Limits, limited}
-use Rattle.rules.specs.LinearArithmetic.{Clause, Progress, laRwEq, laDisequality, laTotality, laTautology}
-use Rattle.rules.specs.LinearArithmetic.{laGeneric, laGenericPartial}
-use Rattle.rules.specs.Polynomial.{polySimp, polySimpRel}
+use Rattle.rules.specs.Shapes.{Clause}
+use Rattle.linear_arithmetic.specs.LinearArithmetic as rule
+use Rattle.linear_arithmetic.specs.LinearArithmetic.{Progress, laGenericPartial}
+use Rattle.poly_simp.specs.PolySimp as simp
+use Rattle.runs.specs.Verdict.{LentRefusal, Verdict, lent}
+use Rattle.runs.specs.Verdict.LentRefusal.{workAreaOrLimit, ofBook}
+use Rattle.runs.specs.Rule.{Rule}
+use Rattle.runs.specs.Rule.Rule.{assume, laRwEq, laDisequality, laTotality, laTautology, laGeneric, boundedFarkas}
+use Rattle.runs.specs.Rule.Rule.{polySimp, polySimpRel}
 use Rattle.runs.specs.Run.{Step, step, readRun}
 
 -- ---- one step
+
+-- the visits made so far, and the limits that they stand under: a rule is handed both, whatever else a run counts
+pub record Counter : Type 0 where
+  pub limits : Limits
+  pub visits : ℕ
+
+abbrev pub counter : Limits → ℕ → Counter
+counter l n = record { limits = l; visits = n }
 
 -- an accepted step: the visits made so far, and the numbers that it inferred
 pub record Accepted : Type 0 where
@@ -37,74 +52,89 @@ moved r = r >>= λ n. ok (accepted n [])
 abbrev pub traced : Result Progress → Result Accepted
 traced r = r >>= λ p. ok (accepted (p .visits) (p .trace))
 
+-- a rule on a step's clause and arguments, and on the clauses of the steps that it names
+unfoldable pub checkRule : Rule → Limits → List Clause → Clause → List Term → ℕ → Result Accepted
+checkRule assume l premises c args n = ok (accepted n [])
+checkRule laRwEq l premises c args n = still n (rule.laRwEq c)
+checkRule laDisequality l premises c args n = still n (rule.laDisequality c)
+checkRule laTotality l premises c args n = still n (rule.laTotality c)
+checkRule laTautology l premises c args n = moved (rule.laTautology l c n)
+checkRule laGeneric l premises c args n = traced (rule.laGeneric l c args n)
+checkRule boundedFarkas l premises c args n = traced (laGenericPartial l c args n)
+checkRule polySimp l premises c args n = moved (simp.polySimp l c n)
+checkRule polySimpRel l premises c args n = still n (simp.polySimpRel l c premises)
+
 -- the clauses of the steps that a step names
 unfoldable pub clausesOf : List Step → List ℕ → List Clause
 clausesOf run [] = []
-clausesOf run (p ∷ ps) = getD run p (step 0 [] [] []) .clause ∷ clausesOf run ps
+clausesOf run (p ∷ ps) = getD run p (step assume [] [] []) .clause ∷ clausesOf run ps
 
 unfoldable pub checkStep : Limits → List Step → Step → ℕ → Result Accepted
-checkStep l run s n =
-    elim (eqb (s .rule) 0) [
-      | true ↦ ok (accepted n [])
-      | false ↦ elim (eqb (s .rule) 1) [
-        | true ↦ still n (laRwEq (s .clause))
-        | false ↦ elim (eqb (s .rule) 2) [
-          | true ↦ still n (laDisequality (s .clause))
-          | false ↦ elim (eqb (s .rule) 3) [
-            | true ↦ still n (laTotality (s .clause))
-            | false ↦ elim (eqb (s .rule) 4) [
-              | true ↦ moved (laTautology l (s .clause) n)
-              | false ↦ elim (eqb (s .rule) 5) [
-                | true ↦ traced (laGeneric l (s .clause) (s .args) n)
-                | false ↦ elim (eqb (s .rule) 6) [
-                  | true ↦ traced (laGenericPartial l (s .clause) (s .args) n)
-                  | false ↦ elim (eqb (s .rule) 7) [
-                    | true ↦ moved (polySimp l (s .clause) n)
-                    | false ↦ still n (polySimpRel l (s .clause) (clausesOf run (s .premises)))
-                  ]
-                ]
-              ]
-            ]
-          ]
-        ]
-      ]
-    ]
+checkStep l run s n = checkRule (s .rule) l (clausesOf run (s .premises)) (s .clause) (s .args) n
 
 -- ---- the steps in turn
 
+-- a marking under way: the accepted steps with what they inferred, the visits, and the verdict once it has ended. The
+-- next step is the one behind those that are accepted.
+pub record State : Type 0 where
+  pub steps : List (Step × List Rational)
+  pub counter : Counter
+  pub verdict : Option Verdict
+
+abbrev pub state : List (Step × List Rational) → Counter → Option Verdict → State
+state ss c v = record { steps = ss; counter = c; verdict = v }
+
+abbrev pub ended : State → Verdict → State
+ended s v = state (s .steps) (s .counter) (some v)
+
+-- a step's answer
+abbrev pub answered : State → Step → Result Accepted → State
+answered s step (refused r) = ended s (Verdict.stopped r)
+answered s step (ok a) =
+    state (s .steps ++ (step, a .inferred) ∷ []) (counter (s .counter .limits) (a .visits)) none
+
+-- the steps that are left: their first one is checked
+abbrev pub onward : List Step → State → List Step → State
+onward run s [] = ended s Verdict.accepted
+onward run s (step ∷ left) = answered s step (checkStep (s .counter .limits) run step (s .counter .visits))
+
+unfoldable pub turn : List Step → State → State
+turn run s = elim (s .verdict) [ some v ↦ s | none ↦ onward run s (drop (length (s .steps)) run) ]
+
+unfoldable pub turns : ℕ → List Step → State → State
+turns zero run s = s
+turns (suc n) run s = turns n run (turn run s)
+
 -- the verdict, the accepted steps with what they inferred, and their visits
 pub record Marking : Type 0 where
-  pub verdict : ℕ
+  pub verdict : Verdict
   pub steps : List (Step × List Rational)
   pub visits : ℕ
 
-abbrev pub marking : ℕ → List (Step × List Rational) → ℕ → Marking
+abbrev pub marking : Verdict → List (Step × List Rational) → ℕ → Marking
 marking v s n = record { verdict = v; steps = s; visits = n }
 
--- a step in front of a marking
-abbrev pub before : Step × List Rational → Marking → Marking
-before s m = marking (m .verdict) (s ∷ m .steps) (m .visits)
+-- what is marked so far
+abbrev pub markingOf : State → Marking
+markingOf s = marking (elim (s .verdict) [ some v ↦ v | none ↦ Verdict.accepted ]) (s .steps) (s .counter .visits)
 
-unfoldable pub checkSteps : Limits → List Step → List Step → ℕ → Marking
-checkSteps l run [] n = marking 0 [] n
-checkSteps l run (s ∷ ss) n = elim (checkStep l run s n) [
-  | refused r ↦ marking (number r) [] n
-  | ok a ↦ before (s, a .inferred) (checkSteps l run ss (a .visits))
-]
+-- a turn for each step, and one that finds no step left
+unfoldable pub checkSteps : Limits → List Step → Marking
+checkSteps l run = markingOf (turns (suc (length run)) run (state [] (counter l 0) none))
 
 -- ---- refusals 1 to 7, then the steps
 
-abbrev pub nothingMarked : ℕ → Marking
-nothingMarked v = marking v [] 0
+abbrev pub nothingMarked : LentRefusal → Marking
+nothingMarked r = marking (lent r) [] 0
 
-unfoldable pub markRun : Limits → Result (List Step) → Marking
-markRun l (ok ss) = checkSteps l ss ss 0
-markRun l (refused r) = nothingMarked (number r)
+unfoldable pub markRun : Limits → Outcome LentRefusal (List Step) → Marking
+markRun l (ok ss) = checkSteps l ss
+markRun l (refused r) = nothingMarked r
 
 unfoldable pub mark : Limits → Bytes → Bytes → Marking
 mark l book run = elim (readBook book) [
   | Records n ↦ markRun l (readRun book run)
-  | RefusedAt c i ↦ nothingMarked (refusalOf (RefusedAt c i))
+  | RefusedAt c i ↦ nothingMarked (ofBook c)
 ]
 
 -- a work area of 65,536 bytes and a limit from 1 to 1,000,000
@@ -112,4 +142,7 @@ abbrev pub lentOk : ℕ → ℕ → Bool
 lentOk work limit = eqb work 65536 && (leb 1 limit && leb limit 1000000)
 
 unfoldable pub check : Bytes → Bytes → ℕ → ℕ → Marking
-check book run limit work = elim (lentOk work limit) [ true ↦ mark (limited limit) book run | false ↦ nothingMarked (number workAreaOrLimit) ]
+check book run limit work = elim (lentOk work limit) [
+  | true ↦ mark (limited limit) book run
+  | false ↦ nothingMarked workAreaOrLimit
+]

@@ -1,14 +1,7 @@
+pub mod Verdict
+pub mod Rule
 pub mod Run
 pub mod Check
-pub mod Elaborate
-pub mod Demands
 pub mod StepParts
-pub mod OutAreas
 pub mod Lent
-pub mod Again
-pub mod EntryPoints
-pub mod Cases
-pub mod Marked
-pub mod PremiseTests
-pub mod Witnesses
-pub mod MarkedPremises
+pub mod CheckEntry

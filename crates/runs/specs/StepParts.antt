@@ -1,18 +1,22 @@
--- A run in lent bytes. The records of a step lie one behind the other, and so do those with one mark: a step's premises, literals and
--- arguments are parts of the run, and so is what follows the step.
+-- A run in lent bytes. The records of a step lie one behind the other, and so do those with one mark: a step's
+-- premises, literals and arguments are parts of the run, and so is what follows the step.
 use mathlib.Core.Path.{_≡_}
 use mathlib.Core.Bool.{Bool, true, false, _&&_}
 use mathlib.Core.List.{List}
+use mathlib.Core.Option.{Option, some, none}
 use Prim.Native.Nat.{ℕ, zero, suc, _*_, _-_, _<_}
 use lib.Dec.{ltb}
 use lib.ListN.{length, getD, take, drop}
-use Rattle.terms.specs.Bytes.{Bytes, le}
+use Rattle.numbers.specs.Bytes.{Bytes, le}
 use Rattle.terms.specs.Term.{sort, sameSort}
 use Rattle.terms.specs.Term.Sort.{bool}
 use Rattle.terms.specs.Book.{count, tree}
-use Rattle.rules.specs.Refusal.{Result}
-use Rattle.rules.specs.Refusal.Result.{ok, refused}
-use Rattle.rules.specs.LinearSteps.{numbersIn, termsIn}
+use Rattle.rules.specs.Refusal.{Outcome}
+use Rattle.rules.specs.Refusal.Outcome.{ok, refused}
+use Rattle.rules.specs.Parts.{numbersIn, termsIn}
+use Rattle.runs.specs.Verdict.{LentRefusal}
+use Rattle.runs.specs.Rule.{Rule, ruleOf}
+use Rattle.runs.specs.Rule.Rule.{assume}
 use Rattle.runs.specs.Run.{Step, step, Rec, rec, P, C, A, recs, leading, allRight, readStep, readRun}
 
 -- the records in front that have a mark, and what follows them
@@ -45,7 +49,7 @@ unfoldable pub headIn : Bytes → Rec
 headIn part = rec (getD part 0 0) (getD part 1 0) (le 2 part 2)
 
 -- reading it as step n
-unfoldable pub readIn : Bytes → ℕ → Bytes → Result Step
+unfoldable pub readIn : Bytes → ℕ → Bytes → Outcome LentRefusal Step
 readIn book n part = readStep book n (headIn part) (recs (premisesIn part)) (recs (clauseIn part)) (recs (argsIn part))
 
 -- what is asked of its P, C and A records
@@ -55,12 +59,20 @@ partsOk book n part =
     && (allRight (λ c. ltb c (count book) && sameSort (sort (tree book c)) bool) (recs (clauseIn part))
     && allRight (λ a. ltb a (count book)) (recs (argsIn part)))
 
+-- its rule
+unfoldable pub ruleIn : Bytes → Rule
+ruleIn part = elim (ruleOf (headIn part .byte)) [ some r ↦ r | none ↦ assume ]
+
 -- the step, once it was read
 unfoldable pub stepIn : Bytes → Bytes → Step
 stepIn book part =
-    step (headIn part .byte) (numbersIn (premisesIn part)) (termsIn book (clauseIn part)) (termsIn book (argsIn part))
+    step (ruleIn part) (numbersIn (premisesIn part)) (termsIn book (clauseIn part)) (termsIn book (argsIn part))
 
-abbrev pub isOk : {X : Type 0} → Result X → Bool
+abbrev pub isSome : {X : Type 0} → Option X → Bool
+isSome (some x) = true
+isSome none = false
+
+abbrev pub isOk : {E X : Type 0} → Outcome E X → Bool
 isOk (ok x) = true
 isOk (refused r) = false
 

@@ -3,21 +3,23 @@
 // of the run that starts with its S.
 ghost use mathlib.Core.Path.{_≡_};
 ghost use mathlib.Core.Bool.{_&&_};
-ghost use Prim.Native.Nat.{_+_, _≤_};
-ghost use lib.Dec.{eqb, leb, ltb};
+ghost use mathlib.Core.Option.{some};
+ghost use Prim.Native.Nat.{_+_};
+ghost use lib.Dec.{ltb};
 ghost use lib.ListN.{length};
-ghost use Rattle.terms.specs.Bytes.{Bytes};
+ghost use Rattle.numbers.specs.Bytes.{Bytes};
 ghost use Rattle.terms.specs.Term.{sort, sameSort};
 ghost use Rattle.terms.specs.Term.Sort.{bool};
 ghost use Rattle.terms.specs.Book.{count, tree, SortsBelow};
-ghost use Rattle.rules.specs.LinearSteps.{codeOf};
-ghost use Rattle.runs.specs.Run.{S, recs, leading, allRight, shapeOk, readRun};
-ghost use Rattle.runs.specs.StepParts.{leadingIn, afterIn, premisesIn, clauseIn, argsIn, nextIn, bytesIn};
-ghost use Rattle.runs.specs.StepParts.{headIn, partsOk, readIn, isOk, stepFrom};
-use rules::linear_arithmetic::rest;
+ghost use Rattle.runs.specs.Verdict.{lentCode};
+ghost use Rattle.runs.specs.Rule.{Rule, ruleOf};
+ghost use Rattle.runs.specs.Run.{headRule, recs, leading, allRight, shapeOk, readRun};
+ghost use Rattle.runs.specs.StepParts.{leadingIn, afterIn, premisesIn, clauseIn, argsIn, nextIn, bytesIn, headIn};
+ghost use Rattle.runs.specs.StepParts.{partsOk, readIn, isOk, isSome, stepFrom};
+use linear_arithmetic::linear_arithmetic::rest;
+use numbers::bytes::read_u16;
 use terms::book::byte;
 use terms::book::count;
-use terms::bytes::read_u16;
 
 // ---- the parts of a step
 
@@ -101,8 +103,7 @@ pub fn step_at(run: &[u8], k: usize) -> &[u8]
 
 // Whether the first record opens a step of a known rule.
 fn head_ok(step: &[u8]) -> bool
-    ensures { λ r. ⌜ r ≡ (eqb (headIn (now (step .entry)) .mark) S
-        && (leb (headIn (now (step .entry)) .byte) 8 && eqb (headIn (now (step .entry)) .number) 0)) ⌝ }
+    ensures { λ r. ⌜ r ≡ isSome (headRule (headIn (now (step .entry)))) ⌝ }
 {
     if byte(step, 0) == b'S' {
         if byte(step, 1) <= 8 {
@@ -168,7 +169,8 @@ fn all_literals(book: &[u8], sorts: &[u8], part: &[u8]) -> bool
 
 // An assume has one C and nothing else.
 fn shape_ok(rule: u8, premises: &[u8], clause: &[u8], args: &[u8]) -> bool
-    ensures { λ r. ⌜ r ≡ shapeOk rule (recs (now (premises .entry))) (recs (now (clause .entry))) (recs (now (args .entry))) ⌝ }
+    ensures { λ r. ⌜ ((known : Rule) → ruleOf rule ≡ some known → r ≡ shapeOk known (recs (now (premises .entry)))
+        (recs (now (clause .entry))) (recs (now (args .entry)))) ⌝ }
 {
     if rule != 0 {
         return true;
@@ -212,7 +214,7 @@ fn step_ok(book: &[u8], sorts: &[u8], step: &[u8], n: usize) -> bool
 // Refusal 6 or 7, or 0. The sorts are those of the book's records.
 pub fn read_run(book: &[u8], sorts: &[u8], run: &[u8]) -> u8
     requires { ⌜ SortsBelow (count (now book)) (now book) (now sorts) ⌝ }
-    ensures { λ r. ⌜ r ≡ codeOf (readRun (now (book .entry)) (now (run .entry))) ⌝ }
+    ensures { λ r. ⌜ r ≡ lentCode (readRun (now (book .entry)) (now (run .entry))) ⌝ }
 {
     if run.len() % 4 != 0 {
         return 6;

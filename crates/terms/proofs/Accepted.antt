@@ -1,5 +1,6 @@
--- A book that is read without a refusal: each of its records was read (`accepted-count`), so each passed the three tests of a
--- record: its layout, its sort, and that it stands nowhere before (`accepted-layout`, `accepted-sort`, `accepted-new`).
+-- A book that is read without a refusal: each of its records was read (`accepted-count`), so each passed the three tests
+-- of a record: its layout, its sort, and that it stands nowhere before (`accepted-layout`, `accepted-sort`,
+-- `accepted-new`).
 use mathlib.Core.Path.{_≡_, refl, subst}
 use mathlib.Core.Bool.{Bool, true, false}
 use mathlib.Core.Logic.{⊎-elim}
@@ -9,15 +10,16 @@ use native.Mathlib.Omega.{arith}
 use borrow.Author.Tests.{leb-true}
 use lib.Dec.{leb, eqb}
 use lib.ListN.{length}
-use Rattle.terms.specs.Bytes.{Bytes}
-use Rattle.terms.specs.Term.{sort, sortCode}
-use Rattle.terms.specs.Book.{count, maxRecords, sizeOk, recordOf, tree, layoutOk, sortOk, stands}
-use Rattle.terms.specs.Book.{recordRead}
+use Rattle.numbers.specs.Bytes.{Bytes}
+use Rattle.terms.specs.Book.{count, maxRecords, sizeOk, recordOf, tree, layoutOk, sortOk, stands, recordRead}
 use Rattle.terms.specs.Book.{readRecords, readBook}
+use Rattle.terms.specs.declared.book.BookRefusal.{BookRefusal}
+use Rattle.terms.specs.declared.book.BookRefusal.the-variants.{BookSize}
 use Rattle.terms.specs.declared.book.BookRead.the-variants.{Records, RefusedAt}
 use Rattle.terms.specs.declared.book.RecordRead.{RecordRead}
 use Rattle.terms.specs.declared.book.RecordRead.the-variants.{Sorted, Refused}
-use Rattle.terms.proofs.Truths.{both}
+use Rattle.numbers.proofs.Truths.{both}
+use Rattle.terms.proofs.BookReading.{record-sorted}
 
 -- record i passed the tests of a record
 pub record Accepted (b : Bytes) (i : ℕ) : Type 0 where
@@ -25,23 +27,12 @@ pub record Accepted (b : Bytes) (i : ℕ) : Type 0 where
   pub sorted : sortOk (tree b i) ≡ true
   pub new : stands i b (recordOf b i) ≡ false
 
--- what the three tests say where a record has a sort
-passed :
-    (l t n : Bool) (c s : ℕ) →
-    elim l [ false ↦ Refused 3 | true ↦ elim t [ false ↦ Refused 4 | true ↦ elim n [ true ↦ Refused 5 | false ↦ Sorted c ] ] ] ≡ Sorted s →
-    (l ≡ true) × (t ≡ true) × (n ≡ false)
-passed true true false c s e = (refl, refl, refl)
-passed true true true c s e = (refl, refl, cc)
-passed true false n c s e = (refl, cc, cc)
-passed false t n c s e = (cc, cc, cc)
-
 record-accepted : (b : Bytes) (i s : ℕ) → recordRead b i ≡ Sorted s → Accepted b i
-unfolding recordRead
 record-accepted b i s e =
-    let p = passed (layoutOk i (recordOf b i)) (sortOk (tree b i)) (stands i b (recordOf b i)) (sortCode (sort (tree b i))) s e in
+    let p = record-sorted b i s e in
     record { layout = p .0; sorted = p .1; new = p .2 }
 
-not-refused : {A : Type 0} {c i m : ℕ} → RefusedAt c i ≡ Records m → A
+not-refused : {A : Type 0} {c : BookRefusal} {i m : ℕ} → RefusedAt c i ≡ Records m → A
 not-refused e = let z : _≡_ {A = ℕ} 0 1 = cc in absurd (omega arith)
 
 -- the records from i on, n of them
@@ -63,7 +54,12 @@ records-read (suc n) b i m e = go (recordRead b i) refl e (records-read n b (i +
     go (Sorted s) p e rest =
         record {
           all = omega (arith, rest e .all);
-          each = λ j l k. ⊎-elim (λ q. subst (Accepted b) q (record-accepted b i s p)) (λ q. rest e .each j (omega arith) k) (eq-or-lt-of-le l);
+          each =
+              λ j l k.
+              ⊎-elim
+              (λ q. subst (Accepted b) q (record-accepted b i s p))
+              (λ q. rest e .each j (omega arith) k)
+              (eq-or-lt-of-le l);
         }
     go (Refused c) p e rest = not-refused e
 
@@ -76,14 +72,15 @@ module _ (b : Bytes) (n : ℕ) (e : readBook b ≡ Records n) where
     where
       go :
           (t : Bool) → sizeOk b ≡ t →
-          elim t [ true ↦ readRecords (length b / 32) b 0 | false ↦ RefusedAt 2 0 ] ≡ Records n →
+          elim t [ true ↦ readRecords (length b / 32) b 0 | false ↦ RefusedAt BookSize 0 ] ≡ Records n →
           (sizeOk b ≡ true) × Read (length b / 32) b 0 n
       go true p e = (p, records-read (length b / 32) b 0 n e)
       go false p e = not-refused e
 
   pub accepted-count : n ≡ count b
   accepted-count =
-      omega (arith, read .1 .all, leb-true (length b / 32) maxRecords (both (eqb (length b % 32) 0) (leb (length b / 32) maxRecords) (read .0) .1))
+      let sized = both (eqb (length b % 32) 0) (leb (length b / 32) maxRecords) (read .0) in
+      omega (arith, read .1 .all, leb-true (length b / 32) maxRecords (sized .1))
 
   pub accepted : (i : ℕ) → i < n → Accepted b i
   accepted i h = read .1 .each i (omega arith) h

@@ -9,17 +9,17 @@ use Prim.Native.Nat.{ℕ, _<_}
 use native.Mathlib.Omega.{arith}
 use borrow.Author.Tests.{ltb-true, eqb-true}
 use lib.Dec.{ltb, eqb}
-use Rattle.terms.specs.Bytes.{Bytes, signed}
-use Rattle.terms.specs.Term.{Term, Terms, recordNumber, same, if_then_else_}
+use Rattle.numbers.specs.Bytes.{Bytes, signed}
+use Rattle.terms.specs.Term.{Term, Terms, recordNumber, same}
+use Rattle.numbers.specs.Choice.{if_then_else_}
 use Rattle.terms.specs.Term.Term.{integer, rational, bitvector, atom, op}
 use Rattle.terms.specs.Term.Terms.{nil, _▹_}
-use Rattle.terms.specs.Book.{recordOf, kind, operator, field1, field2, realOf, integerOf, isNumber}
-use Rattle.terms.specs.Book.{isVector, atomSort, numbers, argBytes}
-use Rattle.terms.specs.Book.{arguments, node, forest, tree, allBelow, readBook}
+use Rattle.terms.specs.Book.{recordOf, kind, operator, field1, field2, realOf, integerOf, isNumber, isVector}
+use Rattle.terms.specs.Book.{atomSort, numbers, argBytes, arguments, node, forest, tree, allBelow, readBook}
 use Rattle.terms.specs.Smtlib.{evenDiv, divsEven, allDivsEven}
 use Rattle.terms.specs.declared.book.BookRead.the-variants.{Records}
 use Rattle.terms.proofs.Trees.{tree-node}
-use Rattle.terms.proofs.Truths.{both}
+use Rattle.numbers.proofs.Truths.{both}
 use Rattle.terms.proofs.Accepted.{accepted-layout}
 use Rattle.terms.proofs.Nodes.{Laid, an-integer, a-rational, a-vector, an-atom, an-operation, laid}
 use Rattle.terms.proofs.WellFormed.{WellFormed, operates, well-formed}

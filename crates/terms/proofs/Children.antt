@@ -9,11 +9,11 @@ use native.Mathlib.Omega.{arith}
 use borrow.Author.Tests.{ltb-true, ltb-false}
 use lib.Dec.{ltb}
 use lib.ListN.{length, getD}
-use Rattle.terms.specs.Bytes.{Bytes}
+use Rattle.numbers.specs.Bytes.{Bytes}
 use Rattle.terms.specs.Operator.{IntDiv, RealDiv}
 use Rattle.terms.specs.Term.{Term, Terms, argsOf, one?, two?, unary, binary}
-use Rattle.terms.specs.Book.{maxRecords, count, recordOf, kind, operator, argBytes, numbers, nothing}
-use Rattle.terms.specs.Book.{arguments, argumentAt, forest, tree, height}
+use Rattle.terms.specs.Book.{maxRecords, count, recordOf, kind, operator, argBytes, numbers, nothing, arguments}
+use Rattle.terms.specs.Book.{argumentAt, forest, tree, height}
 use Rattle.terms.specs.Readers.{Child, Children, foundTwo, quotientOf}
 use Rattle.terms.specs.declared.term.Only.the-variants.{Of, Neither}
 use Rattle.terms.specs.declared.term.Two.{Two}

@@ -11,17 +11,16 @@ use lib.Dec.{T}
 use lib.IntN.{ℤ, pos}
 use lib.Signed.{ltZ}
 use denote.Enum.Declared.{tagOf}
-use Rattle.terms.specs.Bytes.{Bytes, signed}
-use Rattle.terms.specs.Rational.{Rational, frac, Proper, Makes, Gives, inRange, checked, divQ, negQ}
-use Rattle.terms.specs.Rational.{isZero}
+use Rattle.numbers.specs.Bytes.{Bytes, signed}
+use Rattle.numbers.specs.Rational.{Rational, frac, Proper, Makes, Gives, inRange, checked, divQ, negQ, isZero}
 use Rattle.terms.specs.Operator.{Sub}
 use Rattle.terms.specs.Term.{Term, unary}
 use Rattle.terms.specs.Term.Terms.{nil}
 use Rattle.terms.specs.Book.{isNumber, field1, node, tree}
-use Rattle.terms.specs.Readers.{Finds, readingRefusal, Child, Children, found, foundTwo, ranged, bounded, asNumber}
-use Rattle.terms.specs.Readers.{negated, asSignedNumber, quotientOf, asUnsignedFraction, over, divided}
-use Rattle.terms.specs.declared.number.Checked.{Checked}
-use Rattle.terms.specs.declared.number.Checked.the-variants as checked-as
+use Rattle.terms.specs.Readers.{Finds, readingRefusal, Child, Children, found, foundTwo, ranged, bounded}
+use Rattle.terms.specs.Readers.{asNumber, negated, asSignedNumber, quotientOf, asUnsignedFraction, over, divided}
+use Rattle.numbers.specs.declared.number.Checked.{Checked}
+use Rattle.numbers.specs.declared.number.Checked.the-variants as checked-as
 use Rattle.terms.specs.declared.term.Only.{Only}
 use Rattle.terms.specs.declared.term.Only.the-variants.{Of, Neither}
 use Rattle.terms.specs.declared.term.Two.{Two}
@@ -29,7 +28,7 @@ use Rattle.terms.specs.declared.term.Two.the-variants.{Both, NotTwo}
 use Rattle.terms.specs.declared.term.Reading.{Reading}
 use Rattle.terms.specs.declared.term.Reading.the-variants.{Value, NotNumber, OutOfRange}
 use Rattle.terms.proofs.term.Reading.{the-type}
-use Rattle.terms.proofs.Ranges.{sizes-of-inRange}
+use Rattle.numbers.proofs.Ranges.{sizes-of-inRange}
 use Rattle.terms.proofs.RecordReadings.{denominator, node-is, asNumber-of}
 
 -- ---- `Finds` from an equation

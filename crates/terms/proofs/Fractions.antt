@@ -6,12 +6,13 @@ use mathlib.Core.Bool.{Bool, false, cond}
 use mathlib.Core.Logic.{_⊎_, inl, inr, ⊎-elim}
 use mathlib.Core.Option.{Option, some, none}
 use Prim.Native.Nat.{ℕ, _<_}
-use Rattle.terms.specs.Bytes.{Bytes}
-use Rattle.terms.specs.Pair.{negP, invP, divP, _≈_}
-use Rattle.terms.specs.Rational as Rational
-use Rattle.terms.specs.Rational.{Rational, whole, divQ, negQ, isZero, Lowest}
+use Rattle.numbers.specs.Bytes.{Bytes}
+use Rattle.numbers.specs.Pair.{negP, invP, divP, _≈_}
+use Rattle.numbers.specs.Rational as Rational
+use Rattle.numbers.specs.Rational.{Rational, whole, divQ, negQ, isZero, Lowest}
 use Rattle.terms.specs.Operator.{Sub, IntDiv, RealDiv}
-use Rattle.terms.specs.Term.{Term, Terms, recordNumber, unary, binary, if_then_else_}
+use Rattle.terms.specs.Term.{Term, Terms, recordNumber, unary, binary}
+use Rattle.numbers.specs.Choice.{if_then_else_}
 use Rattle.terms.specs.Term.Sort.{int, real}
 use Rattle.terms.specs.Term.Term.{integer, rational, bitvector, atom, op}
 use Rattle.terms.specs.Term.Terms.{nil, _▹_}
@@ -22,12 +23,11 @@ use Rattle.terms.specs.Smtlib.{Meant, number, Assignment, asPair, given,
 use Rattle.terms.specs.declared.book.BookRead.the-variants.{Records}
 use Rattle.terms.specs.declared.term.Reading.{Reading}
 use Rattle.terms.specs.declared.term.Reading.the-variants.{Value, NotNumber, OutOfRange}
-use Rattle.terms.proofs.Pairs.{≈-trans, mul-resp, neg-resp}
-use Rattle.terms.proofs.LowestTerms.{whole-is-lowest}
-use Rattle.terms.proofs.Rationals.{whole-value, neg-value, neg-lowest, div-value, div-lowest}
+use Rattle.numbers.proofs.Pairs.{≈-trans, mul-resp, neg-resp}
+use Rattle.numbers.proofs.LowestTerms.{whole-is-lowest}
+use Rattle.numbers.proofs.Rationals.{whole-value, neg-value, neg-lowest, div-value, div-lowest}
 use Rattle.terms.proofs.Readings.{by-option, not-number, out-of-range, unary-shape, binary-shape}
-use Rattle.terms.proofs.Readings.{ranged-unbounded}
-use Rattle.terms.proofs.Readings.{Quotient, quotient, signed-fraction, div-reading}
+use Rattle.terms.proofs.Readings.{ranged-unbounded, Quotient, quotient, signed-fraction, div-reading}
 use Rattle.terms.proofs.WellFormed.{WellFormed, well-formed}
 
 -- ---- what a reading says of the term

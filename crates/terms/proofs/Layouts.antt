@@ -18,13 +18,13 @@ use lib.Seq.{drop-cons, take-nil, take-all}
 use mir.Facts.{toZ-ofZ, and-yes}
 use mir.Syntax.{w64}
 use mir.Val.{SFits}
-use Rattle.terms.specs.Bytes.{Bytes, signed}
-use Rattle.terms.specs.Term.{if_then_else_}
-use Rattle.terms.specs.Book.{kind, operator, argCount, sortByte, field1, field2, argBytes, numbers}
-use Rattle.terms.specs.Book.{isVector, isWidth, allZero, unused, allBelow, countOk}
-use Rattle.terms.specs.Book.{integerOk, realOk, vectorOk, atomOk, operationOk, layoutOk}
-use Rattle.terms.proofs.Truths.{if-either}
-use Rattle.terms.proofs.Machine.{R}
+use Rattle.numbers.specs.Bytes.{Bytes, signed}
+use Rattle.numbers.specs.Choice.{if_then_else_}
+use Rattle.terms.specs.Book.{kind, operator, argCount, sortByte, field1, field2, argBytes, numbers, isVector}
+use Rattle.terms.specs.Book.{isWidth, allZero, unused, allBelow, countOk, integerOk, realOk, vectorOk, atomOk}
+use Rattle.terms.specs.Book.{operationOk, layoutOk}
+use Rattle.numbers.proofs.Truths.{if-either}
+use Rattle.numbers.proofs.Machine.{R}
 
 -- ---- one test after the other: s is what the code found for the test a
 

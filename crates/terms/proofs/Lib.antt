@@ -1,43 +1,28 @@
-pub mod Polynomials
-pub mod Ring
-mod RingExamples
-pub mod Integers
-pub mod Order
-pub mod Divisors
-pub mod Truths
-pub mod Pairs
-pub mod LowestTerms
-pub mod Rationals
-pub mod Modulo
-pub mod Floor
-pub mod Machine
-pub mod Ranges
-pub mod LittleEndian
-pub mod TwosComplement
-pub mod StoredNumbers
+-- records of a book, and the terms that they are
 pub mod Trees
 pub mod Records
 pub mod Nodes
 pub mod Layouts
+pub mod Operators
+pub mod RecordReadings
+pub mod Children
+pub mod BookTerms
+-- sorts
 pub mod SortRules
 pub mod SortCodes
 pub mod RecordSorts
+-- reading a book, in memory
 pub mod BookReading
 pub mod RecordChains
-pub mod RecordReadings
-pub mod Children
-pub mod Findings
+pub mod IndexedReading
 pub mod Accepted
 pub mod WellFormed
+-- the readers of numbers
 pub mod Readings
+pub mod Findings
 pub mod Fractions
-pub mod Operators
 pub mod Whole
+-- meaning
 pub mod Meaning
-pub mod Comparisons
-pub mod Quotient
-pub mod BookTerms
 pub mod Sums
-pub mod QuotientRings
-pub mod Residues
 pub mod Vectors

@@ -11,31 +11,28 @@ use native.Mathlib.Omega.{arith}
 use borrow.Author.Tests.{eqb-true}
 use lib.IntN.{ℤ}
 use lib.Pow.{pow-pos}
-use Rattle.terms.specs.Bytes.{Bytes}
-use Rattle.terms.specs.Pair.{Pair, addP, mulP, divP}
-use Rattle.terms.specs.Rational as Rational
-use Rattle.terms.specs.Rational.{isInteger, divQ, modulo}
+use Rattle.numbers.specs.Bytes.{Bytes}
+use Rattle.numbers.specs.Pair.{Pair, addP, mulP, divP}
+use Rattle.numbers.specs.Rational as Rational
+use Rattle.numbers.specs.Rational.{isInteger, divQ, modulo}
 use Rattle.terms.specs.Operator.{IntDiv}
-use Rattle.terms.specs.Term.{Sort, Term, Terms, if_then_else_, sort, sorts, sameSort, isBits, all, first}
-use Rattle.terms.specs.Term.{takes}
-use Rattle.terms.specs.Term.{gives, unary, binary}
+use Rattle.terms.specs.Term.{Sort, Term, Terms, sort, sorts, sameSort, isBits, all, first, takes, gives, unary}
+use Rattle.terms.specs.Term.{binary}
+use Rattle.numbers.specs.Choice.{if_then_else_}
 use Rattle.terms.specs.Term.Sort.{bool, int, real, bits}
 use Rattle.terms.specs.Term.Term.{integer, rational, bitvector, atom, op}
 use Rattle.terms.specs.Term.Terms.{nil, _▹_}
-use Rattle.terms.specs.Readers.{unbounded, asNumber, asSignedNumber, quotientOf, asUnsignedFraction}
-use Rattle.terms.specs.Readers.{asFraction}
+use Rattle.terms.specs.Readers.{unbounded, asNumber, asSignedNumber, quotientOf, asUnsignedFraction, asFraction}
 use Rattle.terms.specs.Book.{tree, readBook}
-use Rattle.terms.specs.Smtlib.{Meant, truth, number, vector, Assignment, given, asPair, OfSort, widthOf}
-use Rattle.terms.specs.Smtlib.{reduce}
-use Rattle.terms.specs.Smtlib.{minus, firstOf, sumZ, productZ, differenceZ, oppositeZ, divM, divisor}
-use Rattle.terms.specs.Smtlib.{realDivM}
+use Rattle.terms.specs.Smtlib.{Meant, truth, number, vector, Assignment, given, asPair, OfSort, widthOf, reduce}
+use Rattle.terms.specs.Smtlib.{minus, firstOf, sumZ, productZ, differenceZ, oppositeZ, divM, divisor, realDivM}
 use Rattle.terms.specs.Smtlib.{meaning, value, values, even, evenDiv, divsEven, allDivsEven}
 use Rattle.terms.specs.declared.book.BookRead.the-variants.{Records}
 use Rattle.terms.specs.declared.term.Reading.{Reading}
 use Rattle.terms.specs.declared.term.Reading.the-variants.{Value, NotNumber, OutOfRange}
-use Rattle.terms.proofs.Rationals.{whole-value, isInteger-whole}
-use Rattle.terms.proofs.Truths.{both, never}
-use Rattle.terms.proofs.Modulo.{modulo-lt, two-pow-pos}
+use Rattle.numbers.proofs.Rationals.{whole-value, isInteger-whole}
+use Rattle.numbers.proofs.Truths.{both, never}
+use Rattle.numbers.proofs.Modulo.{modulo-lt, two-pow-pos}
 use Rattle.terms.proofs.WellFormed.{WellFormed, AllWellFormed, Operation, well-formed}
 use Rattle.terms.proofs.Readings.{Quotient, quotient, not-number}
 use Rattle.terms.proofs.Operators.{by-operator}

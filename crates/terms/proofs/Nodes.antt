@@ -6,14 +6,14 @@ use Prim.Native.Nat.{ℕ, _^_}
 use borrow.Author.Tests.{eqb-true}
 use lib.Dec.{ltb, eqb}
 use lib.IntN.{natAbs}
-use Rattle.terms.specs.Bytes.{Bytes, signed}
-use Rattle.terms.specs.Rational.{gcd}
-use Rattle.terms.specs.Term.{Terms, if_then_else_}
+use Rattle.numbers.specs.Bytes.{Bytes, signed}
+use Rattle.numbers.specs.Rational.{gcd}
+use Rattle.terms.specs.Term.{Terms}
+use Rattle.numbers.specs.Choice.{if_then_else_}
 use Rattle.terms.specs.Term.Term.{integer, rational, bitvector, atom, op}
-use Rattle.terms.specs.Book.{kind, operator, field1, field2, integerOf, realOf, isNumber, isWidth}
-use Rattle.terms.specs.Book.{isVector, atomSort, node}
-use Rattle.terms.specs.Book.{unused, integerOk, realOk, vectorOk, atomOk, operationOk, layoutOk}
-use Rattle.terms.proofs.Truths.{both, never}
+use Rattle.terms.specs.Book.{kind, operator, field1, field2, integerOf, realOf, isNumber, isWidth, isVector}
+use Rattle.terms.specs.Book.{atomSort, node, unused, integerOk, realOk, vectorOk, atomOk, operationOk, layoutOk}
+use Rattle.numbers.proofs.Truths.{both, never}
 
 -- ---- a record's layout
 

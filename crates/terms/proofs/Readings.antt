@@ -10,14 +10,13 @@ use native.Mathlib.Omega.{arith}
 use borrow.Author.Tests.{eqb-true}
 use lib.Dec.{eqb}
 use lib.IntN.{natAbs}
-use Rattle.terms.specs.Rational as Rational
-use Rattle.terms.specs.Rational.{Rational, divQ, isZero}
+use Rattle.numbers.specs.Rational as Rational
+use Rattle.numbers.specs.Rational.{Rational, divQ, isZero}
 use Rattle.terms.specs.Operator.{Sub, IntDiv}
 use Rattle.terms.specs.Term.{Term, Terms, recordNumber, argsOf, one?, two?, unary, binary}
 use Rattle.terms.specs.Term.Term.{integer, rational, bitvector, atom, op}
 use Rattle.terms.specs.Term.Terms.{nil, _▹_}
-use Rattle.terms.specs.Readers.{Bound, unbounded, ranged, within, bounded, asNumber, negated}
-use Rattle.terms.specs.Readers.{asSignedNumber}
+use Rattle.terms.specs.Readers.{Bound, unbounded, ranged, within, bounded, asNumber, negated, asSignedNumber}
 use Rattle.terms.specs.Readers.{quotientOf, over, divided, asUnsignedFraction, asFraction, asOp, operatorOf}
 use Rattle.terms.specs.declared.term.Reading.{Reading}
 use Rattle.terms.specs.declared.term.Reading.the-variants.{Value, NotNumber, OutOfRange}

@@ -3,8 +3,6 @@
 --   Searching: the loop along a chain. Every equal record is still ahead on it, so at its end there is none.
 --   entered-all: once a record is entered, the index holds one record more, and the bytes beside it are the same.
 --   Emptying: the loop that empties the index.
---   Indexing: the loop over the records, which is `Reading` of BookReading with the index beside the sorts.
---   left-cleared: once the index is emptied, the book is read as `BookDone` says.
 use mathlib.Core.Path.{_≡_, refl, sym, _∙_, ap}
 use mathlib.Core.Bool.{Bool, true, false}
 use mathlib.Core.Logic.{_≢_, _⊎_, ⊎-elim, inl, inr}
@@ -16,20 +14,14 @@ use borrow.Author.Tests.{eqb-true, eqb-false, ltb-true, ltb-false}
 use lib.Dec.{eqb, ltb}
 use lib.ListN.{length, getD, set, drop, replicate, length-set, length-replicate, getD-replicate, drop-of-length-le}
 use lib.ListN.{List·getD-eq-default}
-use lib.Seq.{drop-cons, ext-getD, getD-set-same, getD-set-other}
-use Rattle.terms.specs.Bytes.{Bytes, digits, put}
-use Rattle.terms.specs.Book.{recordOf, sameBytes, stands, recordRead, recordsRead, putSorts, SortsBelow, BookDone}
-use Rattle.terms.specs.RecordIndex.{hashFrom, chain, headOf, linkOf, On, Indexed, Unused, Beside, BookLeft}
+use lib.Seq.{drop-cons, getD-set-same, getD-set-other}
+use Rattle.numbers.specs.Bytes.{Bytes, digits, put}
+use Rattle.terms.specs.Book.{recordOf, sameBytes, stands}
+use Rattle.terms.specs.RecordIndex.{hashFrom, chain, headOf, linkOf, On, Indexed, Unused, Beside}
 use Rattle.terms.specs.RecordIndex.On.{here, later}
-use Rattle.terms.specs.declared.book.BookRead.{BookRead}
-use Rattle.terms.specs.declared.book.BookRead.the-variants.{Records, RefusedAt}
-use Rattle.terms.specs.declared.book.RecordRead.{RecordRead}
-use Rattle.terms.specs.declared.book.RecordRead.the-variants.{Sorted, Refused}
-use Rattle.terms.proofs.LittleEndian.{le-inside, le-agree, le-put-elsewhere, byte-put-elsewhere, length-put}
-use Rattle.terms.proofs.LittleEndian.{read-after-write-small}
+use Rattle.numbers.proofs.LittleEndian.{le-inside, le-agree, le-put-elsewhere, byte-put-elsewhere, length-put}
+use Rattle.numbers.proofs.LittleEndian.{read-after-write-small}
 use Rattle.terms.proofs.Records.{sameBytes-true, stands-found}
-use Rattle.terms.proofs.BookReading.{Reading, length-putSorts, reading-none, reading-more, reading-refused}
-use Rattle.terms.proofs.BookReading.{reading-done, refused-whole, refused-count}
 
 -- ---- the hash
 
@@ -135,7 +127,7 @@ module _ (n : ℕ) (b w : Bytes) (indexed : Indexed n b w) (r : Bytes) where
 
 -- ---- what changes the index and what does not
 
-beside-same : (w : Bytes) → Beside w w
+pub beside-same : (w : Bytes) → Beside w w
 beside-same w = record { long = refl; same = λ j h. refl }
 
 -- a chain of numbers up to n stays where the links below n do
@@ -337,139 +329,6 @@ module _ (w₀ w : Bytes) (k : ℕ) (emptying : Emptying w₀ w k) where
 
   pub emptying-end : 8192 ≤ k → Unused w × Beside w w₀
   emptying-end end = (record { zero = λ j p q. emptying .zero j p (omega arith) }, emptying .beside)
-
--- ---- the book
-
--- record i of n is next: w has the sorts of those before it, and their index
-pub record Indexing (b w₀ : Bytes) (n : ℕ) (w : Bytes) (i : ℕ) : Type 0 where
-  pub reading : Reading b w₀ n (putSorts i b w₀) i
-  pub beside : Beside w (putSorts i b w₀)
-  pub indexed : Indexed i b w
-
-pub indexing-none : (b w : Bytes) (n : ℕ) → 8192 ≤ length w → Unused w → Indexing b w n w 0
-unfolding putSorts
-indexing-none b w n room unused =
-    record {
-      reading = reading-none b w n;
-      beside = beside-same w;
-      indexed = indexed-none b w room unused;
-    }
-
-module _ (b w₀ : Bytes) (n : ℕ) (w : Bytes) (i : ℕ) (indexing : Indexing b w₀ n w i) where
-  pub indexing-length : length w ≡ length w₀
-  indexing-length = indexing .beside .long ∙ length-putSorts i b w₀
-
-  pub indexing-below : SortsBelow i b w
-  indexing-below =
-      record {
-        laid = indexing .reading .below .laid;
-        held =
-            λ j h.
-            indexing .beside .same j (inl (omega (arith, indexing .indexed .few)))
-            ∙ indexing .reading .below .held j h;
-      }
-
-  -- a sort lies beside the index
-  pub indexed-sorted : (s : ℕ) → i < 2048 → Indexed i b (set w i s)
-  indexed-sorted s h =
-      indexed-elsewhere i b w (set w i s) (length-set w i s)
-      (λ j p q. getD-set-other w i j s 0 (λ e. omega arith))
-      (indexing .indexed)
-
-  pub indexing-more :
-      i < n → (s : ℕ) (r : RecordRead) → r ≡ recordRead b i → r ≡ Sorted s →
-      (w′ : Bytes) → Indexed (i + 1) b w′ → Beside w′ (set w i s) → Indexing b w₀ n w′ (i + 1)
-  indexing-more h s r is sorted w′ indexed beside =
-      let v : Bytes = putSorts i b w₀ in
-      let room : i < length v = omega (arith, indexing .beside .long, indexing .indexed .room) in
-      let more : Reading b w₀ n (set v i s) (i + 1) = reading-more b w₀ n v i (indexing .reading) h room s r is sorted in
-      record {
-        reading = rw (more .written) at more;
-        beside =
-            rw (← more .written)
-            (record {
-              long = beside .long ∙ length-set w i s ∙ indexing .beside .long ∙ sym (length-set v i s);
-              same = λ j apart. beside .same j apart ∙ same j apart (eqb j i) refl;
-            });
-        indexed = indexed;
-      }
-    where
-      same :
-          (j : ℕ) → (j < 2048) ⊎ (8192 ≤ j) → (t : Bool) → eqb j i ≡ t →
-          getD (set w i s) j 0 ≡ getD (set (putSorts i b w₀) i s) j 0
-      same j apart true e =
-          rw (eqb-true j i e)
-          (getD-set-same w i s 0 (omega (arith, indexing .indexed .room))
-          ∙ sym (getD-set-same (putSorts i b w₀) i s 0 (omega (arith, indexing .beside .long, indexing .indexed .room))))
-      same j apart false e =
-          let other : j ≢ i = eqb-false j i e in
-          getD-set-other w i j s 0 other ∙ indexing .beside .same j apart ∙ sym (getD-set-other (putSorts i b w₀) i j s 0 other)
-
--- ---- the answers
-
-left-whole : (b w : Bytes) → BookDone b w w (RefusedAt 2 0) → BookLeft b w w (RefusedAt 2 0)
-unfolding putSorts
-left-whole b w done =
-    record { is = done .is; few = omega arith; sorts = beside-same w }
-
-pub left-odd : (b w : Bytes) → (length b % 32 ≡ 0 → ⊥) → BookLeft b w w (RefusedAt 2 0)
-left-odd b w h = left-whole b w (refused-whole b w h)
-
-pub left-many : (b w : Bytes) → 2048 < length b / 32 → BookLeft b w w (RefusedAt 2 0)
-left-many b w h = left-whole b w (refused-count b w h)
-
-module _ (b w₀ w : Bytes) (i : ℕ) (whole : length b % 32 ≡ 0) (few : length b / 32 ≤ 2048) (indexing : Indexing b w₀ (length b / 32) w i) where
-  pub left-refused :
-      i < length b / 32 → (k : ℕ) (r : RecordRead) → r ≡ recordRead b i → r ≡ Refused k →
-      BookLeft b w₀ w (RefusedAt k i)
-  left-refused h k r is refused =
-      record {
-        is = reading-refused b w₀ (putSorts i b w₀) i whole few (indexing .reading) h k r is refused .is;
-        few = omega arith;
-        sorts = indexing .beside;
-      }
-
-  pub left-done : length b / 32 ≤ i → BookLeft b w₀ w (Records (length b / 32))
-  left-done h =
-      let all : i ≡ length b / 32 = omega (arith, indexing .reading .inside) in
-      record {
-        is = reading-done b w₀ (putSorts i b w₀) i whole few (indexing .reading) h .is;
-        few = few;
-        sorts = rw all at (indexing .beside);
-      }
-
--- bytes past the sorts are not written
-past-sorts : (n : ℕ) (b w : Bytes) (j : ℕ) → n ≤ j → getD (putSorts n b w) j 0 ≡ getD w j 0
-unfolding putSorts
-past-sorts zero b w j h = refl
-past-sorts (suc n) b w j h =
-    getD-set-other (putSorts n b w) n j _ 0 (λ e. omega arith) ∙ past-sorts n b w j (omega arith)
-
--- once the index is emptied, the sorts alone are left
-pub left-cleared :
-    (b w₀ w w′ : Bytes) (r : BookRead) → Unused w₀ → BookLeft b w₀ w r → Unused w′ × Beside w′ w → BookDone b w₀ w′ r
-left-cleared b w₀ w w′ r unused left cleared =
-    record {
-      is = left .is;
-      sorts =
-          ext-getD 0 w′ v (cleared .1 .long ∙ left .sorts .long)
-          (λ j h. go j (ltb j 2048) (ltb j 8192) refl refl);
-    }
-  where
-    v : Bytes
-    v = putSorts (recordsRead r) b w₀
-
-    beside : (j : ℕ) → (j < 2048) ⊎ (8192 ≤ j) → getD w′ j 0 ≡ getD v j 0
-    beside j apart = cleared .1 .same j apart ∙ left .sorts .same j apart
-
-    go : (j : ℕ) (s t : Bool) → ltb j 2048 ≡ s → ltb j 8192 ≡ t → getD w′ j 0 ≡ getD v j 0
-    go j true t p q = beside j (inl (ltb-true j 2048 p))
-    go j false false p q = beside j (inr (ltb-false j 8192 q))
-    go j false true p q =
-        let from : 2048 ≤ j = ltb-false j 2048 p in
-        let to : j < 8192 = ltb-true j 8192 q in
-        cleared .0 .zero j from to
-        ∙ sym (past-sorts (recordsRead r) b w₀ j (omega (arith, left .few)) ∙ unused .zero j from to)
 
 pub unused-zeros : (n : ℕ) → Unused (replicate n 0)
 unused-zeros n = record { zero = λ j p q. go j (ltb j n) refl }

@@ -9,19 +9,20 @@ use native.Mathlib.Omega.{arith}
 use borrow.Author.Tests.{eqb-true, eqb-false, eq-eqb, ne-eqb}
 use lib.Dec.{eqb}
 use lib.IntN.{ℤ, pos}
-use Rattle.terms.specs.Bytes.{Bytes, signed}
-use Rattle.terms.specs.Rational.{Rational, frac, inRange}
-use Rattle.terms.specs.Term.{Term, Terms, if_then_else_, argsOf}
+use Rattle.numbers.specs.Bytes.{Bytes, signed}
+use Rattle.numbers.specs.Rational.{Rational, frac, inRange}
+use Rattle.terms.specs.Term.{Term, Terms, argsOf}
+use Rattle.numbers.specs.Choice.{if_then_else_}
 use Rattle.terms.specs.Term.Term.{integer, rational, bitvector, atom, op}
 use Rattle.terms.specs.Term.Terms.{nil}
-use Rattle.terms.specs.Book.{recordOf, kind, operator, field1, field2, integerOf, realOf, isNumber}
-use Rattle.terms.specs.Book.{isVector, atomSort, argBytes, numbers, arguments, node, forest, tree}
+use Rattle.terms.specs.Book.{recordOf, kind, operator, field1, field2, integerOf, realOf, isNumber, isVector}
+use Rattle.terms.specs.Book.{atomSort, argBytes, numbers, arguments, node, forest, tree}
 use Rattle.terms.specs.Readers.{asNumber, asBitvector, asOp, argumentsOf}
 use Rattle.terms.specs.declared.term.Reading.{Reading}
 use Rattle.terms.specs.declared.term.Reading.the-variants.{Value, NotNumber}
 use Rattle.terms.specs.declared.term.BitVector.the-variants.{Bits, NotBitvector}
-use Rattle.terms.proofs.Truths.{if-either}
-use Rattle.terms.proofs.LittleEndian.{cond-either}
+use Rattle.numbers.proofs.Truths.{if-either}
+use Rattle.numbers.proofs.LittleEndian.{cond-either}
 use Rattle.terms.proofs.Trees.{tree-node}
 
 -- ---- the five kinds of term

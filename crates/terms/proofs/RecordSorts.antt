@@ -9,23 +9,23 @@ use native.Mathlib.Omega.{arith}
 use borrow.Author.Tests.{ltb-true, leb-true}
 use lib.Dec.{leb, ltb, eqb}
 use lib.ListN.{getD}
-use Rattle.terms.specs.Bytes.{Bytes}
-use Rattle.terms.specs.Term.{Sort, Term, Terms, if_then_else_, sort, sorts, sortCode}
+use Rattle.numbers.specs.Bytes.{Bytes}
+use Rattle.terms.specs.Term.{Sort, Term, Terms, sort, sorts, sortCode}
+use Rattle.numbers.specs.Choice.{if_then_else_}
 use Rattle.terms.specs.Term.Sort.{bool, bits}
-use Rattle.terms.specs.Book.{recordOf, operator, sortByte, field2, unused, isWidth, atomSort, numbers}
-use Rattle.terms.specs.Book.{argBytes, nothing, earlier, arguments, node, forest, tree, atomOk, layoutOk}
-use Rattle.terms.specs.Book.{sortOk, SortsBelow}
+use Rattle.terms.specs.Book.{recordOf, operator, sortByte, field2, unused, isWidth, atomSort, numbers, argBytes}
+use Rattle.terms.specs.Book.{nothing, earlier, arguments, node, forest, tree, atomOk, layoutOk, sortOk}
+use Rattle.terms.specs.Book.{SortsBelow}
 use Rattle.terms.specs.Sorting.{sortAt, argSorts, common, sortRule, widthCode, atomCode, sorting}
 use Rattle.terms.specs.declared.sort.Sorting.{Sorting}
 use Rattle.terms.specs.declared.sort.Sorting.the-variants.{Of, Broken}
 use Rattle.terms.proofs.Trees.{recordOf-outside, tree-node}
 use Rattle.terms.proofs.SortCodes.{sorting-operation}
-use Rattle.terms.proofs.SortRules.{Wide, AllWide, codes, coded, both as on-both, either, rule-agrees}
-use Rattle.terms.proofs.SortRules.{wide-gives}
-use Rattle.terms.proofs.Truths.{both}
-use Rattle.terms.proofs.Nodes.{Laid, an-integer, a-rational, a-vector, an-atom, an-operation, laid}
-use Rattle.terms.proofs.Nodes.{node-integer, node-rational, node-vector, node-atom, node-operation}
-use Rattle.terms.proofs.Nodes.{integer-number, real-number, vector-fields, vector-width}
+use Rattle.terms.proofs.SortRules.{Wide, AllWide, codes, coded, both as on-both, either, rule-agrees, wide-gives}
+use Rattle.numbers.proofs.Truths.{both}
+use Rattle.terms.proofs.Nodes.{Laid, an-integer, a-rational, a-vector, an-atom, an-operation, laid, node-integer}
+use Rattle.terms.proofs.Nodes.{node-rational, node-vector, node-atom, node-operation, integer-number}
+use Rattle.terms.proofs.Nodes.{real-number, vector-fields, vector-width}
 
 -- ---- widths
 

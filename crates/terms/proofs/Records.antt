@@ -7,18 +7,17 @@ use mathlib.Core.Logic.{_⊎_, ⊎-elim, inl, inr}
 use mathlib.Core.List.{List, [], _∷_}
 use Prim.Native.Nat.{ℕ, zero, suc, _+_, _*_, _-_, _/_, _≤_, _<_, min}
 use native.Mathlib.Nat.{eq-or-lt-of-le, le-of-suc-le-suc}
-use native.Mathlib.Numerals.{add-one}
 use native.Mathlib.Omega.{arith}
 use borrow.Author.Tests.{lt-ltb, le-ltb, eq-eqb, ne-eqb, eqb-true}
 use lib.Dec.{ltb, eqb}
 use lib.ListN.{length, getD, take, drop, length-drop, List·getD-eq-default}
 use lib.Seq.{take-nil, ext-getD}
-use Rattle.terms.specs.Bytes.{Bytes, le}
+use Rattle.numbers.specs.Bytes.{Bytes, le}
 use Rattle.terms.specs.Term.{Term, Terms}
 use Rattle.terms.specs.Term.Terms.{nil, _▹_}
-use Rattle.terms.specs.Book.{recordOf, kind, argCount, argBytes, numbers, nothing, earlier, argumentAt}
-use Rattle.terms.specs.Book.{arguments, forest, sameBytes, stands}
-use Rattle.terms.proofs.LittleEndian.{le-cons, le-of-two}
+use Rattle.terms.specs.Book.{recordOf, kind, argCount, argBytes, numbers, nothing, earlier, argumentAt, arguments}
+use Rattle.terms.specs.Book.{forest, sameBytes, stands}
+use Rattle.numbers.proofs.LittleEndian.{le-cons, le-of-two}
 
 -- ---- the part of a record that holds its arguments, as the function `arg_bytes` finds it
 
@@ -209,11 +208,3 @@ module _ (b r : Bytes) where
   stands-found zero j h e = absurd (omega arith)
   stands-found (suc n) j h e =
       stands-either n (⊎-elim (λ p. inr (rw p at e)) (λ l. inl (stands-found n j l e)) (eq-or-lt-of-le (le-of-suc-le-suc h)))
-
-  pub stands-next :
-      (n : ℕ) → stands n b r ≡ false → sameBytes (recordOf b n) r ≡ false → stands (n + 1) b r ≡ false
-  unfolding stands
-  stands-next n first last = rw (add-one, first, stands) last
-
-  pub stands-none : (n j : ℕ) → j ≤ n → n ≤ j → stands j b r ≡ false → false ≡ stands n b r
-  stands-none n j p q none = let end : n ≡ j = omega arith in rw end (sym none)

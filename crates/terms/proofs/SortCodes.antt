@@ -10,11 +10,11 @@ use borrow.Author.Tests.{le-leb, lt-leb, eq-eqb, ne-eqb}
 use lib.Dec.{leb, eqb}
 use lib.ListN.{length, getD, take}
 use lib.Seq.{take-suc, take-all}
-use Rattle.terms.specs.Bytes.{Bytes, le}
-use Rattle.terms.specs.Term.{if_then_else_}
+use Rattle.numbers.specs.Bytes.{Bytes, le}
+use Rattle.numbers.specs.Choice.{if_then_else_}
 use Rattle.terms.specs.Book.{kind, operator, argBytes, numbers}
-use Rattle.terms.specs.Sorting.{sortAt, argSorts, allCodes, firstCode, numericCode, common, takesBy}
-use Rattle.terms.specs.Sorting.{givesBy, sortRule, sorting}
+use Rattle.terms.specs.Sorting.{sortAt, argSorts, allCodes, firstCode, numericCode, common, takesBy, givesBy}
+use Rattle.terms.specs.Sorting.{sortRule, sorting}
 use Rattle.terms.specs.declared.sort.Sorting.{Sorting}
 use Rattle.terms.specs.declared.sort.ArgSorts.{ArgSorts}
 use Rattle.terms.proofs.Records.{length-numbers, number-at}

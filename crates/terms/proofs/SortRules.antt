@@ -9,8 +9,8 @@ use native.Mathlib.Omega.{arith}
 use borrow.Author.Tests.{le-leb, eqb-true, eqb-false, ne-eqb}
 use lib.Dec.{leb, eqb}
 use Rattle.terms.specs.Operator.{GreaterEq, Mult, IntDiv, ToReal, Equals, Or}
-use Rattle.terms.specs.Term.{Sort, if_then_else_, sortCode, sameSort, isNumeric, isBits, all, first}
-use Rattle.terms.specs.Term.{takes, gives}
+use Rattle.terms.specs.Term.{Sort, sortCode, sameSort, isNumeric, isBits, all, first, takes, gives}
+use Rattle.numbers.specs.Choice.{if_then_else_}
 use Rattle.terms.specs.Term.Sort.{bool, int, real, bits}
 use Rattle.terms.specs.Sorting.{allCodes, firstCode, numericCode, common, takesBy, givesBy, sortRule}
 use Rattle.terms.specs.declared.sort.Sorting.the-variants.{Of, Broken}

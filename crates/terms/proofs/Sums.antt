@@ -6,11 +6,10 @@
 use mathlib.Core.Path.{_≡_, _∙_, ap}
 use mathlib.Core.List.{List, [], _∷_}
 use lib.IntN.{pos}
-use Rattle.terms.specs.Pair.{Pair, addP, mulP, negP}
+use Rattle.numbers.specs.Pair.{Pair, addP, mulP, negP}
 use Rattle.terms.specs.Smtlib.{Meant, asPair, foldLeft, reduce, minus, subP}
-use Rattle.terms.proofs.Ring.{_⊕_, _⊖_, _⊗_, neg, 𝟘, 𝟙, _≐_, solve}
-use Rattle.terms.proofs.Quotient.{ℚ, mk, sum, product, opposite, ι, ℚring, mk-add, mk-mul, mk-neg}
-use Rattle.terms.proofs.Quotient.{mk-whole}
+use Rattle.numbers.proofs.Ring.{_⊕_, _⊖_, _⊗_, neg, 𝟘, 𝟙, _≐_, solve}
+use Rattle.numbers.proofs.Quotient.{ℚ, mk, sum, product, opposite, ι, ℚring, mk-add, mk-mul, mk-neg, mk-whole}
 
 abbrev pub meant : Meant → ℚ
 meant v = mk (asPair v)

@@ -11,11 +11,11 @@ use borrow.Author.Tests.{lt-ltb, le-ltb, ltb-true, ltb-false}
 use lib.Dec.{ltb}
 use lib.ListN.{length, take, drop, length-append, length-drop}
 use lib.Seq.{take-append-le, drop-append-le}
-use Rattle.terms.specs.Bytes.{Bytes}
+use Rattle.numbers.specs.Bytes.{Bytes}
 use Rattle.terms.specs.Term.{Term}
 use Rattle.terms.specs.Term.Terms.{nil, _▹_}
-use Rattle.terms.specs.Book.{maxRecords, count, recordOf, argBytes, numbers, arguments, earlier, nothing}
-use Rattle.terms.specs.Book.{node, forest, treeWithin, tree, height}
+use Rattle.terms.specs.Book.{maxRecords, count, recordOf, argBytes, numbers, arguments, earlier, nothing, node}
+use Rattle.terms.specs.Book.{forest, treeWithin, tree, height}
 
 -- a record number is below the most that there are, or the record has no bytes
 data Placed (b : Bytes) (i : ℕ) : Type 0 where

@@ -11,16 +11,16 @@ use native.Mathlib.Omega.{arith}
 use borrow.Author.Tests.{eqb-true}
 use lib.IntN.{ℤ}
 use Rattle.terms.specs.Operator.{BvAdd, BvSub, BvNeg, BvMul}
-use Rattle.terms.specs.Term.{Sort, Term, Terms, if_then_else_, sort, sorts, sameSort, isBits, all, first}
-use Rattle.terms.specs.Term.{gives}
+use Rattle.terms.specs.Term.{Sort, Term, Terms, sort, sorts, sameSort, isBits, all, first, gives}
+use Rattle.numbers.specs.Choice.{if_then_else_}
 use Rattle.terms.specs.Term.Sort.{bool, int, real, bits}
 use Rattle.terms.specs.Term.Term.{integer, rational, bitvector, atom, op}
 use Rattle.terms.specs.Term.Terms.{nil, _▹_}
-use Rattle.terms.specs.Rational.{modulo}
+use Rattle.numbers.specs.Rational.{modulo}
 use Rattle.terms.specs.Smtlib.{Meant, vector, Assignment, asVector, widthOf, sumZ, differenceZ, oppositeZ}
 use Rattle.terms.specs.Smtlib.{productZ, meaning, value, values}
-use Rattle.terms.proofs.Truths.{never}
-use Rattle.terms.proofs.Modulo.{Cong, two-pow-pos, modulo-lt, eq-of-cong-of-lt}
+use Rattle.numbers.proofs.Truths.{never}
+use Rattle.numbers.proofs.Modulo.{Cong, two-pow-pos, modulo-lt, eq-of-cong-of-lt}
 use Rattle.terms.proofs.Operators.{by-operator}
 use Rattle.terms.proofs.WellFormed.{WellFormed, AllWellFormed, AtomSort, Operation}
 

@@ -11,24 +11,24 @@ use lib.Dec.{T, leb, ltb, eqb}
 use lib.IntN.{pos}
 use lib.ListN.{length, length-take, length-drop}
 use lib.Signed.{ltZ, ltZ-yes}
-use Rattle.terms.specs.Bytes.{Bytes}
-use Rattle.terms.specs.Rational.{Lowest, inRange}
+use Rattle.numbers.specs.Bytes.{Bytes}
+use Rattle.numbers.specs.Rational.{Lowest, inRange}
 use Rattle.terms.specs.Operator.{Not, Sub, IntDiv, RealDiv, ToReal, BvSub, BvNeg, BvMul}
-use Rattle.terms.specs.Term.{Sort, Term, Terms, if_then_else_, sorts, takes}
+use Rattle.terms.specs.Term.{Sort, Term, Terms, sorts, takes}
+use Rattle.numbers.specs.Choice.{if_then_else_}
 use Rattle.terms.specs.Term.Sort.{bool, int, real, bits}
 use Rattle.terms.specs.Term.Term.{integer, rational, bitvector, atom, op}
 use Rattle.terms.specs.Term.Terms.{nil, _▹_}
-use Rattle.terms.specs.Book.{count, recordOf, kind, operator, argCount, sortByte, field1, field2}
-use Rattle.terms.specs.Book.{realOf, isWidth, isVector, numbers, argBytes, arguments, node}
-use Rattle.terms.specs.Book.{forest, tree, unused, countOk, allBelow}
-use Rattle.terms.specs.Book.{operationOk, sortOk, readBook}
+use Rattle.terms.specs.Book.{count, recordOf, kind, operator, argCount, sortByte, field1, field2, realOf, isWidth}
+use Rattle.terms.specs.Book.{isVector, numbers, argBytes, arguments, node, forest, tree, unused, countOk}
+use Rattle.terms.specs.Book.{allBelow, operationOk, sortOk, readBook}
 use Rattle.terms.specs.declared.book.BookRead.the-variants.{Records}
 use Rattle.terms.proofs.Trees.{tree-node}
-use Rattle.terms.proofs.Truths.{both}
+use Rattle.numbers.proofs.Truths.{both}
 use Rattle.terms.proofs.Records.{length-numbers}
-use Rattle.terms.proofs.Nodes.{Laid, an-integer, a-rational, a-vector, an-atom, an-operation, laid}
-use Rattle.terms.proofs.Nodes.{node-integer, node-rational, node-vector, node-atom, node-operation}
-use Rattle.terms.proofs.Nodes.{integer-number, real-number, vector-fields}
+use Rattle.terms.proofs.Nodes.{Laid, an-integer, a-rational, a-vector, an-atom, an-operation, laid, node-integer}
+use Rattle.terms.proofs.Nodes.{node-rational, node-vector, node-atom, node-operation, integer-number}
+use Rattle.terms.proofs.Nodes.{real-number, vector-fields}
 use Rattle.terms.proofs.Accepted.{accepted-count, accepted-layout, accepted-sort}
 
 -- ---- the rules at a node

@@ -2,10 +2,10 @@
 use mathlib.Core.Path.{refl}
 use mathlib.Core.List.{List, [], _∷_}
 use lib.IntN.{ℤ, pos, negℤ, _+ℤ_, _*ℤ_}
-use Rattle.terms.specs.Pair.{Pair, wholeP, addP, mulP, negP, _≈_}
+use Rattle.numbers.specs.Pair.{Pair, wholeP, addP, mulP, negP, _≈_}
 use Rattle.terms.specs.Smtlib.{Meant, asPair, foldLeft, reduce, minus, subP}
-use Rattle.terms.proofs.Integers.{_⊕_, _⊗_, 𝟙, _≐_, solveℤ}
-use Rattle.terms.proofs.Pairs.{≈-trans, add-resp, mul-resp, neg-resp}
+use Rattle.numbers.proofs.Integers.{_⊕_, _⊗_, 𝟙, _≐_, solveℤ}
+use Rattle.numbers.proofs.Pairs.{≈-trans, add-resp, mul-resp, neg-resp}
 
 abbrev pub Whole : Pair → Type 0
 Whole p = (z : ℤ) × (p ≈ wholeP z)

@@ -10,19 +10,20 @@ use lib.Dec.{leb, ltb, eqb}
 use lib.IntN.{pos, natAbs}
 use lib.ListN.{length, getD, set, take, drop}
 use lib.Signed.{ltZ}
-use Rattle.terms.specs.Rational.{Rational, frac, whole, gcd, inRange}
-use Rattle.terms.specs.Bytes.{Bytes, le, signed}
+use Rattle.numbers.specs.Rational.{Rational, frac, whole, gcd, inRange}
+use Rattle.numbers.specs.Bytes.{Bytes, le, signed}
 use Rattle.terms.specs.Operator.{Not, Sub, IntDiv, RealDiv, ToReal, BvSub, BvNeg, BvMul}
-use Rattle.terms.specs.Term.{Sort, Term, Terms, if_then_else_, sort, sorts, sortCode, takes}
+use Rattle.terms.specs.Term.{Sort, Term, Terms, sort, sorts, sortCode, takes}
+use Rattle.numbers.specs.Choice.{if_then_else_}
 use Rattle.terms.specs.Term.Sort.{bool, int, real, bits}
 use Rattle.terms.specs.Term.Term.{integer, rational, bitvector, atom, op}
 use Rattle.terms.specs.Term.Terms.{nil, _▹_}
+use Rattle.terms.specs.declared.book.BookRefusal.{BookRefusal}
+use Rattle.terms.specs.declared.book.BookRefusal.the-variants.{BookSize, RecordLayout, SortBroken, RecordRepeated}
 use Rattle.terms.specs.declared.book.BookRead.{BookRead}
 use Rattle.terms.specs.declared.book.BookRead.the-variants.{Records, RefusedAt}
 use Rattle.terms.specs.declared.book.RecordRead.{RecordRead}
 use Rattle.terms.specs.declared.book.RecordRead.the-variants.{Sorted, Refused}
-use Rattle.terms.specs.declared.sort.Sorting.{Sorting}
-use Rattle.terms.specs.declared.sort.Sorting.the-variants.{Of, Broken}
 
 -- ---- a record's fields
 
@@ -123,7 +124,8 @@ forest f (a ∷ l) = f a ▹ forest f l
 -- the first argument bounds the depth; a record's number and one more is enough, since arguments are smaller
 unfoldable pub treeWithin : ℕ → Bytes → ℕ → Term
 treeWithin zero b i = node i [] nil
-treeWithin (suc k) b i = node i (recordOf b i) (forest (treeWithin k b) (arguments i (numbers (argBytes (recordOf b i)))))
+treeWithin (suc k) b i =
+    node i (recordOf b i) (forest (treeWithin k b) (arguments i (numbers (argBytes (recordOf b i)))))
 
 unfoldable pub tree : Bytes → ℕ → Term
 tree b i = treeWithin (suc i) b i
@@ -197,11 +199,6 @@ sortOk (bitvector i v w) = true
 sortOk (atom i s n) = true
 sortOk (op i o ts) = takes o (sorts ts)
 
--- document 01's number for each case of `Sorting`: 4 is 'sort broken', 0 no refusal
-abbrev pub sortingRefusal : Sorting → ℕ
-sortingRefusal (Of c) = 0
-sortingRefusal Broken = 4
-
 -- ---- refusal 5: equality
 
 unfoldable pub sameBytes : Bytes → Bytes → Bool
@@ -217,15 +214,19 @@ stands (suc n) b r = elim (stands n b r) [ true ↦ true | false ↦ sameBytes (
 
 -- ---- the book
 
--- refusal 3, 4 or 5, or the record's sort; a refused case holds document 01's number
+-- refusal 3, 4 or 5, or the record's sort
 unfoldable pub recordRead : Bytes → ℕ → RecordRead
 recordRead b i =
     elim (layoutOk i (recordOf b i)) [
-      | false ↦ Refused 3
+      | false ↦ Refused RecordLayout
       | true ↦
           elim (sortOk (tree b i)) [
-            | false ↦ Refused (sortingRefusal Broken)
-            | true ↦ elim (stands i b (recordOf b i)) [ true ↦ Refused 5 | false ↦ Sorted (sortCode (sort (tree b i))) ]
+            | false ↦ Refused SortBroken
+            | true ↦
+                elim (stands i b (recordOf b i)) [
+                  | true ↦ Refused RecordRepeated
+                  | false ↦ Sorted (sortCode (sort (tree b i)))
+                ]
           ]
     ]
 
@@ -239,12 +240,19 @@ abbrev pub sizeOk : Bytes → Bool
 sizeOk b = eqb (length b % 32) 0 && leb (length b / 32) maxRecords
 
 unfoldable pub readBook : Bytes → BookRead
-readBook b = elim (sizeOk b) [ true ↦ readRecords (length b / 32) b 0 | false ↦ RefusedAt 2 0 ]
+readBook b = elim (sizeOk b) [ true ↦ readRecords (length b / 32) b 0 | false ↦ RefusedAt BookSize 0 ]
 
--- document 01's number for each case of `BookRead`; 0 is no refusal
+-- document 01's number of a refusal
+abbrev pub bookNumber : BookRefusal → ℕ
+bookNumber BookSize = 2
+bookNumber RecordLayout = 3
+bookNumber SortBroken = 4
+bookNumber RecordRepeated = 5
+
+-- the same for each case of `BookRead`; 0 is no refusal
 abbrev pub refusalOf : BookRead → ℕ
 refusalOf (Records n) = 0
-refusalOf (RefusedAt c i) = c
+refusalOf (RefusedAt c i) = bookNumber c
 
 -- ---- what reading leaves in memory: the sorts of the records that were read, a byte each
 

@@ -1,5 +1,6 @@
 -- A book of twenty records with every kind of record: its sorts, what the readers find, and values under an assignment,
--- worked out by the checker. Then books that are refused, one for each half sentence of document 01's 'The book of terms'.
+-- worked out by the checker. Then books that are refused, one for each half sentence of document 01's 'The book of
+-- terms'.
 use mathlib.Core.Path.{_≡_, refl}
 use mathlib.Core.Bool.{Bool, true, false, _&&_, cond}
 use mathlib.Core.List.{List, [], _∷_, _++_}
@@ -9,23 +10,22 @@ use native.Mathlib.Nat.{zero-lt-suc}
 use lib.Dec.{eqb}
 use lib.IntN.{ℤ, pos, negsuc}
 use lib.ListN.{length, replicate, set}
-use Rattle.terms.specs.Pair.{pair, eqP}
-use Rattle.terms.specs.Rational.{frac, whole, gcd, gcdWithin, lowest, divQ, negQ, isZero, isInteger}
-use Rattle.terms.specs.Rational.{inRange}
-use Rattle.terms.specs.Rational as Rational
-use Rattle.terms.specs.Bytes.{Bytes, le, digits, put, putDigits, signed, complement}
-use Rattle.terms.specs.Operator.{Not, And, Equals, LessThan, Add, Sub, IntDiv, RealDiv, ToReal, BvAdd}
-use Rattle.terms.specs.Operator.{BvNeg}
-use Rattle.terms.specs.Term.{sort, sorts, sortCode, takes, gives, all, if_then_else_, unary, binary}
-use Rattle.terms.specs.Book.{recordOf, numbers, arguments, node, forest, treeWithin, tree, allZero}
-use Rattle.terms.specs.Book.{countOk, allBelow, layoutOk}
-use Rattle.terms.specs.Book.{sameBytes, stands, recordRead, readRecords, readBook}
-use Rattle.terms.specs.Readers.{asNumber, asSignedNumber, quotientOf, asUnsignedFraction, asFraction}
-use Rattle.terms.specs.Readers.{asBitvector, removeNegation, bounded, ranged}
-use Rattle.terms.specs.Smtlib.{Assignment, asPair, value, meaning, every, any, chain, foldLeft, sumZ}
-use Rattle.terms.specs.Smtlib.{productZ, divsEven}
+use Rattle.numbers.specs.Pair.{pair, eqP}
+use Rattle.numbers.specs.Rational.{frac, whole, gcd, gcdWithin, lowest, divQ, negQ, isZero, isInteger, inRange}
+use Rattle.numbers.specs.Rational as Rational
+use Rattle.numbers.specs.Bytes.{Bytes, le, digits, put, putDigits, signed, complement}
+use Rattle.terms.specs.Operator.{Not, And, Equals, LessThan, Add, Sub, IntDiv, RealDiv, ToReal, BvAdd, BvNeg}
+use Rattle.terms.specs.Term.{sort, sorts, sortCode, takes, gives, all, unary, binary}
+use Rattle.numbers.specs.Choice.{if_then_else_}
+use Rattle.terms.specs.Book.{recordOf, numbers, arguments, node, forest, treeWithin, tree, allZero, countOk}
+use Rattle.terms.specs.Book.{allBelow, layoutOk, sameBytes, stands, recordRead, readRecords, readBook, refusalOf}
+use Rattle.terms.specs.Book.{recordsRead}
+use Rattle.terms.specs.Readers.{asNumber, asSignedNumber, quotientOf, asUnsignedFraction, asFraction, asBitvector}
+use Rattle.terms.specs.Readers.{removeNegation, bounded, ranged}
+use Rattle.terms.specs.Smtlib.{Assignment, asPair, value, meaning, every, any, chain, foldLeft, sumZ, productZ}
+use Rattle.terms.specs.Smtlib.{divsEven}
 use Rattle.terms.specs.declared.book.BookRead.{BookRead}
-use Rattle.terms.specs.declared.book.BookRead.the-variants.{Records, RefusedAt}
+use Rattle.terms.specs.declared.book.BookRead.the-variants.{Records}
 use Rattle.terms.specs.declared.term.BitVector.the-variants.{Bits}
 use Rattle.terms.specs.declared.term.Reading.{Reading}
 use Rattle.terms.specs.declared.term.Reading.the-variants.{Value, NotNumber}
@@ -172,14 +172,13 @@ uneven : divsEven (tree book 16) ≡ false
 unfolding reads book divsEven
 uneven = refl
 
--- ---- refusals: a book of records, document 01's number and the record that is refused
+-- ---- refusals: a book of records, document 01's number and the record that is refused, or how many there are
 
 abbrev Case : Type 0
 Case = List Bytes × ℕ × ℕ
 
 abbrev answers : BookRead → ℕ → ℕ → Bool
-answers (Records n) c i = eqb c 0 && eqb n i
-answers (RefusedAt d j) c i = eqb c d && eqb i j
+answers r c i = eqb (refusalOf r) c && eqb (recordsRead r) i
 
 abbrev allAnswer : List Case → Bool
 allAnswer [] = true

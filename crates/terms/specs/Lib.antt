@@ -1,8 +1,3 @@
-pub mod Pair
-pub mod Rational
-pub mod Bytes
-pub mod Operator
-pub mod Term
 pub mod Book
 pub mod RecordIndex
 pub mod Sorting
@@ -10,3 +5,5 @@ pub mod Readers
 pub mod Smtlib
 pub mod BookExamples
 pub mod MeaningExamples
+pub mod Operator
+pub mod Term

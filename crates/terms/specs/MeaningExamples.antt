@@ -8,18 +8,17 @@ use Prim.Native.Nat.{ℕ, suc}
 use native.Mathlib.Nat.{zero-lt-suc}
 use lib.Dec.{eqb}
 use lib.IntN.{ℤ, pos, negsuc}
-use Rattle.terms.specs.Pair.{pair, eqP}
-use Rattle.terms.specs.Rational as Rational
-use Rattle.terms.specs.Rational.{frac}
+use Rattle.numbers.specs.Pair.{pair, eqP}
+use Rattle.numbers.specs.Rational as Rational
+use Rattle.numbers.specs.Rational.{frac}
 use Rattle.terms.specs.Operator.{Not, And, Or, Equals, LessThan, LessEq, GreaterThan, GreaterEq, Add, Sub, Mult}
 use Rattle.terms.specs.Operator.{IntDiv, RealDiv, ToReal, BvAdd, BvSub, BvNeg, BvMul}
 use Rattle.terms.specs.Term.{Term, Terms}
 use Rattle.terms.specs.Term.Sort.{bool, int, real, bits}
 use Rattle.terms.specs.Term.Term.{integer, rational, bitvector, atom, op}
 use Rattle.terms.specs.Term.Terms.{nil, _▹_}
-use Rattle.terms.specs.Smtlib.{Assignment, asPair, isTrue, value, meaning, every, any, chain, foldLeft}
-use Rattle.terms.specs.Smtlib.{sumZ, productZ}
-use Rattle.terms.specs.Smtlib.{holds, divsEven}
+use Rattle.terms.specs.Smtlib.{Assignment, asPair, isTrue, value, meaning, every, any, chain, foldLeft, sumZ}
+use Rattle.terms.specs.Smtlib.{productZ, holds, divsEven}
 use Rattle.terms.specs.BookExamples.{reads}
 
 -- ---- the terms: x is 5, u is 17/2, s is -1/2, p is true, q is false, v has 8 bits and is 200, b has one bit and is 1

@@ -6,12 +6,12 @@ use mathlib.Core.Option.{Option, some, none}
 use Prim.Native.Nat.{ℕ, _<_}
 use lib.Dec.{leb}
 use lib.IntN.{natAbs}
-use Rattle.terms.specs.Rational.{Rational, whole, divQ, negQ, isZero, limit, Proper}
+use Rattle.numbers.specs.Rational.{Rational, whole, divQ, negQ, isZero, limit, Proper}
 use Rattle.terms.specs.Operator.{Not, Sub, IntDiv, RealDiv}
 use Rattle.terms.specs.Term.{Term, Terms, unary, binary}
 use Rattle.terms.specs.Term.Term.{integer, rational, bitvector, atom, op}
 use Rattle.terms.specs.Term.Terms.{nil}
-use Rattle.terms.specs.Bytes.{Bytes}
+use Rattle.numbers.specs.Bytes.{Bytes}
 use Rattle.terms.specs.Book.{recordOf, numbers, argBytes, arguments, forest, tree, height}
 use Rattle.terms.specs.declared.term.Reading.{Reading}
 use Rattle.terms.specs.declared.term.Reading.the-variants.{Value, NotNumber, OutOfRange}

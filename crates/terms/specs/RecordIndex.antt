@@ -5,7 +5,7 @@ use mathlib.Core.Logic.{_⊎_}
 use mathlib.Core.List.{[], _∷_}
 use Prim.Native.Nat.{ℕ, _+_, _*_, _/_, _%_, _≤_, _<_}
 use lib.ListN.{length, getD}
-use Rattle.terms.specs.Bytes.{Bytes, le}
+use Rattle.numbers.specs.Bytes.{Bytes, le}
 use Rattle.terms.specs.Book.{recordOf, readBook, recordsRead, putSorts}
 use Rattle.terms.specs.declared.book.BookRead.{BookRead}
 

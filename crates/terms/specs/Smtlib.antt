@@ -6,12 +6,13 @@ use mathlib.Core.Option.{Option, some, none}
 use Prim.Native.Nat.{ℕ, _%_, _^_, _<_}
 use lib.Dec.{eqb}
 use lib.IntN.{ℤ, pos, negℤ, _+ℤ_, _*ℤ_}
-use Rattle.terms.specs.Pair.{Pair, wholeP, addP, mulP, negP, divP, eqP, lessP, lessEqP, _≈_}
-use Rattle.terms.specs.Rational as Rational
-use Rattle.terms.specs.Rational.{isZero, isInteger, divQ, modulo}
-use Rattle.terms.specs.Operator.{Not, And, Or, Equals, LessThan, LessEq, GreaterThan, GreaterEq}
-use Rattle.terms.specs.Operator.{Add, Sub, Mult, IntDiv, RealDiv, ToReal, BvAdd, BvSub, BvNeg}
-use Rattle.terms.specs.Term.{Sort, Term, Terms, if_then_else_, sort, binary}
+use Rattle.numbers.specs.Pair.{Pair, wholeP, addP, mulP, negP, divP, eqP, lessP, lessEqP, _≈_}
+use Rattle.numbers.specs.Rational as Rational
+use Rattle.numbers.specs.Rational.{isZero, isInteger, divQ, modulo}
+use Rattle.terms.specs.Operator.{Not, And, Or, Equals, LessThan, LessEq, GreaterThan, GreaterEq, Add, Sub, Mult}
+use Rattle.terms.specs.Operator.{IntDiv, RealDiv, ToReal, BvAdd, BvSub, BvNeg}
+use Rattle.terms.specs.Term.{Sort, Term, Terms, sort, binary}
+use Rattle.numbers.specs.Choice.{if_then_else_}
 use Rattle.terms.specs.Term.Sort.{bool, int, real, bits}
 use Rattle.terms.specs.Term.Term.{integer, rational, bitvector, atom, op}
 use Rattle.terms.specs.Term.Terms.{nil, _▹_}

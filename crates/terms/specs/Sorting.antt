@@ -5,9 +5,9 @@ use mathlib.Core.List.{List, [], _∷_}
 use Prim.Native.Nat.{ℕ, _+_}
 use lib.Dec.{leb, ltb, eqb}
 use lib.ListN.{getD}
-use Rattle.terms.specs.Bytes.{Bytes}
+use Rattle.numbers.specs.Bytes.{Bytes}
 use Rattle.terms.specs.Operator.{Or, Equals, GreaterEq, Mult, IntDiv, ToReal}
-use Rattle.terms.specs.Term.{if_then_else_}
+use Rattle.numbers.specs.Choice.{if_then_else_}
 use Rattle.terms.specs.Book.{kind, operator, sortByte, field2, argBytes, numbers}
 use Rattle.terms.specs.declared.sort.ArgSorts.{ArgSorts}
 use Rattle.terms.specs.declared.sort.Sorting.{Sorting}

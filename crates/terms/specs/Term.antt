@@ -6,8 +6,9 @@ use mathlib.Core.Option.{Option, some, none}
 use Prim.Native.Nat.{ℕ, _+_}
 use lib.Dec.{leb, eqb}
 use lib.IntN.{ℤ}
-use Rattle.terms.specs.Rational.{Rational}
+use Rattle.numbers.specs.Rational.{Rational}
 use Rattle.terms.specs.Operator.{GreaterEq, Mult, IntDiv, ToReal, Equals, Or}
+use Rattle.numbers.specs.Choice.{if_then_else_}
 
 pub data Sort : Type 0 where
   bool int real : Sort
@@ -71,11 +72,6 @@ all p (s ∷ ss) = p s && all p ss
 abbrev pub first : List Sort → Sort
 first [] = bool
 first (s ∷ ss) = s
-
-infixr 10 if_then_else_
-unfoldable pub if_then_else_ : {A : Type 0} → Bool → A → A → A
-if_then_else_ true x y = x
-if_then_else_ false x y = y
 
 -- whether an operator takes arguments of these sorts
 unfoldable pub takes : ℕ → List Sort → Bool

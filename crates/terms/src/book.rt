@@ -1,30 +1,59 @@
-// The book of terms: records of 32 bytes, numbered from 0. It replaces the Rust's `Pool` and `Rc<Term>`: a term is a record
-// number. Every function takes any bytes and any number; a record that is not there has no bytes.
+// The book of terms: records of 32 bytes, numbered from 0. It replaces the Rust's `Pool` and `Rc<Term>`: a term is a
+// record number. Every function takes any bytes and any number; a record that is not there has no bytes.
 ghost use mathlib.Core.Path.{_≡_};
 ghost use Prim.Native.Nat.{_≤_};
 ghost use lib.ListN.{getD, length};
-ghost use Rattle.terms.specs.Book.{count, recordOf, argBytes, argumentAt, sameBytes, stands};
-ghost use Rattle.terms.specs.Book.{recordRead, SortsBelow, BookDone};
-use crate::bytes::read_u16;
+ghost use Rattle.terms.specs.Book.{count, recordOf, argBytes, argumentAt, sameBytes, bookNumber, recordRead};
+ghost use Rattle.terms.specs.Book.{SortsBelow, BookDone};
+ghost use Rattle.terms.specs.RecordIndex.{Indexed, Unused, BookLeft};
+use crate::index::clear;
+use crate::index::enter;
+use crate::index::found;
 use crate::layout::layout_ok;
 use crate::sort::Sorting;
 use crate::sort::sort_of;
+use numbers::bytes::read_u16;
+
+// What is wrong with a book: document 01's refusals 2 to 5, in order.
+pub enum BookRefusal {
+    // Not whole records, or more than 2,048.
+    BookSize,
+    // Bytes that make no record.
+    RecordLayout,
+    // Arguments of sorts that the operator does not take.
+    SortBroken,
+    // A record equal to an earlier one.
+    RecordRepeated,
+}
 
 // What reading a book finds.
 pub enum BookRead {
     // A book of so many records.
     Records(usize),
-    // Document 01's number of the refusal, and the record that is refused.
-    RefusedAt(u8, usize),
+    // The refusal, and the record that is refused.
+    RefusedAt(BookRefusal, usize),
 }
 
 // What reading a record finds.
 pub enum RecordRead {
     // Its sort, as one number.
     Sorted(u8),
-    // Document 01's number of the refusal.
-    Refused(u8),
+    Refused(BookRefusal),
 }
+
+// Document 01's number of a refusal.
+pub fn book_number(r: BookRefusal) -> u8
+    ensures { λ n. ⌜ n ≡ bookNumber r ⌝ }
+{
+    match r {
+        BookRefusal::BookSize => 2,
+        BookRefusal::RecordLayout => 3,
+        BookRefusal::SortBroken => 4,
+        BookRefusal::RecordRepeated => 5,
+    }
+}
+
+// ---- a record's bytes
 
 // How many records are there, 2048 at most.
 pub fn count(book: &[u8]) -> usize
@@ -101,66 +130,47 @@ pub fn same_bytes(a: &[u8], b: &[u8]) -> bool
     true
 }
 
-// Whether one of the first n records has the bytes r.
-fn stands(book: &[u8], n: usize, r: &[u8]) -> bool
-    ensures { λ x. ⌜ x ≡ stands n (now (book .entry)) (now (r .entry)) ⌝ }
-{
-    let mut j = 0;
-    while j < n {
-        if same_bytes(record(book, j), r) {
-            return true;
-        }
-        j += 1;
-    }
-    false
-}
+// ---- reading
 
-// Refusal 3, 4 or 5 of a record, or its sort, given the sorts of the records before it and whether one of them has its
-// bytes.
-pub(crate) fn record_read(book: &[u8], id: usize, sorts: &[u8], again: bool) -> RecordRead
-    requires { ⌜ SortsBelow id (now book) (now sorts) × (again ≡ stands id (now book) (recordOf (now book) id)) ⌝ }
+// Refusal 3, 4 or 5 of a record, or its sort, where the work area has the sorts and the index of the records before it.
+fn record_read(book: &[u8], id: usize, work: &[u8]) -> RecordRead
+    requires { ⌜ SortsBelow id (now book) (now work) × Indexed id (now book) (now work) ⌝ }
     ensures { λ r. ⌜ r ≡ recordRead (now (book .entry)) id ⌝ }
 {
+    // Sought first, though refusal 5 comes last: the hash is one long chain of products, and the processor tests the
+    // layout beside it.
+    let again = found(book, work, id);
     let r = record(book, id);
     if layout_ok(r, id) {
-        let Sorting::Of(s) = sort_of(r, id, sorts) else {
-            return RecordRead::Refused(4);
+        let Sorting::Of(s) = sort_of(r, id, work) else {
+            return RecordRead::Refused(BookRefusal::SortBroken);
         };
         if again {
-            return RecordRead::Refused(5);
+            return RecordRead::Refused(BookRefusal::RecordRepeated);
         }
         return RecordRead::Sorted(s);
     }
-    RecordRead::Refused(3)
+    RecordRead::Refused(BookRefusal::RecordLayout)
 }
 
-// The same, by a comparison with each record before it.
-fn read_record(book: &[u8], id: usize, sorts: &[u8]) -> RecordRead
-    requires { ⌜ SortsBelow id (now book) (now sorts) ⌝ }
-    ensures { λ r. ⌜ r ≡ recordRead (now (book .entry)) id ⌝ }
-{
-    let again = stands(book, id, record(book, id));
-    record_read(book, id, sorts, again)
-}
-
-// Reads a book by refusals 2 to 5, in document 01's order. The sort of each record that is read is left in a byte of
-// `sorts`; all other bytes are unchanged.
-pub fn read_book(book: &[u8], sorts: &mut [u8]) -> BookRead
-    requires { ⌜ 2048 ≤ length (now sorts) ⌝ }
-    ensures { λ r. ⌜ BookDone (now (book .entry)) (now (sorts .entry)) (now (sorts .exit)) r ⌝ }
+// Reads a book as `read_book` does, and leaves its index in the work area.
+fn read_records(book: &[u8], work: &mut [u8]) -> BookRead
+    requires { ⌜ (8192 ≤ length (now work)) × Unused (now work) ⌝ }
+    ensures { λ r. ⌜ BookLeft (now (book .entry)) (now (work .entry)) (now (work .exit)) r ⌝ }
 {
     if book.len() % 32 != 0 {
-        return BookRead::RefusedAt(2, 0);
+        return BookRead::RefusedAt(BookRefusal::BookSize, 0);
     }
     let n = book.len() / 32;
     if 2048 < n {
-        return BookRead::RefusedAt(2, 0);
+        return BookRead::RefusedAt(BookRefusal::BookSize, 0);
     }
     let mut i = 0;
     while i < n {
-        match read_record(book, i, sorts) {
+        match record_read(book, i, work) {
             RecordRead::Sorted(s) => {
-                sorts[i] = s;
+                work[i] = s;
+                enter(book, work, i);
             }
             RecordRead::Refused(c) => {
                 return BookRead::RefusedAt(c, i);
@@ -169,4 +179,15 @@ pub fn read_book(book: &[u8], sorts: &mut [u8]) -> BookRead
         i += 1;
     }
     BookRead::Records(n)
+}
+
+// Reads a book by refusals 2 to 5, in document 01's order. The sort of each record that is read is left in a byte of
+// `work`; all other bytes are unchanged, and those of the index are 0 before and after.
+pub fn read_book(book: &[u8], work: &mut [u8]) -> BookRead
+    requires { ⌜ (8192 ≤ length (now work)) × Unused (now work) ⌝ }
+    ensures { λ r. ⌜ BookDone (now (book .entry)) (now (work .entry)) (now (work .exit)) r ⌝ }
+{
+    let read = read_records(book, work);
+    clear(work);
+    read
 }

@@ -1,20 +1,17 @@
-// Reading a book with an index of its records, so that a record is compared with few of the earlier ones. The work area
-// holds the sorts in bytes 0 to 2047 and the index in bytes 2048 to 8191: 1024 chains of records, by a hash of their
-// bytes. A chain's first number lies in two bytes from 2048 on, the number after record m in two bytes from 4096 on; a
-// number k stands for record k - 1, and 0 ends a chain. Records enter at the front, so the numbers on a chain fall.
+// The index of a book's records while it is read, so that a record is compared with few of the earlier ones. The work
+// area holds the sorts in bytes 0 to 2047 and the index in bytes 2048 to 8191: 1024 chains of records, by a hash of
+// their bytes. A chain's first number lies in two bytes from 2048 on, the number after record m in two bytes from 4096
+// on; a number k stands for record k - 1, and 0 ends a chain. Records enter at the front, so the numbers on a chain fall.
 ghost use mathlib.Core.Path.{_≡_};
 ghost use Prim.Native.Nat.{_+_, _≤_, _<_};
 ghost use lib.ListN.{length};
-ghost use Rattle.terms.specs.Book.{recordOf, stands, BookDone};
-ghost use Rattle.terms.specs.RecordIndex.{chain, Indexed, Beside, Unused, BookLeft};
-use crate::book::BookRead;
-use crate::book::RecordRead;
+ghost use Rattle.terms.specs.Book.{recordOf, stands};
+ghost use Rattle.terms.specs.RecordIndex.{chain, Indexed, Beside, Unused};
 use crate::book::byte;
 use crate::book::record;
-use crate::book::record_read;
 use crate::book::same_bytes;
-use crate::bytes::read_u16;
-use crate::bytes::write_u16;
+use numbers::bytes::read_u16;
+use numbers::bytes::write_u16;
 
 // The chain of a record's bytes, by a hash of them.
 fn chain(r: &[u8]) -> usize
@@ -30,7 +27,7 @@ fn chain(r: &[u8]) -> usize
 }
 
 // Whether an earlier record has the bytes of record `id`.
-fn found(book: &[u8], work: &[u8], id: usize) -> bool
+pub(crate) fn found(book: &[u8], work: &[u8], id: usize) -> bool
     requires { ⌜ Indexed id (now book) (now work) ⌝ }
     ensures { λ x. ⌜ x ≡ stands id (now (book .entry)) (recordOf (now (book .entry)) id) ⌝ }
 {
@@ -46,7 +43,7 @@ fn found(book: &[u8], work: &[u8], id: usize) -> bool
 }
 
 // Enters record `id` at the front of its chain.
-fn enter(book: &[u8], work: &mut [u8], id: usize)
+pub(crate) fn enter(book: &[u8], work: &mut [u8], id: usize)
     requires { ⌜ Indexed id (now book) (now work) × (id < 2048) ⌝ }
     ensures { λ _. ⌜ Indexed (id + 1) (now (book .entry)) (now (work .exit))
         × Beside (now (work .exit)) (now (work .entry)) ⌝ }
@@ -58,7 +55,7 @@ fn enter(book: &[u8], work: &mut [u8], id: usize)
 }
 
 // Empties the index.
-fn clear(work: &mut [u8])
+pub(crate) fn clear(work: &mut [u8])
     requires { ⌜ 8192 ≤ length (now work) ⌝ }
     ensures { λ _. ⌜ Unused (now (work .exit)) × Beside (now (work .exit)) (now (work .entry)) ⌝ }
 {
@@ -67,44 +64,4 @@ fn clear(work: &mut [u8])
         work[k] = 0;
         k += 1;
     }
-}
-
-// Reads a book as `read_book` does, and leaves its index in the work area.
-fn read_records(book: &[u8], work: &mut [u8]) -> BookRead
-    requires { ⌜ (8192 ≤ length (now work)) × Unused (now work) ⌝ }
-    ensures { λ r. ⌜ BookLeft (now (book .entry)) (now (work .entry)) (now (work .exit)) r ⌝ }
-{
-    if book.len() % 32 != 0 {
-        return BookRead::RefusedAt(2, 0);
-    }
-    let n = book.len() / 32;
-    if 2048 < n {
-        return BookRead::RefusedAt(2, 0);
-    }
-    let mut i = 0;
-    while i < n {
-        let again = found(book, work, i);
-        match record_read(book, i, work, again) {
-            RecordRead::Sorted(s) => {
-                work[i] = s;
-                enter(book, work, i);
-            }
-            RecordRead::Refused(c) => {
-                return BookRead::RefusedAt(c, i);
-            }
-        }
-        i += 1;
-    }
-    BookRead::Records(n)
-}
-
-// Reads a book by refusals 2 to 5, in document 01's order. The sort of each record that is read is left in a byte of
-// `work`; all other bytes are unchanged, and those of the index are 0 before and after.
-pub fn read_book_indexed(book: &[u8], work: &mut [u8]) -> BookRead
-    requires { ⌜ (8192 ≤ length (now work)) × Unused (now work) ⌝ }
-    ensures { λ r. ⌜ BookDone (now (book .entry)) (now (work .entry)) (now (work .exit)) r ⌝ }
-{
-    let read = read_records(book, work);
-    clear(work);
-    read
 }

@@ -1,16 +1,16 @@
 // Refusal 3: the layout of a record. Unused bytes are 0.
 ghost use mathlib.Core.Path.{_≡_};
 ghost use lib.ListN.{take};
-ghost use Rattle.terms.specs.Rational.{frac};
-ghost use Rattle.terms.specs.Book.{allZero, unused, countOk, allBelow, numbers, isNumber, isWidth};
-ghost use Rattle.terms.specs.Book.{integerOk, realOk, vectorOk, isVector, atomOk, operationOk, layoutOk};
+ghost use Rattle.numbers.specs.Rational.{frac};
+ghost use Rattle.terms.specs.Book.{allZero, unused, countOk, allBelow, numbers, isNumber, isWidth, integerOk};
+ghost use Rattle.terms.specs.Book.{realOk, vectorOk, isVector, atomOk, operationOk, layoutOk};
 use crate::book::arg_bytes;
 use crate::book::byte;
-use crate::bytes::read_u16;
-use crate::bytes::read_u64;
-use crate::bytes::signed_u64;
-use crate::number::gcd;
-use crate::number::magnitude;
+use numbers::bytes::read_u16;
+use numbers::bytes::read_u64;
+use numbers::bytes::signed_u64;
+use numbers::number::gcd;
+use numbers::number::magnitude;
 
 const LIMIT: u64 = 2147483647;
 

@@ -1,8 +1,6 @@
-// Layer 1: numbers and terms.
+// Layer 1: books of terms, read; their sorts, meaning, and the readers of numbers.
 pub mod book;
-pub mod bytes;
 pub mod index;
 pub mod layout;
-pub mod number;
 pub mod sort;
 pub mod term;

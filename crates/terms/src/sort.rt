@@ -2,11 +2,12 @@
 // bit-vector of w bits.
 ghost use mathlib.Core.Path.{_≡_};
 ghost use Rattle.terms.specs.Book.{numbers};
-ghost use Rattle.terms.specs.Sorting.{argSorts, common, sortAt, takesBy, givesBy, sortRule, widthCode, atomCode, sorting};
+ghost use Rattle.terms.specs.Sorting.{argSorts, common, sortAt, takesBy, givesBy, sortRule, widthCode, atomCode};
+ghost use Rattle.terms.specs.Sorting.{sorting};
 use crate::book::arg_bytes;
 use crate::book::byte;
-use crate::bytes::read_u16;
-use crate::bytes::read_u64;
+use numbers::bytes::read_u16;
+use numbers::bytes::read_u64;
 
 // The sort of a record.
 pub enum Sorting {

@@ -4,18 +4,18 @@ ghost use Rattle.terms.specs.Term.{unary, binary};
 ghost use Rattle.terms.specs.Term.Terms.{nil};
 ghost use Rattle.terms.specs.Book.{node, tree};
 ghost use Rattle.terms.specs.Readers.{ranged, asNumber, negated, asSignedNumber, quotientOf, asUnsignedFraction};
-ghost use Rattle.terms.specs.Readers.{asFraction, asBitvector, operatorOf, removeNegation};
-ghost use Rattle.terms.specs.Readers.{Finds, FindsVector, ArgumentPart, Child, Children};
+ghost use Rattle.terms.specs.Readers.{asFraction, asBitvector, operatorOf, removeNegation, Finds, FindsVector};
+ghost use Rattle.terms.specs.Readers.{ArgumentPart, Child, Children};
 use crate::book::arg_bytes;
 use crate::book::argument;
 use crate::book::byte;
 use crate::book::record;
-use crate::bytes::read_u64;
-use crate::bytes::signed_u64;
 use crate::layout::is_number;
 use crate::layout::is_vector;
-use crate::number::Checked;
-use crate::number::Number;
+use numbers::bytes::read_u64;
+use numbers::bytes::signed_u64;
+use numbers::number::Checked;
+use numbers::number::Number;
 
 // What a reader finds in a term.
 pub enum Reading {

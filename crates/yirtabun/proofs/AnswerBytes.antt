@@ -8,11 +8,11 @@ use mathlib.Core.List.{[], _∷_, _++_}
 use Prim.Native.Nat.{ℕ, zero, suc, _-_, _≤_}
 use native.Mathlib.Omega.{arith}
 use lib.ListN.{length, getD, replicate, length-append, length-replicate}
-use Rattle.terms.specs.Bytes.{Bytes, put, putDigits, bytesOf}
-use Rattle.rules.proofs.CopiedBytes.{Copied, front-all}
-use Rattle.runs.specs.Elaborate.{area}
+use Rattle.numbers.specs.Bytes.{Bytes, put, putDigits, bytesOf}
+use Rattle.polynomial.proofs.CopiedBytes.{Copied, front-all}
+use Rattle.runs.specs.Lent.{area}
 use Rattle.runs.specs.declared.check.Marked.{Marked}
-use Rattle.runs.specs.declared.elaborate.Elaborated.{Elaborated}
+use Rattle.elaborate.specs.declared.elaborate.Elaborated.{Elaborated}
 use Rattle.yirtabun.specs.Answers.{numberBytes, shown}
 
 -- ---- a text with zeros behind it

@@ -4,12 +4,14 @@ use mathlib.Core.Path.{_≡_}
 use mathlib.Core.List.{List, [], _∷_, _++_}
 use Prim.Native.Nat.{ℕ}
 use lib.ListN.{length, take}
-use Rattle.terms.specs.Bytes.{Bytes, bytesOf}
+use Rattle.numbers.specs.Bytes.{Bytes, bytesOf}
+use Rattle.runs.specs.Verdict.{verdictNumber}
 use Rattle.runs.specs.Check.{Marking, check}
-use Rattle.runs.specs.Elaborate.{Answer, area, writtenPart}
-use Rattle.runs.specs.Demands.{Memory, zeros, answerTo}
-use Rattle.runs.specs.Lent.{elaboratedOf}
-use Rattle.runs.specs.EntryPoints.{ElaborateDone}
+use Rattle.elaborate.specs.Elaborate.{Answer, writtenPart}
+use Rattle.runs.specs.Lent.{area, zeros}
+use Rattle.elaborate.specs.Memory.{Memory, answerTo}
+use Rattle.elaborate.specs.OutMemory.{elaboratedOf}
+use Rattle.elaborate.specs.ElaborateEntry.{ElaborateDone}
 
 unfoldable pub numberBytes : List ℕ → Bytes
 numberBytes [] = []
@@ -21,17 +23,17 @@ shown n b = take n (area n b)
 
 -- verdict, accepted steps, visits
 abbrev pub markedNumbers : Marking → List ℕ
-markedNumbers m = m .verdict ∷ length (m .steps) ∷ m .visits ∷ []
+markedNumbers m = verdictNumber (m .verdict) ∷ length (m .steps) ∷ m .visits ∷ []
 
 -- and the bytes written to each out area
 abbrev pub elaboratedNumbers : Answer → List ℕ
-elaboratedNumbers a = a .verdict ∷ a .steps ∷ a .visits ∷ length (a .run) ∷ length (a .tail) ∷ []
+elaboratedNumbers a = verdictNumber (a .verdict) ∷ a .steps ∷ a .visits ∷ length (a .run) ∷ length (a .tail) ∷ []
 
 -- ---- what the exported functions promise
 
 pub record CheckShown
     (book run : Bytes) (limit : ℕ) (work answer book′ run′ work′ answer′ : Bytes) (r : ℕ) : Type 0 where
-  pub verdict : r ≡ check book run limit (length work) .verdict
+  pub verdict : r ≡ verdictNumber (check book run limit (length work) .verdict)
   pub numbers : answer′ ≡ shown (length answer) (numberBytes (markedNumbers (check book run limit (length work))))
   -- 'book and run unchanged'
   pub sameBook : book′ ≡ book
@@ -42,7 +44,7 @@ pub record CheckShown
 -- m is lent, m′ what lies there afterwards
 pub record ElaborateShown
     (m : Memory) (limit : ℕ) (answer : Bytes) (m′ : Memory) (answer′ : Bytes) (r : ℕ) : Type 0 where
-  pub verdict : r ≡ answerTo m limit .verdict
+  pub verdict : r ≡ verdictNumber (answerTo m limit .verdict)
   pub numbers : answer′ ≡ shown (length answer) (numberBytes (elaboratedNumbers (answerTo m limit)))
   -- the promise of `elaborate`: every lent byte, demand 1's known state, and demand 3
   pub done : ElaborateDone m limit m′ (elaboratedOf (answerTo m limit))

@@ -4,10 +4,10 @@ use mathlib.Core.Path.{sym, _∙_}
 use Prim.Native.Nat.{_-_, _/_}
 use borrow.Author.Needs.{needs}
 use lib.ListN.{length}
-use Rattle.rules.specs.LinearSteps.{AllNumbers}
-use Rattle.rules.proofs.FoldedAreas.{Given}
-use Rattle.rules.proofs.PartialFold.{part-length, part-few, part-less, part-fits, Rested, rest-inside, rest-numbers}
-use Rattle.rules.proofs.PartialFold.{part-more}
+use Rattle.linear_arithmetic.specs.LinearSteps.{AllNumbers}
+use Rattle.linear_arithmetic.proofs.FoldedAreas.{Given}
+use Rattle.linear_arithmetic.proofs.PartialFold.{part-length, part-few, rest-folds, part-less, part-fits, Rested}
+use Rattle.linear_arithmetic.proofs.PartialFold.{part-more}
 use Rattle.step_cases.proofs.Inferring.{InferredSoFar, inferred-begin, inferred-place, inferred-count}
 use Rattle.step_cases.proofs.Inferring.{inferred-again}
 use Rattle.step_cases.proofs.infers.Statement.{statement}
@@ -37,8 +37,7 @@ rest-requires-2 c κs = part-few (c .before .before .loop .inv .far)
 
 fold-literals-requires : tie.Need-fold-literals-requires Inv-loop μ-loop
 fold-literals-requires c κs =
-    let far = c .before .before .before .loop .inv .far in
-    ((far .folding, rest-inside far _ (c .before .rest .ensures)), rest-numbers far _ (c .rest2 .ensures))
+    rest-folds (c .before .before .before .loop .inv .far) (c .before .rest .ensures) (c .rest2 .ensures)
 
 -- one turn
 abbrev turn : tie.After-fold-literals Inv-loop μ-loop → tie.At-loop Inv-loop μ-loop

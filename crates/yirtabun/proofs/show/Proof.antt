@@ -1,11 +1,12 @@
--- The invariant is `Copied` of rules/proofs/CopiedBytes: the slice has the first k bytes of the text with zeros behind it.
+-- The invariant is `Copied` of polynomial/proofs/CopiedBytes: the slice has the first k bytes of the text with zeros
+-- behind it.
 use mathlib.Core.Path.{_∙_}
 use Prim.Native.Nat.{_-_}
 use native.Mathlib.Omega.{arith}
 use borrow.Author.Needs.{needs}
 use lib.ListN.{length}
-use Rattle.rules.proofs.CopiedBytes.{Copied, copied-none, front-more}
-use Rattle.runs.specs.Elaborate.{area}
+use Rattle.polynomial.proofs.CopiedBytes.{Copied, copied-none, front-more}
+use Rattle.runs.specs.Lent.{area}
 use Rattle.yirtabun.proofs.AnswerBytes.{padded-byte, padded-long, copied-shown}
 use Rattle.yirtabun.proofs.show.Statement.{statement}
 use Rattle.yirtabun.proofs.show.Tie as tie

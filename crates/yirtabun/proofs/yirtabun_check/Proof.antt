@@ -1,5 +1,5 @@
--- The marking is that of `check`. Its count of steps goes into 32 bits (`marked-fits` of AnswerBounds), so its numbers are
--- shown as they are.
+-- The marking is that of `check`. Its count of steps goes into 32 bits (`marked-fits` of AnswerBounds), so its numbers
+-- are shown as they are.
 use mathlib.Core.Path.{ap, _∙_}
 use borrow.Author.Needs.{needs}
 use Rattle.runs.specs.declared.check.Marked.{Marked}

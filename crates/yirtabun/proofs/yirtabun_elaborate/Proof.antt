@@ -1,9 +1,9 @@
--- The answer and the memory are those of `elaborate`. The numbers go into 32 bits (`elaborated-fits` of AnswerBounds), so
--- they are shown as they are.
+-- The answer and the memory are those of `elaborate`. The numbers go into 32 bits (`elaborated-fits` of AnswerBounds),
+-- so they are shown as they are.
 use mathlib.Core.Path.{ap, subst, _∙_}
 use borrow.Author.Needs.{needs}
-use Rattle.runs.specs.EntryPoints.{ElaborateDone}
-use Rattle.runs.specs.declared.elaborate.Elaborated.{Elaborated}
+use Rattle.elaborate.specs.ElaborateEntry.{ElaborateDone}
+use Rattle.elaborate.specs.declared.elaborate.Elaborated.{Elaborated}
 use Rattle.yirtabun.specs.Answers.{shown}
 use Rattle.yirtabun.proofs.AnswerBounds.{elaborated-fits}
 use Rattle.yirtabun.proofs.AnswerBytes.{ofElaborated}

@@ -5,7 +5,7 @@ use native.Mathlib.Omega.{arith}
 use borrow.Author.Needs.{needs}
 use lib.ListN.{length, take, drop, length-take, length-drop}
 use Rattle.io.proofs.Counting.{counts}
-use Rattle.terms.proofs.LittleEndian.{roomy}
+use Rattle.numbers.proofs.LittleEndian.{roomy}
 use Rattle.mark.proofs.files.temporary_name.Statement.{statement}
 use Rattle.mark.proofs.files.temporary_name.Tie as tie
 

@@ -1,12 +1,13 @@
 -- The loop's invariant is `Cleared` of EntryBytes; the measure is how many entries are left.
 use Prim.Native.Nat.{_-_}
 use borrow.Author.Needs.{needs}
-use Rattle.rules.proofs.EntryBytes.{Cleared, cleared-none, cleared-more, cleared-length, cleared-all}
+use Rattle.rules.specs.Entries.{sums}
+use Rattle.rules.proofs.EntryBytes.{Cleared, cleared-none, cleared-more, cleared-all}
 use Rattle.rules.proofs.index_map.clear.Statement.{statement}
 use Rattle.rules.proofs.index_map.clear.Tie as tie
 
 abbrev Inv-loop : tie.InvT-loop
-Inv-loop entries₀ n k₀ entries k = Cleared entries₀ n entries k
+Inv-loop entries₀ n k₀ entries k = Cleared sums entries₀ n entries k
 
 abbrev μ-loop : tie.MeasureT-loop
 μ-loop entries₀ n k₀ entries k = n - k
@@ -14,7 +15,8 @@ abbrev μ-loop : tie.MeasureT-loop
 loop-again : tie.Need-loop-again Inv-loop μ-loop
 loop-again c =
     let inside = c .before .before .before .before in
-    cleared-more _ (inside .before .loop .inv) (inside .loop-test .taken) (c .before .before .blank-entry .ensures)
+    cleared-more _ (inside .before .loop .inv) (inside .loop-test .taken) (search needs)
+    (c .before .before .blank-entry .ensures)
 
 pub clear-spec : {M : Type 1} → statement M
 clear-spec =
@@ -27,5 +29,5 @@ clear-spec =
     (λ c. search needs)
     (λ c. search needs)
     loop-again
-    (λ c. cleared-length (c .before .loop .inv))
+    (λ c. search needs)
     (λ c. cleared-all (c .before .loop .inv) (c .loop-test .left)))

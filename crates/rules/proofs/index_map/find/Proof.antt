@@ -4,12 +4,14 @@ use Prim.Native.Nat.{_-_}
 use borrow.Author.Needs.{needs}
 use borrow.Author.Tests.{eq-eqb, ne-eqb}
 use Rattle.rules.proofs.EntrySearch.{Searched, search-end, search-found, search-more}
-use Rattle.rules.proofs.KeySearch.{keys, has-key}
+use Rattle.rules.specs.Entries.{sums}
+use Rattle.rules.proofs.KeySearch.{keys}
+use Rattle.rules.proofs.NumberedKeys.{has-key}
 use Rattle.rules.proofs.index_map.find.Statement.{statement}
 use Rattle.rules.proofs.index_map.find.Tie as tie
 
 abbrev Inv-loop : tie.InvT-loop
-Inv-loop entries n key k₀ k = Searched (keys key) entries n k
+Inv-loop entries n key k₀ k = Searched (keys sums key) entries n k
 
 abbrev μ-loop : tie.MeasureT-loop
 μ-loop entries n key k₀ k = n - k

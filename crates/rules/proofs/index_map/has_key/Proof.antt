@@ -2,9 +2,11 @@
 use mathlib.Core.Path.{_∙_}
 use borrow.Author.Needs.{needs}
 use lib.ListN.{drop}
-use Rattle.terms.proofs.LittleEndian.{le-of-two}
+use Rattle.numbers.proofs.LittleEndian.{le-of-two}
 use Rattle.rules.proofs.EntrySearch.{one-entry}
-use Rattle.rules.proofs.KeySearch.{keys, has-key}
+use Rattle.rules.specs.Entries.{sums}
+use Rattle.rules.proofs.KeySearch.{keys}
+use Rattle.rules.proofs.NumberedKeys.{has-key}
 use Rattle.rules.proofs.index_map.has_key.Statement.{statement}
 use Rattle.rules.proofs.index_map.has_key.Tie as tie
 
@@ -15,7 +17,7 @@ returns c =
     let a = c .before .before .before .before .before .args in
     let w = a .entries .now in
     has-key w (a .at) (a .key) (le-of-two w (a .at) _ _ (search needs) first second)
-    ∙ one-entry (keys (a .key)) (drop (a .at) w)
+    ∙ one-entry (keys sums (a .key)) (drop (a .at) w)
 
 pub has-key-spec : {M : Type 1} → statement M
 has-key-spec =

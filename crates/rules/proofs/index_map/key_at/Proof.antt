@@ -1,7 +1,7 @@
 -- The bytes of the slice are below 256, so two of them make a number below 65536.
 use native.Mathlib.Omega.{arith}
 use borrow.Author.Needs.{needs}
-use Rattle.terms.proofs.LittleEndian.{le-below}
+use Rattle.numbers.proofs.LittleEndian.{le-below}
 use Rattle.rules.proofs.index_map.key_at.Statement.{statement}
 use Rattle.rules.proofs.index_map.key_at.Tie as tie
 

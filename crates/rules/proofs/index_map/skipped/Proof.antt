@@ -2,13 +2,14 @@
 -- eight fewer. Where the loop stops is of no account: the invariant is what is promised.
 use Prim.Native.Nat.{_-_}
 use borrow.Author.Needs.{needs}
+use Rattle.rules.specs.Entries.{sums}
 use Rattle.rules.proofs.EntrySearch.{Searched, search-none, search-past}
 use Rattle.rules.proofs.KeySearch.{keys}
 use Rattle.rules.proofs.index_map.skipped.Statement.{statement}
 use Rattle.rules.proofs.index_map.skipped.Tie as tie
 
 abbrev Inv-loop : tie.InvT-loop
-Inv-loop entries n key k₀ k = Searched (keys key) entries n k
+Inv-loop entries n key k₀ k = Searched (keys sums key) entries n k
 
 abbrev μ-loop : tie.MeasureT-loop
 μ-loop entries n key k₀ k = n - k
@@ -16,7 +17,7 @@ abbrev μ-loop : tie.MeasureT-loop
 returns : tie.Need-returns Inv-loop μ-loop
 returns c =
     let a = c .before .before .args in
-    let s = search-none (keys (a .key)) (a .entries .now) (a .n) in
+    let s = search-none (keys sums (a .key)) (a .entries .now) (a .n) in
     (s .most, s .left)
 
 returns-2 : tie.Need-returns-2 Inv-loop μ-loop

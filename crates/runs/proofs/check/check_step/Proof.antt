@@ -1,9 +1,8 @@
 -- The step by its rule: the arms of the match are those of the definition.
 use borrow.Author.Needs.{needs}
 use Rattle.runs.proofs.CheckedSteps.{judged-assume, judged-rw-eq, judged-disequality, judged-totality}
-use Rattle.runs.proofs.CheckedSteps.{judged-tautology, judged-generic, judged-farkas, judged-simp}
+use Rattle.runs.proofs.CheckedSteps.{judged-tautology, judged-generic, judged-farkas, judged-simp, rule-eight}
 use Rattle.runs.proofs.Standing.{stands-literals}
-use Rattle.runs.proofs.CheckedSteps.{rule-eight}
 use Rattle.runs.proofs.check.check_step.Statement.{statement}
 use Rattle.runs.proofs.check.check_step.Tie as tie
 

@@ -1,4 +1,4 @@
--- The invariant is `ClearedTo` of EntryPoints: zeros from byte n to byte k. The measure is how many bytes are left.
+-- The invariant is `ClearedTo` of ClearedAreas: zeros from byte n to byte k. The measure is how many bytes are left.
 use Prim.Native.Nat.{_-_}
 use native.Mathlib.Omega.{arith}
 use lib.ListN.{length}

@@ -1,7 +1,7 @@
 -- Each return is a lemma of EntryPoints: refusal 1 by the tests, the book's refusal, or the run's code.
 use borrow.Author.Needs.{needs}
-use Rattle.runs.proofs.EntryPoints.{lent-short, lent-none, lent-much, lent-right}
-use Rattle.runs.proofs.EntryPoints.{opens-unfit, opens-ready, opens-run, opens-refused}
+use Rattle.runs.proofs.EntryPoints.{lent-short, lent-none, lent-much, lent-right, opens-unfit, opens-ready}
+use Rattle.runs.proofs.EntryPoints.{opens-run, opens-refused}
 use Rattle.runs.proofs.check.open.Statement.{statement}
 use Rattle.runs.proofs.check.open.Tie as tie
 
@@ -33,11 +33,11 @@ returns-4 c =
 
 returns-5 : tie.Need-returns-5
 returns-5 c =
-    let read = c .before .before .before .before .before in
+    let read = c .before .before .before .before .before .before in
     let fit = read .before .before in
     let size = fit .before .before .if1 .left in
     opens-refused _ _ _ _ (lent-right _ _ size (fit .before .if2 .left) (fit .if3 .left)) (read .prepare .ensures)
-    (c .before .c .given .1)
+    (c .before .before .c .given .1) (c .book-number .ensures)
 
 pub open-spec : {M : Type 1} → statement M
 open-spec =
@@ -49,6 +49,7 @@ open-spec =
     (λ c κs. search needs)
     (λ c. search needs)
     read-run-requires
+    (λ c. search needs)
     (λ c. search needs)
     (λ c. search needs)
     returns-4

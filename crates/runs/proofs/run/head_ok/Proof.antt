@@ -7,6 +7,7 @@ use lib.Dec.{eqb, leb}
 use Rattle.terms.proofs.Layouts.{passed, stopped}
 use Rattle.runs.specs.Run.{S}
 use Rattle.runs.specs.StepParts.{headIn}
+use Rattle.runs.proofs.StepRules.{head-tests}
 use Rattle.runs.proofs.run.head_ok.Statement.{statement}
 use Rattle.runs.proofs.run.head_ok.Tie as tie
 
@@ -25,17 +26,20 @@ unfolding headIn
 returns c =
     let second = c .before .before in
     let first = second .before .before in
-    passed (mark first) (eq-eqb _ _ (second .before .if1 .taken))
-    (passed (rule second) (le-leb _ _ (c .before .if2 .taken)) (ap (λ (x : ℕ). eqb x 0) (c .read-u16 .ensures)))
+    head-tests _
+    (passed (mark first) (eq-eqb _ _ (second .before .if1 .taken))
+    (passed (rule second) (le-leb _ _ (c .before .if2 .taken)) (ap (λ (x : ℕ). eqb x 0) (c .read-u16 .ensures))))
 
 returns-2 : tie.Need-returns-2
 returns-2 c =
     let second = c .before in
     let first = second .before .before in
-    passed (mark first) (eq-eqb _ _ (second .before .if1 .taken)) (stopped _ (rule second) (lt-leb _ _ (c .if2 .left)))
+    head-tests _
+    (passed (mark first) (eq-eqb _ _ (second .before .if1 .taken))
+    (stopped _ (rule second) (lt-leb _ _ (c .if2 .left))))
 
 returns-3 : tie.Need-returns-3
-returns-3 c = stopped _ (mark (c .before)) (ne-eqb _ _ (c .if1 .left))
+returns-3 c = head-tests _ (stopped _ (mark (c .before)) (ne-eqb _ _ (c .if1 .left)))
 
 pub head-ok-spec : {M : Type 1} → statement M
 head-ok-spec =

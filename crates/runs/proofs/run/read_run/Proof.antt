@@ -15,7 +15,8 @@ abbrev μ-loop : tie.MeasureT-loop
 
 add-at : tie.Need-add-at Inv-loop μ-loop
 add-at c =
-    let fits = read-fits _ _ (c .before .before .before .before .before .loop .inv) (search needs) _ (c .bytes .ensures) in
+    let at-loop = c .before .before .before .before .before in
+    let fits = read-fits _ _ (at-loop .loop .inv) (search needs) _ (c .bytes .ensures) in
     search needs
 
 loop-less : tie.Need-loop-less Inv-loop μ-loop

@@ -16,8 +16,8 @@ returns c =
     step-tests _ _ _
     (passed (head .head-ok .ensures) (parts .before .if1 .taken)
     (passed (parts .parts-ok .ensures) (then .if2 .taken)
-    (shape-is _ _ _ _ _ _ (byte .byte .ensures) (premises .premises .ensures) (clause .clause .ensures)
-    (c .before .args2 .ensures) (c .shape-ok .ensures))))
+    (shape-is _ (head .head-ok .ensures) (parts .before .if1 .taken) (byte .byte .ensures) (premises .premises .ensures)
+    (clause .clause .ensures) (c .before .args2 .ensures) _ (c .shape-ok .ensures))))
 
 returns-2 : tie.Need-returns-2
 returns-2 c =

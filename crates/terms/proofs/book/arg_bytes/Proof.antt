@@ -5,7 +5,7 @@ use mathlib.Core.Logic.{⊎-elim}
 use Prim.Native.Nat.{ℕ, _+_, _*_, _-_, min}
 use borrow.Author.Needs.{needs}
 use lib.ListN.{length, take, drop}
-use Rattle.terms.specs.Bytes.{Bytes}
+use Rattle.numbers.specs.Bytes.{Bytes}
 use Rattle.terms.specs.Book.{argBytes}
 use Rattle.terms.proofs.Records.{argBytes-of, no-operation, no-arguments}
 use Rattle.terms.proofs.book.arg_bytes.Statement.{statement}

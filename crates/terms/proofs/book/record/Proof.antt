@@ -4,7 +4,7 @@ use Prim.Native.Nat.{ℕ, _+_, _*_, _-_, _<_}
 use native.Mathlib.Omega.{arith}
 use borrow.Author.Needs.{needs}
 use lib.ListN.{take, drop}
-use Rattle.terms.specs.Bytes.{Bytes}
+use Rattle.numbers.specs.Bytes.{Bytes}
 use Rattle.terms.specs.Book.{count, recordOf}
 use Rattle.terms.proofs.Trees.{recordOf-inside, recordOf-outside}
 use Rattle.terms.proofs.book.record.Statement.{statement}

@@ -1,17 +1,22 @@
--- The layout is tested first, then the sorts, then whether the record stands twice, as in the definition (`BookReading`).
-use mathlib.Core.Path.{_≡_, refl}
+-- The layout is tested first, then the sorts, then whether the record stands twice, as in the definition
+-- (`BookReading`).
+use mathlib.Core.Path.{_≡_}
 use mathlib.Core.Bool.{Bool, true, false, cond}
 use Prim.Native.Nat.{ℕ}
 use borrow.Author.Needs.{needs}
 use Rattle.terms.specs.Book.{recordRead}
+use Rattle.terms.specs.declared.book.BookRefusal.the-variants.{RecordRepeated}
 use Rattle.terms.specs.declared.book.RecordRead.the-variants.{Sorted, Refused}
 use Rattle.terms.specs.declared.sort.Sorting.the-variants.{Of}
 use Rattle.terms.proofs.BookReading.{Judged, judged, refused-layout, refused-sort, sorted-once}
 use Rattle.terms.proofs.book.record_read.Statement.{statement}
 use Rattle.terms.proofs.book.record_read.Tie as tie
 
+abbrev searched : tie.After-sort-of → tie.After-found
+searched c = c .before .before .before .before
+
 abbrev start : tie.After-sort-of → tie.Start
-start c = c .before .before .before .before .before .before
+start c = searched c .before .before .before
 
 judge : (c : tie.After-sort-of) → Judged (start c .args .book .now) (start c .args .id) (c .sort-of .result)
 judge c =
@@ -20,9 +25,9 @@ judge c =
     _ (start c .pre .0) (c .before .if1 .taken) _ (c .sort-of .ensures)
 
 stood :
-    (c : tie.After-sort-of) (n : ℕ) → c .sort-of .result ≡ Of n → (t : Bool) → start c .args .again ≡ t →
-    cond t (Refused 5) (Sorted n) ≡ recordRead (start c .args .book .now) (start c .args .id)
-stood c n is t h = sorted-once _ _ _ (judge c) n is _ refl _ (start c .pre .1) t h
+    (c : tie.After-sort-of) (n : ℕ) → c .sort-of .result ≡ Of n → (t : Bool) → searched c .found .result ≡ t →
+    cond t (Refused RecordRepeated) (Sorted n) ≡ recordRead (start c .args .book .now) (start c .args .id)
+stood c n is t h = sorted-once _ _ _ (judge c) n is _ (searched c .found .ensures) t h
 
 returns : tie.Need-returns
 returns c = refused-sort _ _ _ (judge (c .before .before)) (c .enum-told .given .1)
@@ -41,6 +46,7 @@ pub record-read-spec : {M : Type 1} → statement M
 record-read-spec =
     tie.close
     (tie.spec
+    (λ c κs. search needs)
     (λ c κs. search needs)
     (λ c κs. search needs)
     (λ c κs. search needs)

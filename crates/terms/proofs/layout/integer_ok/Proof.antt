@@ -2,7 +2,7 @@
 use mathlib.Core.Path.{_≡_, ap, _∙_}
 use lib.IntN.{ℤ}
 use borrow.Author.Needs.{needs}
-use Rattle.terms.specs.Rational.{whole}
+use Rattle.numbers.specs.Rational.{whole}
 use Rattle.terms.specs.Book.{isNumber, integerOf}
 use Rattle.terms.proofs.Layouts.{tests, signed-field}
 use Rattle.terms.proofs.layout.integer_ok.Statement.{statement}

@@ -5,9 +5,9 @@ use lib.IntN.{natAbs, pos}
 use lib.Signed.{ltZ}
 use mir.Facts.{toZ-ofZ}
 use borrow.Author.Needs.{needs}
-use Rattle.terms.specs.Rational.{Rational, frac}
+use Rattle.numbers.specs.Rational.{Rational, frac}
 use Rattle.terms.proofs.Layouts.{passed, stopped, size-is}
-use Rattle.terms.proofs.Ranges.{inRange-of-sizes, large-num, large-den}
+use Rattle.numbers.proofs.Ranges.{inRange-of-sizes, large-num, large-den}
 use Rattle.terms.proofs.layout.is_number.Statement.{statement}
 use Rattle.terms.proofs.layout.is_number.Tie as tie
 

@@ -1,6 +1,6 @@
 -- Each arm of the match is a kind of `layoutOk`.
 use borrow.Author.Needs.{needs}
-use Rattle.terms.specs.Term.{if_then_else_}
+use Rattle.numbers.specs.Choice.{if_then_else_}
 use Rattle.terms.proofs.Layouts.{layout-of-kind, layout-of-none}
 use Rattle.terms.proofs.layout.layout_ok.Statement.{statement}
 use Rattle.terms.proofs.layout.layout_ok.Tie as tie

@@ -7,10 +7,9 @@ use native.Mathlib.Omega.{arith}
 use borrow.Author.Needs.{needs}
 use borrow.Author.Tests.{le-leb, lt-leb, eq-eqb, ne-eqb}
 use lib.Dec.{leb}
-use Rattle.terms.specs.Bytes.{Bytes}
+use Rattle.numbers.specs.Bytes.{Bytes}
 use Rattle.terms.specs.Book.{allBelow, numbers, sortByte, operationOk}
-use Rattle.terms.proofs.Layouts.{passed, stopped, count-bounded}
-use Rattle.terms.proofs.Layouts.{operationLast, operationRest, operation-read}
+use Rattle.terms.proofs.Layouts.{passed, stopped, count-bounded, operationLast, operationRest, operation-read}
 use Rattle.terms.proofs.layout.operation_ok.Statement.{statement}
 use Rattle.terms.proofs.layout.operation_ok.Tie as tie
 

@@ -5,11 +5,11 @@ use Prim.Native.Nat.{ℕ}
 use lib.Dec.{eqb}
 use lib.IntN.{ℤ, natAbs}
 use borrow.Author.Needs.{needs}
-use Rattle.terms.specs.Rational.{Rational, frac, gcd}
-use Rattle.terms.specs.Bytes.{signed}
+use Rattle.numbers.specs.Rational.{Rational, frac, gcd}
+use Rattle.numbers.specs.Bytes.{signed}
 use Rattle.terms.specs.Book.{isNumber, realOf, field1, field2}
 use Rattle.terms.proofs.Layouts.{tests, signed-field}
-use Rattle.terms.proofs.Machine.{R}
+use Rattle.numbers.proofs.Machine.{R}
 use Rattle.terms.proofs.layout.real_ok.Statement.{statement}
 use Rattle.terms.proofs.layout.real_ok.Tie as tie
 

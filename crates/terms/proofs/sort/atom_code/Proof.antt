@@ -1,7 +1,7 @@
 -- The arms of the `match` are the tests of the definition, made of the same byte.
 use borrow.Author.Needs.{needs}
 use borrow.Author.Tests.{ne-eqb}
-use Rattle.terms.specs.Term.{if_then_else_}
+use Rattle.numbers.specs.Choice.{if_then_else_}
 use Rattle.terms.proofs.sort.atom_code.Statement.{statement}
 use Rattle.terms.proofs.sort.atom_code.Tie as tie
 

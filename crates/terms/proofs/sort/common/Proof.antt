@@ -4,7 +4,9 @@ use mathlib.Core.Path.{refl, _∙_}
 use mathlib.Core.Logic.{⊎-elim}
 use Prim.Native.Nat.{_-_}
 use borrow.Author.Needs.{needs}
-use Rattle.terms.proofs.SortCodes.{sortsOf, Passed, passed-none, passed-more, passed-all, first-read, first-missing, sort-read, length-sortsOf, equal-kept, equal-dropped, numeric-kept, numeric-dropped}
+use Rattle.terms.proofs.SortCodes.{sortsOf, Passed, passed-none, passed-more, passed-all, first-read}
+use Rattle.terms.proofs.SortCodes.{first-missing, sort-read, length-sortsOf, equal-kept, equal-dropped}
+use Rattle.terms.proofs.SortCodes.{numeric-kept, numeric-dropped}
 use Rattle.terms.proofs.sort.common.Statement.{statement}
 use Rattle.terms.proofs.sort.common.Tie as tie
 

@@ -1,5 +1,5 @@
 -- Each arm of the `match` is a case of the rule (`SortCodes`).
-use Rattle.terms.specs.Term.{if_then_else_}
+use Rattle.numbers.specs.Choice.{if_then_else_}
 use Rattle.terms.proofs.SortCodes.{gives-truth, gives-number, gives-integer, gives-real, gives-first}
 use Rattle.terms.proofs.sort.gives.Statement.{statement}
 use Rattle.terms.proofs.sort.gives.Tie as tie

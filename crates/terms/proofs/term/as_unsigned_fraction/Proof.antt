@@ -4,10 +4,9 @@ use mathlib.Core.Path.{_≡_, sym, _∙_}
 use mathlib.Core.Bool.{false}
 use borrow.Author.Needs.{needs}
 use denote.Ref.{now}
-use Rattle.terms.specs.Rational.{Rational, isZero}
+use Rattle.numbers.specs.Rational.{Rational, isZero}
 use Rattle.terms.proofs.Findings.{OverReading, OverNumber, fraction-itself, over-reading, over-number}
-use Rattle.terms.proofs.Findings.{no-divisor, zero-divisor, no-dividend, quotient-outside}
-use Rattle.terms.proofs.Findings.{quotient-found}
+use Rattle.terms.proofs.Findings.{no-divisor, zero-divisor, no-dividend, quotient-outside, quotient-found}
 use Rattle.terms.proofs.term.as_unsigned_fraction.Statement.{statement}
 use Rattle.terms.proofs.term.as_unsigned_fraction.Tie as tie
 

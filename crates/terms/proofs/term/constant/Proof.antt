@@ -9,10 +9,10 @@ use denote.Ref.{now}
 use mir.Facts.{toZ-ofZ}
 use mir.Syntax.{w64}
 use mir.Val.{SFits, toZ}
-use Rattle.terms.specs.Bytes.{Bytes, le, signed}
+use Rattle.numbers.specs.Bytes.{Bytes, le, signed}
 use Rattle.terms.specs.Term.Terms.{nil}
 use Rattle.terms.specs.Book.{field1}
-use Rattle.terms.proofs.Machine.{R}
+use Rattle.numbers.proofs.Machine.{R}
 use Rattle.terms.proofs.RecordReadings.{denominator, denominator-integer, denominator-rational}
 use Rattle.terms.proofs.RecordReadings.{denominator-other, node-is, no-number-of}
 use Rattle.terms.proofs.Findings.{finds, constant-found, no-constant}

@@ -1,0 +1,2 @@
+pub mod JoinedBook
+pub mod SecondAnswers

@@ -1,0 +1,4 @@
+pub mod Alethe
+pub mod AletheTerms
+pub mod AletheDifferences
+pub mod AletheExamples

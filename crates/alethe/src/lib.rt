@@ -1,0 +1,1 @@
+// The rules as the Alethe specification gives them.

@@ -1,0 +1,2 @@
+pub mod Disequality
+pub mod DisequalitySteps

@@ -1,0 +1,108 @@
+-- The areas after the last step: what lies behind the elaboration is cleared, and the written part is shown.
+use mathlib.Core.Path.{_≡_, refl, sym, ap, _∙_, subst}
+use mathlib.Core.Bool.{true, false}
+use mathlib.Core.List.{[]}
+use Prim.Native.Nat.{ℕ, _-_, _%_, _≤_, _<_}
+use native.Mathlib.Nat.{sub-zero}
+use borrow.Author.Tests.{eq-eqb, ne-eqb, le-leb, lt-leb}
+use lib.ListN.{length, take}
+use Rattle.numbers.specs.Bytes.{Bytes}
+use Rattle.runs.specs.Check.{Marking, check}
+use Rattle.elaborate.specs.Elaborate.{Written, written, tailBytes, addSteps, elaborated, writtenPart}
+use Rattle.runs.specs.Lent.{area, stateOf, zeroedFrom, openCode}
+use Rattle.runs.specs.declared.check.State as by-value
+use Rattle.runs.proofs.CheckLoops.{endedAs, first}
+use Rattle.elaborate.specs.OutAreas.{Stored, Holds}
+use Rattle.elaborate.specs.OutMemory.{Elaborates, Closes}
+use Rattle.elaborate.specs.declared.farkas.Out.{Out}
+use Rattle.elaborate.specs.declared.elaborate.Elaborating.{Elaborating}
+use Rattle.elaborate.proofs.Memory.{tailBytes-length}
+use Rattle.elaborate.proofs.Unrefused.{answer-by}
+use Rattle.elaborate.proofs.OutAreas.{holds-none, holds-stored, holds-unfit}
+use Rattle.runs.proofs.EntryPoints.{stepsMarked, refused-is, opened-marked}
+
+-- ---- after the last step
+
+-- what is to be written of a marking
+abbrev writes : Bytes → Marking → Written
+writes b m = addSteps b (written [] []) (m .steps)
+
+-- what stays in front of the zeros
+zeroed-area : (n : ℕ) (o : Bytes) {x : Bytes} → take n o ≡ x → n ≡ length x → zeroedFrom n o ≡ area (length o) x
+unfolding zeroedFrom area
+zeroed-area n o e size = rw (e, size)
+
+-- what is written of the tail has as many bytes as are counted
+tail-size : {b o t : Bytes} {out : Out} {w : Written} → Stored b o t out w → out .tail ≡ length (tailBytes (w .tail))
+tail-size {w = w} s = s .tailSize ∙ sym (tailBytes-length (w .tail))
+
+module _ {b o t : Bytes} {e : Elaborating} {m : Marking} (h : Elaborates b o t e m) where
+  pub closes-full :
+      {o′ t′ : Bytes} → e .out .full ≡ true → o′ ≡ zeroedFrom 0 o → t′ ≡ zeroedFrom 0 t →
+      Closes (record { verdict = 8; steps = e .state .steps; visits = e .state .counter .visits; run = 0; tail = 0 })
+      o t o′ t′ (elaborated b (length o) (length t) m)
+  closes-full full left left-tail =
+      rw (answer-by b _ _ m (holds-unfit b o t (e .out) (writes b m) full (h .holds))) (record {
+        answered = rw (h .steps, h .visits);
+        run = left ∙ zeroed-area 0 _ refl refl;
+        tail = left-tail ∙ zeroed-area 0 _ refl refl;
+      })
+
+  pub closes-whole :
+      {o′ t′ : Bytes} → e .out .full ≡ false → o′ ≡ zeroedFrom (e .out .run) o → t′ ≡ zeroedFrom (e .out .tail) t →
+      Closes
+      (record {
+        verdict = e .state .verdict;
+        steps = e .state .steps;
+        visits = e .state .counter .visits;
+        run = e .out .run;
+        tail = e .out .tail;
+      })
+      o t o′ t′ (elaborated b (length o) (length t) m)
+  closes-whole whole left left-tail =
+      let s = holds-stored b o t (e .out) (writes b m) whole (h .holds) in
+      let size = tail-size s in
+      rw (answer-by b _ _ m (s .room)) (record {
+        answered = rw (h .verdict, h .steps, h .visits, s .runSize, size);
+        run = left ∙ zeroed-area _ _ (s .run) (s .runSize);
+        tail = left-tail ∙ zeroed-area _ _ (s .tail) size;
+      })
+
+-- ---- the written part of the out run
+
+module _ (out : Bytes) (n : ℕ) where
+  pub part-whole : n ≤ length out → n % 4 ≡ 0 → take (n - 0) out ≡ writtenPart out n
+  unfolding writtenPart
+  part-whole h e = rw (le-leb n (length out) h, eq-eqb (n % 4) 0 e, sub-zero n, writtenPart)
+
+  pub part-long : length out < n → [] ≡ writtenPart out n
+  unfolding writtenPart
+  part-long h = rw (lt-leb n (length out) h, writtenPart)
+
+  pub part-broken : n ≤ length out → (n % 4 ≡ 0 → ⊥) → [] ≡ writtenPart out n
+  unfolding writtenPart
+  part-broken h e = rw (le-leb n (length out) h, ne-eqb (n % 4) 0 e, writtenPart)
+
+-- ---- the elaboration, by what `open` answered
+
+module _ (b run : Bytes) (limit n : ℕ) {r : ℕ} (code : r ≡ openCode b run limit n) where
+  pub refused-elaborating :
+      {o t : Bytes} → (r ≡ 0 → ⊥) → {s s′ : by-value.State} → ((x : Bytes) → s ≡ stateOf x limit (first limit)) →
+      s′ ≡ endedAs s r → {out : Out} → out ≡ record { run = 0; tail = 0; full = false } →
+      Elaborates b o t (record { state = s′; out = out }) (check b run limit n)
+  unfolding addSteps
+  refused-elaborating {o} {t} h starts ends {out} none =
+      let refused = refused-is b run limit n code h in
+      let is = ends ∙ ap (λ x. endedAs x r) (starts run) in
+      subst (Elaborates b o t _) (sym (refused .is))
+      record {
+        verdict = ap (λ x. x .verdict) is ∙ refused .code;
+        steps = ap (λ x. x .steps) is;
+        visits = ap (λ x. x .counter .visits) is;
+        holds = subst (λ x. Holds b o t x (written [] [])) (sym none) (holds-none b o t);
+      }
+
+  pub opened-elaborating :
+      {o t : Bytes} {e : Elaborating} → r ≡ 0 → Elaborates b o t e (stepsMarked b run limit n) →
+      Elaborates b o t e (check b run limit n)
+  opened-elaborating {o} {t} {e} z h = subst (Elaborates b o t e) (sym (opened-marked b run limit n code z)) h

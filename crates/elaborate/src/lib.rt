@@ -1,0 +1,3 @@
+// Layer 3: the elaboration of a run, and the three demands.
+pub mod elaborate;
+pub mod farkas;

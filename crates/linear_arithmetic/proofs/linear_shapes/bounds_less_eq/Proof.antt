@@ -1,0 +1,22 @@
+-- The terms are compared first.
+use borrow.Author.Needs.{needs}
+use Rattle.linear_arithmetic.specs.LinearArithmetic.{assertLessEq}
+use Rattle.rules.proofs.ShapeSteps.{other-terms, one-term}
+use Rattle.linear_arithmetic.proofs.linear_shapes.bounds_less_eq.Statement.{statement}
+use Rattle.linear_arithmetic.proofs.linear_shapes.bounds_less_eq.Tie as tie
+
+returns : tie.Need-returns
+returns c = other-terms assertLessEq _ _ _ _ (c .before .assert-eq .ensures _) (search needs)
+
+returns-2 : tie.Need-returns-2
+returns-2 c =
+    one-term assertLessEq _ _ _ _ (c .before .before .assert-eq .ensures _) (search needs) (c .assert-less-eq .ensures)
+
+pub bounds-less-eq-spec : {M : Type 1} → statement M
+bounds-less-eq-spec =
+    tie.close
+    (tie.spec
+    (λ c κs. search needs)
+    returns
+    (λ c κs. search needs)
+    returns-2)

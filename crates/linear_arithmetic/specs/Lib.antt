@@ -1,0 +1,2 @@
+pub mod LinearArithmetic
+pub mod LinearSteps

@@ -1,0 +1,17 @@
+-- numbers, entries and maps in bytes
+pub mod NotedAtoms
+-- the areas of the work area
+pub mod Areas
+pub mod EntryPlaces
+pub mod EntryLoops
+pub mod AreaSteps
+-- combinations and products in memory
+pub mod CombinationLoops
+pub mod ScaledCombinations
+pub mod CoefficientDivisors
+-- walks of terms in memory
+pub mod NodeAnswers
+pub mod NodeWalks
+pub mod Places
+pub mod WalkSteps
+pub mod ArgWalks

@@ -1,0 +1,232 @@
+-- The steps of a walk. Each starts from the sum that an area's bytes hold: the area is emptied before a refusal, a
+-- number is added to the constant, a term is added as an atom; and a term is walked by the place that it leads to.
+--     cleared, done, done-kept, done-is       a refusal; a step without one leaves the sum in the bytes
+--     filled-at, filled-noted, filled-walks       the same where all atoms are noted
+--     constant-out, constant-added, entry-out, entry-added       the leaves
+--     sum-small, constant-pre, insert-pre, entry-pre, args-lower, args-pre       what the steps at a place ask
+--     atom-inside, atom-small, atom-new       an atom, and one that is not noted
+--     at-refusal, at-constant, at-known, at-note, at-args       the walk of a term is what is done at its place
+use mathlib.Core.Path.{_≡_, refl, sym, _∙_}
+use mathlib.Core.Bool.{true, false}
+use mathlib.Core.List.{List, []}
+use Prim.Native.Nat.{ℕ, _≤_, _<_}
+use native.Mathlib.Omega.{arith}
+use lib.ListN.{length}
+use Rattle.numbers.specs.Rational.{Rational, Proper, Gives, addQ, checked}
+use Rattle.numbers.specs.Bytes.{Bytes}
+use Rattle.terms.specs.Term.{Term}
+use Rattle.terms.specs.Book.{count, tree, forest, numbers, arguments}
+use Rattle.terms.specs.Readers.{argumentsOf}
+use Rattle.numbers.specs.declared.number.Checked.{Checked}
+use Rattle.numbers.specs.declared.number.Checked.the-variants as checked
+use Rattle.rules.specs.Refusal.{Result, _>>=_}
+use Rattle.rules.specs.Refusal.Outcome.{ok, refused}
+use Rattle.rules.specs.Refusal.Refusal.{numberRange}
+use Rattle.rules.specs.Limits.{limited, plus}
+use Rattle.rules.specs.IndexMap.{Walked, walked, insert, addEntry, addConstant}
+use Rattle.linear_comb.specs.LinearComb.{addTerm}
+use Rattle.rules.specs.Entries.{terms, entriesOf, blanked, absent, Inserts}
+use Rattle.linear_comb.specs.WorkArea.{Sum, combOf, KeptSum, Walks}
+use Rattle.rules.specs.Parts.{Refuses}
+use Rattle.linear_comb.specs.LinearNodes.{WalkPre, ArgsPre, PlaceIs, isNoted, withNote, Noted, Fills, addEach}
+use Rattle.rules.specs.declared.index_map.Inserted.{Inserted}
+use Rattle.rules.specs.declared.index_map.Inserted.the-variants as inserted
+use Rattle.linear_comb.specs.declared.linear_comb.Walk.{Walk}
+use Rattle.linear_comb.specs.declared.linear_comb.Walk.the-variants.{Done, Refused}
+use Rattle.linear_comb.specs.declared.linear_comb.Place.{Place}
+use Rattle.linear_comb.specs.declared.linear_comb.Place.the-variants as place
+use Rattle.rules.proofs.Results.{refuses}
+use Rattle.rules.proofs.CheckedNumbers.{plus-value, plus-out}
+use Rattle.rules.proofs.StoredEntries.{held-entries, kept-entries, kept-small}
+use Rattle.rules.proofs.Yields.{Yields, at-ok}
+use Rattle.linear_comb.proofs.NotedAtoms.{NotedSum, note-here, noted-keeps, noted-long, noted-absent}
+use Rattle.linear_comb.proofs.NotedAtoms.{constant-noted, entry-noted}
+use Rattle.linear_comb.proofs.AreaSteps.{kept-cleared, sum-entries, answer-has, answer-kept}
+use Rattle.rules.proofs.ArgumentsBelow.{args-below}
+
+-- ---- the answers
+
+module _ {b w : Bytes} {s : Sum} (kept : KeptSum b w s) where
+  cleared :
+      {w′ : Bytes} → w′ ≡ blanked (s .len) w → {c : ℕ} {d : Result (Walked Term)} → Refuses c d →
+      Walks b w′ (Refused c) d
+  cleared e r = record { map = []; held = kept-cleared (kept .kept) e; is = (r, refl) }
+
+  pub done : {v : ℕ} (d : Result (Walked Term)) → d ≡ ok (walked (combOf b w s) v) → Walks b w (Done s v) d
+  done d is =
+      let k = kept .kept in
+      record { map = k .map; held = k .held; is = (rw (kept-entries k) at is, (k .size, kept .proper)) }
+
+module _ {b w : Bytes} {s : Sum} {v : ℕ} {d : Result (Walked Term)} (walks : Walks b w (Done s v) d) where
+  pub done-kept : KeptSum b w s
+  done-kept = answer-kept (walks .held) (walks .is .1)
+
+  pub done-is : d ≡ ok (walked (combOf b w s) v)
+  done-is = rw (walks .is .1 .0, held-entries (walks .held)) (walks .is .0)
+
+-- ---- the same where all atoms are noted
+
+module _ {b w : Bytes} {ns : List ℕ} {d : Result (Walked Term)} where
+  refused-filled : {c : ℕ} → length ns ≡ 32 → Walks b w (Refused c) d → Fills b w ns (Refused c) d
+  unfolding Noted
+  refused-filled long walks =
+      record { map = walks .map; held = walks .held; is = walks .is; atoms = rw (walks .is .1) long }
+
+  filled : {r : Walk} → length ns ≡ 32 → Yields (NotedSum ns) d → Walks b w r d → Fills b w ns r d
+  filled {r = Done s v} long noted walks =
+      record { map = walks .map; held = walks .held; is = walks .is; atoms = at-ok noted (walks .is .0) }
+  filled {r = Refused c} long noted walks = refused-filled long walks
+
+  module _ {s : Sum} {v : ℕ} where
+    pub filled-at : Walks b w (Done s v) d → Noted ns (entriesOf b w (s .len)) → Fills b w ns (Done s v) d
+    filled-at walks noted =
+        record {
+          map = walks .map;
+          held = walks .held;
+          is = walks .is;
+          atoms = rw (sum-entries (walks .held) (answer-has (walks .is .1))) at noted;
+        }
+
+    pub filled-noted : Fills b w ns (Done s v) d → Noted ns (entriesOf b w (s .len))
+    filled-noted fills = rw (sum-entries (fills .held) (answer-has (fills .is .1))) (fills .atoms)
+
+  pub filled-walks : {r : Walk} → Fills b w ns r d → Walks b w r d
+  filled-walks fills = record { map = fills .map; held = fills .held; is = fills .is }
+
+-- ---- the leaves
+
+module _ {b w : Bytes} {s : Sum} (kept : KeptSum b w s) (l v : ℕ) where
+  -- a is what the code finds for the sum of the constants
+  module _ (q : Rational) (a : Checked) (gives : Gives a (checked (addQ (s .constant) q))) where
+    pub constant-out :
+        {w′ : Bytes} → a ≡ checked.OutOfRange → w′ ≡ blanked (s .len) w →
+        Walks b w′ (Refused 11) (addConstant (limited l) q (walked (combOf b w s) v))
+    unfolding addConstant _>>=_
+    constant-out out e =
+        let no : plus (limited l) (s .constant) q ≡ refused numberRange = plus-out l _ _ (sym (gives .is) ∙ out) in
+        cleared kept e (refuses numberRange (rw no))
+
+    pub constant-added :
+        {c : Rational} → a ≡ checked.Value c →
+        Walks b w (Done (record { len = s .len; constant = c }) v)
+        (addConstant (limited l) q (walked (combOf b w s) v))
+    unfolding addConstant _>>=_
+    constant-added {c} value =
+        let sum : plus (limited l) (s .constant) q ≡ ok c = plus-value l _ _ c (sym (gives .is) ∙ value) in
+        done (record { kept = kept .kept; proper = gives .proper c value }) _ (rw sum)
+
+  -- r is what the insertion answers
+  module _
+      (key : ℕ) (value : Rational) {w′ : Bytes} (r : Inserted)
+      (inserts : Inserts b w′ r (insert terms (limited l) (entriesOf b w (s .len)) (tree b key) value)) where
+    pub entry-out :
+        r ≡ inserted.OutOfRange →
+        Walks b w′ (Refused 11) (addEntry terms (limited l) (tree b key) value (walked (combOf b w s) v))
+    unfolding addEntry _>>=_
+    entry-out out =
+        let is = rw out at (inserts .is) in
+        record { map = inserts .map; held = inserts .held; is = (refuses numberRange (rw (is .0)), is .1) }
+
+    pub entry-added :
+        {n : ℕ} → r ≡ inserted.Length n →
+        Walks b w′ (Done (record { len = n; constant = s .constant }) v)
+        (addEntry terms (limited l) (tree b key) value (walked (combOf b w s) v))
+    unfolding addEntry _>>=_
+    entry-added long =
+        let is = rw long at (inserts .is) in
+        record { map = inserts .map; held = inserts .held; is = (rw (is .0), (is .1, kept .proper)) }
+
+-- ---- a term, by the place that it leads to
+
+module _
+    {b w : Bytes} {id : ℕ} {coeff : Rational} {s : Sum} {ns : List ℕ} (pre : WalkPre b w id coeff s ns) where
+  pub sum-small : s .len ≤ 4096
+  sum-small = omega (arith, kept-small (pre .sum .kept))
+
+  bits : length ns ≡ 32
+  bits = noted-long ns (entriesOf b w (s .len)) (pre .atoms)
+
+  module _ {limit v : ℕ} {r : Place} (leads : PlaceIs b limit id coeff v r) where
+    pub at-refusal :
+        {c : ℕ} → r ≡ place.Refused c → {w′ : Bytes} → w′ ≡ blanked (s .len) w →
+        Fills b w′ ns (Refused c) (addTerm (tree b id) (limited limit) coeff (walked (combOf b w s) v))
+    at-refusal e blank =
+        refused-filled bits (cleared (pre .sum) blank (rw e at (leads .is (combOf b w s))))
+
+    module _ {q : Rational} {seen : ℕ} (e : r ≡ place.Constant q seen) where
+      pub constant-pre : (s .len ≤ 4096) × (Proper (s .constant) × Proper q)
+      constant-pre = (sum-small, (pre .sum .proper, rw e at (leads .proper)))
+
+      pub at-constant :
+          {w′ : Bytes} {answer : Walk} →
+          Walks b w′ answer (addConstant (limited limit) q (walked (combOf b w s) seen)) →
+          Fills b w′ ns answer (addTerm (tree b id) (limited limit) coeff (walked (combOf b w s) v))
+      at-constant walks =
+          rw (rw e at (leads .is (combOf b w s)))
+          (filled bits (constant-noted ns (limited limit) (walked (combOf b w s) seen) (pre .atoms) q) walks)
+
+    module _ {x : ℕ} {c : Rational} {seen : ℕ} (e : r ≡ place.Atom x c seen) where
+      pub atom-inside : x < count b
+      atom-inside = let h = rw e at (leads .proper) in omega (arith, h .0, pre .inside)
+
+      pub atom-small : x < 2048
+      atom-small = omega (arith, atom-inside)
+
+      pub atom-new : isNoted ns x ≡ false → absent x (entriesOf b w (s .len)) ≡ true
+      atom-new new = noted-absent ns x new (entriesOf b w (s .len)) (pre .atoms)
+
+      pub insert-pre : (s .len ≤ 4096) × ((x < 65536) × Proper c)
+      insert-pre = let h = rw e at (leads .proper) in (sum-small, (omega (arith, atom-inside), h .1))
+
+      pub entry-pre : (s .len ≤ 4096) × (Proper (s .constant) × ((x < 65536) × Proper c))
+      entry-pre = (sum-small, (pre .sum .proper, insert-pre .1))
+
+      module _
+          {w′ : Bytes} {answer : Walk}
+          (walks : Walks b w′ answer (addEntry terms (limited limit) (tree b x) c (walked (combOf b w s) seen))) where
+        at-noted :
+            (ns′ : List ℕ) → isNoted ns′ x ≡ true → Noted ns′ (entriesOf b w (s .len)) →
+            Fills b w′ ns′ answer (addTerm (tree b id) (limited limit) coeff (walked (combOf b w s) v))
+        at-noted ns′ key noted =
+            rw (rw e at (leads .is (combOf b w s)))
+            (filled (noted-long ns′ (entriesOf b w (s .len)) noted)
+            (entry-noted ns′ (limited limit) (walked (combOf b w s) seen) noted b x c key) walks)
+
+        pub at-known :
+            isNoted ns x ≡ true →
+            Fills b w′ ns answer (addTerm (tree b id) (limited limit) coeff (walked (combOf b w s) v))
+        at-known key = at-noted ns key (pre .atoms)
+
+        -- the atom is noted now
+        pub at-note :
+            {ns′ : List ℕ} → ns′ ≡ withNote ns x →
+            Fills b w′ ns′ answer (addTerm (tree b id) (limited limit) coeff (walked (combOf b w s) v))
+        at-note is =
+            rw is
+            (at-noted (withNote ns x) (note-here ns bits x atom-small)
+            (noted-keeps ns bits x atom-small (entriesOf b w (s .len)) (pre .atoms)))
+
+    module _ {x : ℕ} {p q : Rational} {seen : ℕ} (e : r ≡ place.Args x p q seen) where
+      pub args-lower : x ≤ id
+      args-lower = rw e at (leads .proper) .0
+
+      -- the record's arguments are those that the bytes hold
+      module _ (args : Bytes) (is : forest (tree b) (arguments x (numbers args)) ≡ argumentsOf (tree b x)) where
+        pub args-pre : ArgsPre b w args x p q s ns
+        args-pre =
+            let inside : x < count b = omega (arith, args-lower, pre .inside) in
+            record {
+              laid = pre .laid;
+              inside = inside;
+              below = args-below b x inside (pre .laid x inside) args is;
+              proper = rw e at (leads .proper) .1;
+              sum = pre .sum;
+              atoms = pre .atoms;
+            }
+
+        pub at-args :
+            {w′ : Bytes} {ns′ : List ℕ} {answer : Walk} →
+            Fills b w′ ns′ answer
+            (addEach (forest (tree b) (arguments x (numbers args))) (limited limit) p q (walked (combOf b w s) seen)) →
+            Fills b w′ ns′ answer (addTerm (tree b id) (limited limit) coeff (walked (combOf b w s) v))
+        at-args fills = rw (rw e at (leads .is (combOf b w s))) (rw is at fills)

@@ -1,0 +1,3 @@
+pub mod LinearComb
+pub mod WorkArea
+pub mod LinearNodes

@@ -1,0 +1,1 @@
+// What the linear rules mean: soundness, limits, and the Alethe side of rules 1 to 6.

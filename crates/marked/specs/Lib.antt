@@ -1,0 +1,4 @@
+pub mod Cases
+pub mod Marked
+pub mod Witnesses
+pub mod MarkedPremises

@@ -1,0 +1,1 @@
+// The table of cases, answered by hand, and what pins the demands.

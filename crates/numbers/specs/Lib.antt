@@ -1,0 +1,4 @@
+pub mod Pair
+pub mod Rational
+pub mod Bytes
+pub mod Choice

@@ -1,0 +1,16 @@
+-- A record of kind 5 is an operation.
+use borrow.Author.Needs.{needs}
+use Rattle.poly_simp.proofs.ScaledRelations.{operation-record}
+use Rattle.poly_simp.proofs.polynomial_rel.is_operation.Statement.{statement}
+use Rattle.poly_simp.proofs.polynomial_rel.is_operation.Tie as tie
+
+returns : tie.Need-returns
+returns c = operation-record _ _ (c .before .«record» .ensures) (c .byte .ensures)
+
+pub is-operation-spec : {M : Type 1} → statement M
+is-operation-spec =
+    tie.close
+    (tie.spec
+    (λ c κs. search needs)
+    (λ c κs. search needs)
+    returns)

@@ -1,0 +1,44 @@
+-- The form over bit-vectors is tried first.
+use borrow.Author.Needs.{needs}
+use Rattle.poly_simp.proofs.ScaledRelations.{vectors-case, numbers-case, neither-case}
+use Rattle.poly_simp.proofs.polynomial_rel.scaled_case.Statement.{statement}
+use Rattle.poly_simp.proofs.polynomial_rel.scaled_case.Tie as tie
+
+returns : tie.Need-returns
+returns c =
+    let found = c .before .before in
+    let vectors = found .before .before .scaled-by in
+    vectors-case _ _ _ (vectors .result) (vectors .ensures) (found .p .given .1) (c .bitvector-case .ensures)
+
+returns-2 : tie.Need-returns-2
+returns-2 c =
+    let found = c .before .before in
+    let numbers = found .before .before .scaled-by2 in
+    let before = found .before .before .before in
+    let vectors = before .before .before .scaled-by in
+    numbers-case _ _ _ (vectors .result) (vectors .ensures) (before .enum-told .given .1) (numbers .result)
+    (numbers .ensures) (found .p2 .given .1) (c .number-case .ensures)
+
+returns-3 : tie.Need-returns-3
+returns-3 c =
+    let numbers = c .before .before .scaled-by2 in
+    let before = c .before .before .before in
+    let vectors = before .before .before .scaled-by in
+    neither-case _ _ _ (vectors .result) (vectors .ensures) (before .enum-told .given .1) (numbers .result)
+    (numbers .ensures) (c .enum-told2 .given .1)
+
+pub scaled-case-spec : {M : Type 1} → statement M
+scaled-case-spec =
+    tie.close
+    (tie.spec
+    (λ c κs. search needs)
+    (λ c. search needs)
+    (λ c κs. search needs)
+    returns
+    (λ c. search needs)
+    (λ c κs. search needs)
+    (λ c. search needs)
+    (λ c κs. search needs)
+    returns-2
+    (λ c. search needs)
+    returns-3)

@@ -1,0 +1,3 @@
+pub mod PolySimp
+pub mod PolynomialSteps
+pub mod PolynomialRel

@@ -1,0 +1,2 @@
+pub mod PolynomialArea
+pub mod Polynomial

@@ -1,0 +1,2 @@
+pub mod PolynomialTerms
+pub mod PolynomialNodes

@@ -1,0 +1,1 @@
+// What all rules need of theory: answers without limits, maps, signs, shapes.
