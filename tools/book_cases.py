@@ -1,5 +1,5 @@
 #!/usr/bin/env python3
-"""Writes the books that the programs `mark` and `book_cases` are run on, from descriptions of their records.
+"""Writes the cases of the program `book_cases` and three books of examples/, from descriptions of their records.
 
     python3 tools/book_cases.py            writes the files
     python3 tools/book_cases.py --list     prints each case: its number, what is expected, what it shows
@@ -8,32 +8,32 @@
 Each expected answer is worked out by hand from document 01, 'Numbers', 'The book of terms' and 'Verdicts'; no program
 of this repository is asked for one. The comment above a case says what its answer follows from.
 """
-import os
 import sys
 
-ROOT = os.path.dirname(os.path.dirname(os.path.abspath(__file__)))
+import generated
+from books import to_bytes
 
 # ---- records from their parts
 
 
 def integer(v):
-    return bytes([1, 0, 0, 0]) + v.to_bytes(8, 'little', signed=True) + bytes(20)
+    return to_bytes(('integer', v))
 
 
 def real(n, d):
-    return bytes([2, 0, 0, 0]) + n.to_bytes(8, 'little', signed=True) + d.to_bytes(8, 'little', signed=True) + bytes(12)
+    return to_bytes(('real', n, d))
 
 
 def bits(v, w):
-    return bytes([3, 0, 0, 0]) + v.to_bytes(8, 'little') + w.to_bytes(8, 'little') + bytes(12)
+    return to_bytes(('vector', v, w))
 
 
 def atom(sort, name, w=0):
-    return bytes([4, 0, 0, sort]) + name.to_bytes(8, 'little') + w.to_bytes(8, 'little') + bytes(12)
+    return to_bytes(('atom', sort, name, w))
 
 
 def op(o, *args):
-    return (bytes([5, o, len(args), 0]) + b''.join(a.to_bytes(2, 'little') for a in args)).ljust(32, b'\0')
+    return to_bytes(('operation', o, *args))
 
 
 def changed(record, *changes):
@@ -361,7 +361,7 @@ def all_cases():
         part()
 
 
-# ---- the books for `mark`
+# ---- the books for `mark`, whose words are in tools/mark_calls.txt
 
 EVERY_KIND = [
     atom(INT, 7),  # 0
@@ -396,39 +396,6 @@ EVERY_KIND = [
     bits(2**30 - 1, 30),
 ]
 
-EVERY_KIND_IN_WORDS = """\
-0 Int atom a7
-1 Real atom a8
-2 Bool atom a9
-3 BitVec(8) atom a10
-4 Int integer 3
-5 Int integer -7
-6 Real real 1/2
-7 BitVec(8) bitvector 128
-8 Int (+ #0 #4)
-9 Bool (< #8 #1)
-10 Bool (not #9)
-11 Int (- #4)
-12 Real (/ #11 #6)
-13 BitVec(8) (bvadd #3 #7)
-14 Bool (= #0 #1)
-15 Bool (and #2 #14)
-16 Int (div #5 #4)
-17 Bool (or #2 #10 #15)
-18 Bool (<= #0 #4)
-19 Bool (> #0 #16)
-20 Bool (>= #1 #12)
-21 Real (* #4 #0 #1)
-22 Real (to_real #0)
-23 BitVec(8) (bvsub #3 #13)
-24 BitVec(8) (bvneg #3)
-25 BitVec(8) (bvmul #7 #24 #3)
-26 Real real -7/3
-27 Int atom a18446744073709551615
-28 Int (+ #4 #5 #0 #0 #0 #0 #0 #0 #0 #0 #0 #0 #0 #0)
-29 BitVec(30) bitvector 1073741823
-"""
-
 # record 1 has kind 6
 NO_LAYOUT = [x, changed(bytes(32), (0, 6))]
 
@@ -448,9 +415,6 @@ def files():
     return {
         'crates/book_cases/data/cases': case_file(),
         'crates/book_cases/stdout': b'%d cases agree\n' % len(cases),
-        'crates/mark/args': b'every_kind.book\n',
-        'crates/mark/data/every_kind.book': b''.join(EVERY_KIND),
-        'crates/mark/stdout': EVERY_KIND_IN_WORDS.encode(),
         'examples/every_kind.book': b''.join(EVERY_KIND),
         'examples/no_layout.book': b''.join(NO_LAYOUT),
         'examples/wrong_sort.book': b''.join(WRONG_SORT),
@@ -464,18 +428,12 @@ def main():
         for i, (shows, front, more, refusal, record) in enumerate(cases):
             print('%d: %d at %d: %s' % (i, refusal, record, shows))
     elif words == ['--check']:
-        wrong = [path for path, text in files().items()
-                 if not os.path.exists(os.path.join(ROOT, path)) or open(os.path.join(ROOT, path), 'rb').read() != text]
-        for path in wrong:
-            print('%s is not what the script makes' % path)
-        sys.exit(1 if wrong else 0)
+        generated.check(files())
     elif not words:
-        for path, text in files().items():
-            os.makedirs(os.path.dirname(os.path.join(ROOT, path)), exist_ok=True)
-            with open(os.path.join(ROOT, path), 'wb') as f:
-                f.write(text)
+        generated.write(files())
     else:
         sys.exit(__doc__)
 
 
-main()
+if __name__ == '__main__':
+    main()

@@ -1,4 +1,4 @@
-"""Books and runs of document 01, built from s-expressions.
+"""Books and runs of document 01, built from s-expressions: the one place of tools/ that lays out their bytes.
 
 A number without a stroke is an integer record, one with a stroke a real record (3/1 is the real 3), #x80 and #b101 are
 bit-vector records, a list is an operation, any other word an atom. (- 3) is the operation over the integer 3.
@@ -6,6 +6,8 @@ bit-vector records, a list is an operation, any other word an atom. (- 3) is the
 import struct
 
 OPERATORS = dict(zip("not and or = < <= > >= + - * div / to_real bvadd bvsub bvneg bvmul".split(), range(1, 19)))
+SYMBOLS = {number: symbol for symbol, number in OPERATORS.items()}
+RULES = "assume la_rw_eq la_disequality la_totality la_tautology la_generic bounded_farkas poly_simp poly_simp_rel".split()
 NAMES = (
     "Not And Or Equals LessThan LessEq GreaterThan GreaterEq Add Sub Mult IntDiv RealDiv ToReal BvAdd BvSub BvNeg BvMul"
 ).split()
@@ -54,6 +56,36 @@ def to_bytes(record):
     raise ValueError(kind)
 
 
+def record_of(data):
+    """The parts of a record of 32 bytes, or None where its bytes are none that `to_bytes` makes."""
+    kind, operator, count, sort, first, second = struct.unpack_from("<4BQQ", data)
+    whole, half = struct.unpack_from("<qq", data, 4)
+    record = {
+        1: ("integer", whole),
+        2: ("real", whole, half),
+        3: ("vector", first, second),
+        4: ("atom", sort, first, second),
+        5: ("operation", operator) + struct.unpack_from("<14H", data, 4)[:count],
+    }.get(kind)
+    return record if record and count <= 14 and to_bytes(record) == data else None
+
+
+def constant(word):
+    """The record of a number."""
+    if word.startswith("#x"):
+        return ("vector", int(word[2:], 16), 4 * (len(word) - 2))
+    if word.startswith("#b"):
+        return ("vector", int(word[2:], 2), len(word) - 2)
+    if "/" in word:
+        return ("real",) + tuple(map(int, word.split("/")))
+    return ("integer", int(word))
+
+
+def atom(number, sort):
+    """The record of an atom; a sort that is an int is a width."""
+    return ("atom", 4, number, sort) if isinstance(sort, int) else ("atom", SORTS[sort], number, 0)
+
+
 class Book:
     """Records in the order of first use, arguments before the operation."""
 
@@ -76,18 +108,7 @@ class Book:
     def term(self, e):
         if isinstance(e, list):
             return self.enter(("operation", OPERATORS[e[0]]) + tuple(self.term(a) for a in e[1:]))
-        if e.startswith("#x"):
-            return self.enter(("vector", int(e[2:], 16), 4 * (len(e) - 2)))
-        if e.startswith("#b"):
-            return self.enter(("vector", int(e[2:], 2), len(e) - 2))
-        if e in self.sorts:
-            number, sort = self.sorts[e]
-            if isinstance(sort, int):
-                return self.enter(("atom", 4, number, sort))
-            return self.enter(("atom", SORTS[sort], number, 0))
-        if "/" in e:
-            return self.enter(("real",) + tuple(map(int, e.split("/"))))
-        return self.enter(("integer", int(e)))
+        return self.enter(atom(*self.sorts[e]) if e in self.sorts else constant(e))
 
     def bytes(self):
         return b"".join(map(to_bytes, self.records))

@@ -5,7 +5,7 @@
 SOURCE is the folder of the oracle, which runs the Rust's own rule files on books and runs; tools/oracle builds it first. Runs are made by
 tools/random_cases.py, which asks the oracle for the answers, until N steps were accepted (1,000,000 where nothing is said); each is then
 marked and elaborated by the library (tools/compare.c), on memory that is not clean, and every answer and every lent byte is compared. The
-library is proved and built first, by `rt staticlib yirtabun`. Exit status: 0 if nothing differs.
+library is proved and built first, by tools/staticlib. Exit status: 0 if nothing differs.
 """
 import argparse
 import os
@@ -25,7 +25,7 @@ CHUNK = 10000
 
 
 def build():
-    subprocess.run(["rt", "staticlib", "yirtabun"], cwd=ROOT, check=True, stdout=subprocess.DEVNULL)
+    subprocess.run([os.path.join(HERE, "staticlib")], check=True)
     os.makedirs(os.path.join(ROOT, "target", "library"), exist_ok=True)
     program = os.path.join(ROOT, "target", "library", "compare")
     library = os.path.join(ROOT, "target", "staticlib", "libyirtabun.a")

@@ -1,4 +1,4 @@
-"""Puts single faults into definitions and names those that no proof and no table refuses.
+"""Puts single faults into definitions and code and names those that no proof and no table refuses.
 
     python3 tools/faults.py CRATE.. [--dry]
 

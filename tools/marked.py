@@ -1,9 +1,10 @@
 """Writes crates/marked/specs/Marked.antt, the table of marked cases, and MarkedPremises.antt beside it, from tools/marked.txt.
 
     python3 tools/marked.py                     writes both files
+    python3 tools/marked.py --check             says whether both files and the examples are those that this script makes
     python3 tools/marked.py --oracle PROGRAM    compares the expected answers with the Rust's, and writes nothing
     python3 tools/marked.py --cases FILE        writes the cases for tools/try_definitions.py
-    python3 tools/marked.py --examples          writes K1 to K12 and a run that stops as files to examples/, and their answers
+    python3 tools/marked.py --examples          writes K1 to K12 and a run that stops to examples/: book, run and text, and all answers
     python3 tools/marked.py --marks PROGRAM     runs `mark` on those files, and says which answers differ from the table's
 
 The Rust has no refusals 1 to 12: of such a case only the accepted steps are compared, and of one with refusal 1 to 7 nothing.
@@ -14,13 +15,14 @@ import sys
 import tempfile
 import textwrap
 
-from books import Book, argument, batch, expressions, listed, record_text, run_bytes, run_text, shown, to_bytes
+import generated
+from books import Book, argument, atom, batch, expressions, listed, record_text, run_bytes, run_text, shown, to_bytes
+from text_writer import Writer
 
 HERE = os.path.dirname(os.path.abspath(__file__))
 TEXT = os.path.join(HERE, "marked.txt")
-TABLE = os.path.join(HERE, "..", "crates", "marked", "specs", "Marked.antt")
-PREMISES = os.path.join(HERE, "..", "crates", "marked", "specs", "MarkedPremises.antt")
-
+TABLE = os.path.join("crates", "marked", "specs", "Marked.antt")
+PREMISES = os.path.join("crates", "marked", "specs", "MarkedPremises.antt")
 EXAMPLES = os.path.join(HERE, "..", "examples")
 
 USUAL = (1000, 65536, 1000, 1000)
@@ -147,8 +149,9 @@ class Case:
 def read_cases():
     """Sections, each with a title and its cases."""
     sorts, sections = {}, []
-    for line in open(TEXT):
-        line = line.strip()
+    with open(TEXT) as f:
+        lines = f.readlines()
+    for line in map(str.strip, lines):
         word, _, rest = line.partition(" ")
         if not line or word == "#" or word.startswith("#"):
             continue
@@ -184,8 +187,9 @@ use Rattle.marked.specs.Cases.{Case, marked, usual, answers, runRecord, 
 """
 
 PREMISES_HEAD = """-- Written by tools/marked.py from tools/marked.txt: do not edit.
--- Which of demand 3's premises each accepted step of K1 to K12 meets, one accepted step of each rule, and others that tell a stronger or
--- a weaker premise from the right one: even divs, whole numbers, no surplus arguments. Worked out by hand.
+-- Which of demand 3's premises each accepted step of K1 to K12 meets, one accepted step of each rule, and others that
+-- tell a stronger or a weaker premise from the right one: even divs, whole numbers, no surplus arguments. Worked out by
+-- hand.
 use mathlib.Core.Path.{_≡_, refl}
 use mathlib.Core.Bool.{true, false}
 use mathlib.Core.List.{List, [], _∷_}
@@ -198,11 +202,14 @@ use Rattle.elaborate.specs.PremiseTests.{Tested, tested, allTested, tests}
 """
 
 
-def pieces(text):
-    """The text, parted before each cons that stands in the outermost parentheses."""
+LINE = 110
+
+
+def pieces(text, inside=1):
+    """The text, parted before each cons that stands in so many parentheses."""
     parts, depth, word = [], 0, ""
     for i, ch in enumerate(text):
-        if depth == 1 and text.startswith(" ∷ ", i):
+        if depth == inside and text.startswith(" ∷ ", i):
             parts.append(word)
             word = ""
         else:
@@ -212,10 +219,10 @@ def pieces(text):
 
 
 def filled(words):
-    """Lines of at most 110 characters."""
+    """Lines of at most so many characters, where no word is longer."""
     lines, line = [], ""
     for word in words:
-        if line and len("    " + line + " " + word) > 110:
+        if line and len("    " + line + " " + word) > LINE:
             lines.append("    " + line)
             line = word
         else:
@@ -229,33 +236,38 @@ def laid_out(word, parts):
     whole = filled([word, book, *others])
     if len(whole) == 1:
         return whole
-    return ["    " + word] + filled(pieces(book)) + filled(others)
+    words = []
+    for part in others:
+        # An answer has its lists one deeper.
+        long = len("    " + part) > LINE
+        words += pieces(part, 2 if part.startswith("(answers") else 1) if long else [part]
+    return ["    " + word] + filled(pieces(book)) + filled(words)
 
 
-def write_list(path, head, sections, word, parts, tail):
-    """A file with a list of cases, each with its words as a comment."""
+def list_file(head, sections, word, parts, tail):
+    """The bytes of a file with a list of cases, each with its words as a comment."""
     lines, cons = head[:], ""
     for title, cases in sections:
         lines.append("    -- ---- " + title)
         for case in cases:
             said = ": ".join([case.name] + ["; ".join(case.text)] * bool(case.text))
-            lines += textwrap.wrap(said, 110, initial_indent="    -- ", subsequent_indent="    -- ", break_on_hyphens=False)
+            lines += textwrap.wrap(said, LINE, initial_indent="    -- ", subsequent_indent="    -- ", break_on_hyphens=False)
             lines += laid_out(cons + word, parts(case))
             cons = "∷ "
-    with open(path, "w") as f:
-        f.write("\n".join(lines + ["    ∷ []", ""] + tail + [""]))
+    return "\n".join(lines + ["    ∷ []", ""] + tail + [""]).encode()
 
 
-def write_table(sections):
-    write_list(
-        TABLE, [HEAD, "cases : List Case", "unfolding marks", "cases ="], sections, "marked", Case.antt,
+def table_files(sections):
+    table = list_file(
+        [HEAD, "cases : List Case", "unfolding marks", "cases ="], sections, "marked", Case.antt,
         ["all-marked : allMarked cases ≡ true", "unfolding marks cases", "all-marked = refl"],
     )
     told = [(title, [c for c in cases if c.premises]) for title, cases in sections]
-    write_list(
-        PREMISES, [PREMISES_HEAD, "cases : List Tested", "unfolding marks", "cases ="], [t for t in told if t[1]], "tested",
+    premises = list_file(
+        [PREMISES_HEAD, "cases : List Tested", "unfolding marks", "cases ="], [t for t in told if t[1]], "tested",
         Case.tested, ["all-tested : allTested cases ≡ true", "unfolding marks tests cases", "all-tested = refl"],
     )
+    return {TABLE: table, PREMISES: premises}
 
 
 def compare(sections, oracle):
@@ -303,42 +315,57 @@ def examples(sections):
     yield "stops", next(c for _, cases in sections for c in cases if c.name == STOPS)
 
 
-def write_examples(sections):
-    with open(os.path.join(EXAMPLES, "answers"), "w") as answers:
-        answers.write("# example, verdict, accepted steps, visits: written by tools/marked.py --examples from the table of tools/marked.txt\n")
-        for name, case in examples(sections):
-            for end, part in zip((".book", ".run"), case.bytes()):
-                with open(os.path.join(EXAMPLES, name + end), "wb") as f:
-                    f.write(part)
-            answers.write("%s %d %d %d\n" % (name, *case.answer))
+def example_text(name, case):
+    """The text that tools/make_run.py makes the example's files of."""
+    head = "; %s: %s.book and %s.run are made of this text by tools/make_run.py.\n" % (case.name, name, name)
+    head += "; The answer: verdict %d, accepted steps %d, visits %d.\n" % case.answer
+    names = {atom(*where): symbol for symbol, where in case.book.sorts.items()}
+    return (head + Writer(case.book.records, names).write([part[1:] for part in case.run])).encode()
+
+
+def example_files(sections):
+    answers = "# example, verdict, accepted steps, visits: written by tools/marked.py --examples from the table of tools/marked.txt\n"
+    files = {}
+    for name, case in examples(sections):
+        for end, part in zip((".book", ".run", ".txt"), (*case.bytes()[:2], example_text(name, case))):
+            files[os.path.join("examples", name + end)] = part
+        answers += "%s %d %d %d\n" % (name, *case.answer)
+    files[os.path.join("examples", "answers")] = answers.encode()
+    return files
+
+
+def marks_of(program, name, case, folder):
+    """What the program says of an example, with the limit of its case and elaborating, that differs from the table."""
+    files = [os.path.join(EXAMPLES, name + end) for end in (".book", ".run")]
+    written = [os.path.join(folder, end) for end in ("run", "tail")]
+    want = "verdict %d\naccepted steps %d\nvisits %d\n" % case.answer
+    for words in ([*files, str(case.limit)], ["--elaborate", *files, str(case.limit), *written]):
+        got = subprocess.run([program, *words], stdout=subprocess.PIPE, check=True).stdout.decode()
+        if not got.startswith(want):
+            yield "expected %r, mark says %r" % (want, got)
+    for path, part in zip(written, case.bytes()[2:]):
+        if generated.there(path) != part:
+            yield "another elaboration is written"
 
 
 def marks(program, sections):
-    """Runs the program on the examples: with the limit of each case, and elaborating."""
-    wrong = 0
-    with tempfile.TemporaryDirectory() as out:
-        for name, case in examples(sections):
-            files = [os.path.join(EXAMPLES, name + end) for end in (".book", ".run")]
-            written = [os.path.join(out, end) for end in ("run", "tail")]
-            want = "verdict %d\naccepted steps %d\nvisits %d\n" % case.answer
-            for words in ([*files, str(case.limit)], ["--elaborate", *files, str(case.limit), *written]):
-                got = subprocess.run([program, *words], stdout=subprocess.PIPE, check=True).stdout.decode()
-                if not got.startswith(want):
-                    wrong += 1
-                    print("%s: expected %r, mark says %r" % (name, want, got))
-            for path, part in zip(written, case.bytes()[2:]):
-                with open(path, "rb") as f:
-                    if f.read() != part:
-                        wrong += 1
-                        print("%s: another elaboration is written" % name)
-    print("%d examples, %d answers differ" % (len(list(examples(sections))), wrong))
-    return wrong
+    """Runs the program on the examples, and says how many answers differ."""
+    wrong = []
+    for name, case in examples(sections):
+        with tempfile.TemporaryDirectory() as folder:
+            wrong += ["%s: %s" % (name, what) for what in marks_of(program, name, case, folder)]
+    for what in wrong:
+        print(what)
+    print("%d examples, %d answers differ" % (len(list(examples(sections))), len(wrong)))
+    return len(wrong)
 
 
 def main():
     sections = read_cases()
+    if sys.argv[1:2] == ["--check"]:
+        generated.check({**table_files(sections), **example_files(sections)})
     if sys.argv[1:2] == ["--examples"]:
-        write_examples(sections)
+        generated.write(example_files(sections))
         return
     if sys.argv[1:2] == ["--marks"]:
         sys.exit(1 if marks(sys.argv[2], sections) else 0)
@@ -347,7 +374,7 @@ def main():
     if sys.argv[1:2] == ["--cases"]:
         write_cases(sections, sys.argv[2])
     else:
-        write_table(sections)
+        generated.write(table_files(sections))
     print("%d cases" % sum(len(cs) for _, cs in sections))
 
 

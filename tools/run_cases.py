@@ -1,6 +1,7 @@
 """Whole runs with the answers that they should get: the file that the program `run_cases` replays.
 
     python3 tools/run_cases.py ORACLE [--count N] [--seed N] [--each N]
+    python3 tools/run_cases.py --check    says whether the file begins with the cases of the table, and has as many as it says
 
 They are the cases of the table (tools/marked.txt, K1 to K12 among them) and random runs of every rule with the Rust's own answers, as
 tools/random_cases.py makes them: --count runs are tried with --seed, and --each of one verdict and rule are kept. The file that is there was
@@ -48,14 +49,56 @@ def packed(line):
     return struct.pack("<12I", *numbers) + book + run + outrun + outtail
 
 
+def lines_of(path):
+    with open(path) as f:
+        return f.readlines()
+
+
+def table():
+    """The lines of the table's cases."""
+    with tempfile.TemporaryDirectory() as d:
+        path = os.path.join(d, "table")
+        subprocess.run([sys.executable, os.path.join(HERE, "marked.py"), "--cases", path], check=True, stdout=subprocess.DEVNULL)
+        return lines_of(path)
+
+
+def cases_of(lines):
+    return [packed(line) for line in lines if int(line.split()[2]) < 2**32]
+
+
+def stored():
+    """The runs of the file, each as it is packed."""
+    with open(FILE, "rb") as f:
+        data = f.read()
+    at, runs = 4, []
+    for _ in range(*struct.unpack_from("<I", data)):
+        h = struct.unpack_from("<12I", data, at)
+        end = at + 48 + h[0] + h[1] + h[10] + h[11]
+        runs.append(data[at:end])
+        at = end
+    if at != len(data):
+        sys.exit("run_cases.py: the file's length is not that of its runs")
+    return runs
+
+
+def check():
+    runs, wanted = stored(), cases_of(table())
+    wrong = [i for i, (run, want) in enumerate(zip(runs, wanted)) if run != want]
+    for i in wrong:
+        print("run %d of crates/run_cases/data/cases is not the table's" % i)
+    print("run_cases.py: %d runs, the first %d are the table's, %d differ" % (len(runs), len(wanted), len(wrong)))
+    sys.exit(1 if wrong or len(runs) < len(wanted) else 0)
+
+
 def main():
+    if sys.argv[1:] == ["--check"]:
+        check()
     oracle, rest = sys.argv[1], sys.argv[2:]
     with tempfile.TemporaryDirectory() as d:
-        table, tried = os.path.join(d, "table"), os.path.join(d, "random")
-        subprocess.run([sys.executable, os.path.join(HERE, "marked.py"), "--cases", table], check=True)
+        tried = os.path.join(d, "random")
         subprocess.run([sys.executable, os.path.join(HERE, "random_cases.py"), oracle, tried, *rest], check=True)
-        lines = [line for path in (table, tried) for line in open(path)]
-    cases = [packed(line) for line in lines if int(line.split()[2]) < 2**32]
+        lines = table() + lines_of(tried)
+    cases = cases_of(lines)
     with open(FILE, "wb") as f:
         f.write(struct.pack("<I", len(cases)) + b"".join(cases))
     print("%d runs, %d bytes" % (len(cases), os.path.getsize(FILE)))

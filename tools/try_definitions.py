@@ -18,7 +18,7 @@ import subprocess
 import sys
 import time
 
-from books import argument, listed, record_text, run_text, to_bytes
+from books import argument, listed, record_of, record_text, run_text
 
 ROOT = os.path.join(os.path.dirname(os.path.abspath(__file__)), "..")
 TARGET = os.path.join(ROOT, "target")
@@ -52,20 +52,6 @@ def known(crate):
 
 def plain(data):
     return "(%s)" % listed(map(str, data)) if data else "[]"
-
-
-def record_of(data):
-    """The parts of a record, or None where its bytes are none that the builders make."""
-    kind, operator, count, sort, first, second = struct.unpack_from("<4BQQ", data)
-    whole, half = struct.unpack_from("<qq", data, 4)
-    record = {
-        1: ("integer", whole),
-        2: ("real", whole, half),
-        3: ("vector", first, second),
-        4: ("atom", sort, first, second),
-        5: ("operation", operator) + struct.unpack_from("<14H", data, 4)[:count],
-    }.get(kind)
-    return record if record and count <= 14 and to_bytes(record) == data else None
 
 
 def book_text(data):

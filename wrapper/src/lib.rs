@@ -1,14 +1,18 @@
 //! Yirtabun for Rust: the proved entry points, with slices and structs in place of pointers and bytes.
 //!
-//! Every function takes any bytes, any lengths and any limit. What is proved of each is in `crates/yirtabun/src/lib.rt`.
+//! Every function takes any bytes, any lengths and any limit. What is proved of each is in `crates/yirtabun/src/lib.rt`. They allocate nothing,
+//! and need stack: see [`STACK`].
 
 /// The length that a work area must have.
 pub const WORK: usize = 65536;
 /// An elaboration never needs more than this in its out areas.
 pub const OUT_RUN: usize = 16384;
 pub const OUT_TAIL: usize = 65536;
-/// The largest limit of visits.
-pub const MOST_VISITS: u32 = 1_000_000;
+/// The largest limit of visits; a larger one is refused with verdict 1.
+pub const MOST_VISITS: u64 = 1_000_000;
+/// A thread with this many bytes of stack has more than twice what a call needs: over the deepest books `poly_simp` takes 1.8 MB, and
+/// Rust's threads have 2 MiB unless they are given more. `tools/stack` measures it; the proofs say nothing of stack.
+pub const STACK: usize = 4_194_304;
 
 unsafe extern "C" {
     fn yirtabun_check(
@@ -59,6 +63,19 @@ pub struct Elaborated {
     pub tail: usize,
 }
 
+/// Does what is asked on a thread that has as much stack as any call needs.
+pub fn on_enough_stack<T: Send>(work: impl FnOnce() -> T + Send) -> T {
+    std::thread::scope(|scope| {
+        let thread = std::thread::Builder::new().stack_size(STACK).spawn_scoped(scope, work);
+        thread.expect("a thread").join().unwrap_or_else(|panic| std::panic::resume_unwind(panic))
+    })
+}
+
+/// The limit as the library takes it. One that it has no room for becomes 0, and is refused as every limit above the range is.
+fn narrow(limit: u64) -> u32 {
+    u32::try_from(limit).unwrap_or(0)
+}
+
 fn number(answer: &[u8], k: usize) -> u32 {
     u32::from_le_bytes(answer[4 * k..4 * k + 4].try_into().unwrap())
 }
@@ -67,8 +84,8 @@ fn marked(answer: &[u8]) -> Marked {
     Marked { verdict: number(answer, 0), steps: number(answer, 1), visits: number(answer, 2) }
 }
 
-/// Marks a run over a book. The work area is zeros afterwards.
-pub fn check(book: &[u8], run: &[u8], limit: u32, work: &mut [u8]) -> Marked {
+/// Marks a run over a book. The work area is zeros afterwards. A run of no steps has verdict 0 and no accepted steps.
+pub fn check(book: &[u8], run: &[u8], limit: u64, work: &mut [u8]) -> Marked {
     let mut answer = [0; 12];
     // Slices are never null and those of one call do not overlap, since three of them are borrowed mutably.
     unsafe {
@@ -77,7 +94,7 @@ pub fn check(book: &[u8], run: &[u8], limit: u32, work: &mut [u8]) -> Marked {
             book.len(),
             run.as_ptr(),
             run.len(),
-            limit,
+            narrow(limit),
             work.as_mut_ptr(),
             work.len(),
             answer.as_mut_ptr(),
@@ -92,7 +109,7 @@ pub fn check(book: &[u8], run: &[u8], limit: u32, work: &mut [u8]) -> Marked {
 pub fn elaborate(
     book: &[u8],
     run: &[u8],
-    limit: u32,
+    limit: u64,
     work: &mut [u8],
     out_run: &mut [u8],
     out_tail: &mut [u8],
@@ -105,7 +122,7 @@ pub fn elaborate(
             book.len(),
             run.as_ptr(),
             run.len(),
-            limit,
+            narrow(limit),
             work.as_mut_ptr(),
             work.len(),
             out_run.as_mut_ptr(),
@@ -158,14 +175,72 @@ mod tests {
         assert!(tried > 16);
     }
 
+    const REFUSED_1: Marked = Marked { verdict: 1, steps: 0, visits: 0 };
+
     #[test]
     fn wrong_lengths() {
         let (book, run) = example("K1");
         let mut work = vec![7; 10];
-        assert_eq!(check(&book, &run, 1000, &mut work), Marked { verdict: 1, steps: 0, visits: 0 });
+        assert_eq!(check(&book, &run, 1000, &mut work), REFUSED_1);
         assert_eq!(work, [0; 10]);
         assert_eq!(written(&[1, 2, 3, 4, 5], 4), [1, 2, 3, 4]);
         assert!(written(&[1, 2, 3, 4, 5], 3).is_empty());
         assert!(written(&[1, 2, 3, 4], 8).is_empty());
+    }
+
+    /// A limit above 32 bits is refused, and not cut: cut to 5 it would be enough for K1's four visits.
+    #[test]
+    fn limits() {
+        let (book, run) = example("K1");
+        let cut = (1u64 << 32) + 5;
+        assert_eq!(cut as u32, 5);
+        for limit in [0, MOST_VISITS + 1, u32::MAX as u64, 1 << 32, cut, u64::MAX] {
+            let (mut work, mut out_run, mut out_tail) = (vec![7; WORK], vec![7; OUT_RUN], vec![7; OUT_TAIL]);
+            assert_eq!(check(&book, &run, limit, &mut work), REFUSED_1, "{limit}");
+            let e = elaborate(&book, &run, limit, &mut work, &mut out_run, &mut out_tail);
+            assert_eq!(e, Elaborated { marked: REFUSED_1, run: 0, tail: 0 }, "{limit}");
+        }
+        for limit in [4, cut as u32 as u64, MOST_VISITS] {
+            assert_eq!(check(&book, &run, limit, &mut vec![7; WORK]), Marked { verdict: 0, steps: 1, visits: 4 }, "{limit}");
+        }
+    }
+
+    /// Where a length is 0 its pointer may be null.
+    #[test]
+    fn no_bytes() {
+        use std::ptr::{null, null_mut};
+        let (book, run) = example("K3");
+        assert!(book.is_empty());
+        let mut work = vec![7; WORK];
+        let (w, n) = (work.as_mut_ptr(), work.len());
+        unsafe {
+            assert_eq!(yirtabun_check(null(), 0, run.as_ptr(), run.len(), 1000, w, n, null_mut(), 0), 30);
+            assert_eq!(yirtabun_check(null(), 0, null(), 0, 1000, w, n, null_mut(), 0), 0);
+            assert_eq!(yirtabun_check(null(), 0, null(), 0, 1000, null_mut(), 0, null_mut(), 0), 1);
+            let (out, tail, answer) = (null_mut(), null_mut(), null_mut());
+            assert_eq!(yirtabun_elaborate(null(), 0, null(), 0, 1000, w, n, out, 0, tail, 0, answer, 0), 0);
+            assert_eq!(yirtabun_written(null(), 0, 0), 0);
+            assert_eq!(yirtabun_written(null(), 0, 4), 0);
+        }
+    }
+
+    /// (= x (- (- .. x))), 2,046 deep, is the deepest that rule 7 can be given; the book's last record is the equation.
+    #[test]
+    fn deepest() {
+        let operation = |operator: u8, arguments: &[u16]| {
+            let mut record = [0; 32];
+            record[..3].copy_from_slice(&[5, operator, arguments.len() as u8]);
+            for (k, a) in arguments.iter().enumerate() {
+                record[4 + 2 * k..6 + 2 * k].copy_from_slice(&a.to_le_bytes());
+            }
+            record
+        };
+        let mut book = vec![[0; 32]];
+        (book[0][0], book[0][3]) = (4, 2);
+        book.extend((0..2046).map(|k| operation(10, &[k])));
+        book.push(operation(4, &[0, 2046]));
+        let run = [b'S', 7, 0, 0, b'C', 0, 0xff, 7];
+        let m = on_enough_stack(|| check(&book.concat(), &run, MOST_VISITS, &mut vec![7; WORK]));
+        assert_eq!((m.verdict, m.steps), (0, 1));
     }
 }

@@ -12,7 +12,8 @@ use lib.Dec.{leb}
 use lib.ListN.{length, take, replicate, length-append}
 use lib.Seq.{paste}
 use Rattle.numbers.specs.Bytes.{Bytes}
-use Rattle.runs.specs.Lent.{area, zeroedFrom}
+use Rattle.runs.specs.Answers.{area}
+use Rattle.numbers.specs.Bytes.{zeroedFrom}
 use Rattle.again.specs.Again.{joinedBook}
 use Rattle.elaborate.proofs.Pieces.{put-length, put-front}
 

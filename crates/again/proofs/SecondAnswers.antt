@@ -1,4 +1,5 @@
--- `elaborate_again`: what is elaborated is marked again over book and tail, and both answers are compared.
+-- `elaborate_and_mark`: what is elaborated is marked again over book and tail, and both answers are compared.
+--     within-eight, above-eight, below-one       refusals 1 to 8
 --     agree-early .. agree-tail, agree-all       the comparison by its tests
 --     Calls, marked-agreed, marked-none       the second marking
 --     agrees-again       both answers agree where no bounded_farkas step has surplus arguments and book and tail have room
@@ -14,19 +15,19 @@ use lib.Dec.{T, eqb, leb}
 use lib.ListN.{length, take, replicate, length-replicate}
 use lib.Seq.{take-append-seam}
 use Rattle.numbers.specs.Bytes.{Bytes}
-use Rattle.terms.specs.Book.{sameBytes}
+use Rattle.numbers.specs.Bytes.{sameBytes}
 use Rattle.numbers.proofs.Truths.{T-true}
-use Rattle.terms.proofs.Records.{sameBytes-refl}
+use Rattle.numbers.proofs.SameBytes.{sameBytes-refl}
 use Rattle.rules.specs.Limits.{limited}
-use Rattle.runs.specs.Verdict.{Verdict, isLent}
+use Rattle.runs.specs.Verdict.{Verdict, verdictNumber, isLent}
 use Rattle.runs.specs.Check.{mark}
 use Rattle.runs.proofs.Verdicts.{between, lent-numbers}
 use Rattle.elaborate.specs.Elaborate.{Answer, answer, writtenPart}
-use Rattle.runs.specs.Lent.{area, zeros}
-use Rattle.elaborate.specs.Demands.{NoSurplus}
-use Rattle.elaborate.specs.Memory.{Memory, answerTo, memoryAfter, lent}
+use Rattle.runs.specs.Answers.{area, zeros}
+use Rattle.elaborate.specs.Statements.{NoSurplus}
+use Rattle.elaborate.specs.LentMemory.{Memory, answerTo, memoryAfter, lent}
 use Rattle.runs.specs.Run.{Every}
-use Rattle.elaborate.specs.OutMemory.{elaboratedOf}
+use Rattle.elaborate.specs.LentMemory.{elaboratedOf}
 use Rattle.again.specs.Again.{Second, joinedBook, elaboratedBook, answerAgain, agree, agreesAgain, MarkedAgain}
 use Rattle.elaborate.specs.ElaborateEntry.{ElaborateDone}
 use Rattle.again.specs.AgainEntry.{AgainDone}
@@ -37,17 +38,24 @@ use Rattle.elaborate.proofs.ElaboratePromise.{WholeAnswer, whole-answer, promis
 
 -- ---- the comparison
 
--- a number that is none of refusals 1 to 8
-pub above-eight : (v : ℕ) → 8 < v → between 1 8 v ≡ false
-above-eight v h = rw (lt-leb v 8 h) (and-false (leb 1 v))
+-- refusals 1 to 8 by their numbers
+module _ (n : ℕ) where
+  abbrev Lent : Bool → Type 0
+  Lent r = (v : Verdict) → n ≡ verdictNumber v → r ≡ isLent v
 
-pub below-one : (v : ℕ) → v < 1 → between 1 8 v ≡ false
-below-one v h = rw (lt-leb 1 v h)
+  lent-by : {r : Bool} → r ≡ between 1 8 n → Lent r
+  lent-by e v n-is = e ∙ ap (between 1 8) n-is ∙ sym (lent-numbers v)
+
+  pub within-eight : 1 ≤ n → n ≤ 8 → Lent true
+  within-eight h k = lent-by (rw (le-leb 1 n h, le-leb n 8 k))
+
+  pub above-eight : 8 < n → Lent false
+  above-eight h = lent-by (rw (lt-leb n 8 h) (sym (and-false (leb 1 n))))
+
+  pub below-one : n < 1 → Lent false
+  below-one h = lent-by (rw (lt-leb 1 n h))
 
 module _ (a c : Elaborated) (run again : Bytes) where
-  abbrev late : Bool
-  late = not (between 1 8 (a .verdict))
-
   abbrev accepts : Bool
   accepts = eqb (c .verdict) 0
 
@@ -57,46 +65,46 @@ module _ (a c : Elaborated) (run again : Bytes) where
   abbrev sameVisits : Bool
   sameVisits = eqb (c .visits) (a .visits)
 
-  abbrev compared : Bool
-  compared = late && (accepts && (sameSteps && (sameVisits && (eqb (c .tail) 0 && sameBytes again run))))
+  abbrev compared : Bool → Bool
+  compared early = not early && (accepts && (sameSteps && (sameVisits && (eqb (c .tail) 0 && sameBytes again run))))
 
   -- what `agree` answers
   abbrev Agrees : Bool → Type 0
   Agrees r =
       (x y : Answer) → a ≡ elaboratedOf x → c ≡ elaboratedOf y → run ≡ x .run → again ≡ y .run → r ≡ agree x y
 
-  compared-is : {r : Bool} → r ≡ compared → Agrees r
-  unfolding agree
-  compared-is e x y f g h k =
-      let numbered : isLent (x .verdict) ≡ between 1 8 (a .verdict) = rw f (lent-numbers (x .verdict)) in
-      e
-      ∙ ap (λ l. not l && (accepts && (sameSteps && (sameVisits && (eqb (c .tail) 0 && sameBytes again run)))))
-      (sym numbered)
-      ∙ rw (f, g, h, k)
+  -- early is whether the first verdict is one of refusals 1 to 8
+  module _ (early : Bool) (early-is : Lent (a .verdict) early) where
+    compared-is : {r : Bool} → r ≡ compared early → Agrees r
+    unfolding agree
+    compared-is e x y f g h k =
+        let numbered : early ≡ isLent (x .verdict) = early-is (x .verdict) (ap (λ z. z .verdict) f) in
+        e ∙ ap compared numbered ∙ rw (f, g, h, k)
 
-  pub agree-early : 1 ≤ a .verdict → a .verdict ≤ 8 → Agrees false
-  agree-early h k = compared-is (rw (le-leb 1 (a .verdict) h, le-leb (a .verdict) 8 k))
+    pub agree-early : early ≡ true → Agrees false
+    agree-early h = compared-is (rw h)
 
-  pub agree-refused : (c .verdict ≡ 0 → ⊥) → Agrees false
-  agree-refused h = compared-is (rw (ne-eqb (c .verdict) 0 h, and-false late))
+    pub agree-refused : (c .verdict ≡ 0 → ⊥) → Agrees false
+    agree-refused h = compared-is (rw (ne-eqb (c .verdict) 0 h, and-false (not early)))
 
-  pub agree-steps : (c .steps ≡ a .steps → ⊥) → Agrees false
-  agree-steps h = compared-is (rw (ne-eqb (c .steps) (a .steps) h, and-false accepts, and-false late))
+    pub agree-steps : (c .steps ≡ a .steps → ⊥) → Agrees false
+    agree-steps h = compared-is (rw (ne-eqb (c .steps) (a .steps) h, and-false accepts, and-false (not early)))
 
-  pub agree-visits : (c .visits ≡ a .visits → ⊥) → Agrees false
-  agree-visits h =
-      compared-is (rw (ne-eqb (c .visits) (a .visits) h, and-false sameSteps, and-false accepts, and-false late))
+    pub agree-visits : (c .visits ≡ a .visits → ⊥) → Agrees false
+    agree-visits h =
+        compared-is
+        (rw (ne-eqb (c .visits) (a .visits) h, and-false sameSteps, and-false accepts, and-false (not early)))
 
-  pub agree-tail : (c .tail ≡ 0 → ⊥) → Agrees false
-  agree-tail h =
-      compared-is
-      (rw (ne-eqb (c .tail) 0 h, and-false sameVisits, and-false sameSteps, and-false accepts, and-false late))
+    pub agree-tail : (c .tail ≡ 0 → ⊥) → Agrees false
+    agree-tail h =
+        compared-is
+        (rw (ne-eqb (c .tail) 0 h, and-false sameVisits, and-false sameSteps, and-false accepts, and-false (not early)))
 
-  pub agree-all :
-      between 1 8 (a .verdict) ≡ false → c .verdict ≡ 0 → c .steps ≡ a .steps → c .visits ≡ a .visits →
-      c .tail ≡ 0 → {r : Bool} → r ≡ sameBytes again run → Agrees r
-  agree-all early v s n t e =
-      compared-is (e ∙ rw (early, eq-eqb _ 0 v, eq-eqb _ _ s, eq-eqb _ _ n, eq-eqb _ 0 t))
+    pub agree-all :
+        early ≡ false → c .verdict ≡ 0 → c .steps ≡ a .steps → c .visits ≡ a .visits → c .tail ≡ 0 → {r : Bool} →
+        r ≡ sameBytes again run → Agrees r
+    agree-all late v s n t e =
+        compared-is (e ∙ rw (late, eq-eqb _ 0 v, eq-eqb _ _ s, eq-eqb _ _ n, eq-eqb _ 0 t))
 
 -- ---- the second marking
 

@@ -1,5 +1,5 @@
 -- Demand 3 on running code: a run is elaborated, its elaboration is marked again over book and tail, and the two
--- answers are compared. What the function `elaborate_again` answers, and what it leaves.
+-- answers are compared. What the function `elaborate_and_mark` answers, and what it leaves.
 use mathlib.Core.Path.{_≡_}
 use mathlib.Core.Bool.{Bool, true, false, _&&_, not}
 use mathlib.Core.List.{[], _++_}
@@ -7,10 +7,10 @@ use Prim.Native.Nat.{ℕ, _+_}
 use lib.Dec.{eqb, leb}
 use lib.ListN.{length}
 use Rattle.numbers.specs.Bytes.{Bytes}
-use Rattle.terms.specs.Book.{sameBytes}
+use Rattle.numbers.specs.Bytes.{sameBytes}
 use Rattle.elaborate.specs.Elaborate.{Answer, elaborate, writtenPart}
-use Rattle.runs.specs.Lent.{area, zeros}
-use Rattle.elaborate.specs.Memory.{Memory, answerTo, memoryAfter}
+use Rattle.runs.specs.Answers.{area, zeros}
+use Rattle.elaborate.specs.LentMemory.{Memory, answerTo, memoryAfter}
 use Rattle.runs.specs.Verdict.{Verdict, verdictNumber, isLent}
 
 -- what is lent beside the memory of `elaborate`: room for book and tail, and the out areas of the second marking

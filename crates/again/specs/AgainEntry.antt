@@ -1,4 +1,4 @@
--- What the entry point `elaborate_again` promises.
+-- What the entry point `elaborate_and_mark` promises.
 use mathlib.Core.Path.{_≡_}
 use mathlib.Core.Bool.{true, not}
 use Prim.Native.Nat.{ℕ, _+_, _≤_}
@@ -7,9 +7,9 @@ use lib.ListN.{length}
 use Rattle.rules.specs.Limits.{limited}
 use Rattle.runs.specs.Verdict.{isLent}
 use Rattle.runs.specs.Check.{mark}
-use Rattle.elaborate.specs.Memory.{Memory, answerTo}
+use Rattle.elaborate.specs.LentMemory.{Memory, answerTo}
 use Rattle.elaborate.specs.ElaborateEntry.{ElaborateDone}
-use Rattle.elaborate.specs.Demands.{NoSurplus}
+use Rattle.elaborate.specs.Statements.{NoSurplus}
 use Rattle.runs.specs.Run.{Every}
 use Rattle.again.specs.Again.{Second, agreesAgain, secondAfter}
 use Rattle.again.specs.declared.again.Twice.{Twice}

@@ -4,19 +4,23 @@ ghost use mathlib.Core.Path.{_≡_};
 ghost use Prim.Native.Nat.{_+_};
 ghost use lib.Dec.{leb};
 ghost use lib.ListN.{length};
+ghost use Rattle.runs.specs.Verdict.{Verdict, verdictNumber, isLent};
 ghost use Rattle.elaborate.specs.Elaborate.{Answer};
-ghost use Rattle.runs.specs.Lent.{area};
-ghost use Rattle.elaborate.specs.Memory.{Memory, answerTo, memoryAfter, lent};
-ghost use Rattle.elaborate.specs.OutMemory.{elaboratedOf};
+ghost use Rattle.runs.specs.Answers.{area};
+ghost use Rattle.elaborate.specs.LentMemory.{Memory, answerTo, memoryAfter, lent};
+ghost use Rattle.elaborate.specs.LentMemory.{elaboratedOf};
 ghost use Rattle.again.specs.Again.{second, joinedBook, agree, MarkedAgain};
 ghost use Rattle.again.specs.AgainEntry.{AgainDone};
 use elaborate::elaborate::Elaborated;
 use elaborate::elaborate::elaborate;
 use elaborate::elaborate::written;
-use elaborate::farkas::paste;
+use numbers::bytes::clear_from;
+use numbers::bytes::paste;
 use numbers::bytes::room;
-use runs::check::clear_from;
-use terms::book::same_bytes;
+use numbers::bytes::same_bytes;
+use runs::check::ACCEPTED;
+use terms::refusal::NO_ROOM;
+use terms::refusal::WORK_AREA_OR_LIMIT;
 
 pub struct Twice {
     // The answer to the elaboration.
@@ -44,6 +48,16 @@ fn join(book: &[u8], tail: &[u8], joined: &mut [u8]) -> bool
     false
 }
 
+// Refusals 1 to 8.
+fn is_lent(verdict: u8) -> bool
+    ensures { λ r. ⌜ ((v : Verdict) → verdict ≡ verdictNumber v → r ≡ isLent v) ⌝ }
+{
+    match verdict {
+        WORK_AREA_OR_LIMIT..=NO_ROOM => true,
+        _ => false,
+    }
+}
+
 // Whether the second marking accepts all, with the steps and visits of the first, and writes the same run and an empty
 // tail.
 fn agree(first: Elaborated, second: Elaborated, run: &[u8], again: &[u8]) -> bool
@@ -51,13 +65,10 @@ fn agree(first: Elaborated, second: Elaborated, run: &[u8], again: &[u8]) -> boo
         now (again .entry) ≡ c .run →
         r ≡ agree a c) ⌝ }
 {
-    let verdict = first.verdict;
-    if 1 <= verdict {
-        if verdict <= 8 {
-            return false;
-        }
+    if is_lent(first.verdict) {
+        return false;
     }
-    if second.verdict != 0 {
+    if second.verdict != ACCEPTED {
         return false;
     }
     if second.steps != first.steps {
@@ -102,7 +113,7 @@ fn mark_again(
 // Elaborates a run as `elaborate` does, joins book and tail, elaborates the written run over them, and says whether
 // both agree. It says yes where refusals 1 to 8 don't arise and no bounded_farkas step has more arguments than
 // literals, if `joined` has room for book and tail and the second out areas are as large as the first.
-pub fn elaborate_again(
+pub fn elaborate_and_mark(
     book: &[u8],
     run: &[u8],
     limit: u32,

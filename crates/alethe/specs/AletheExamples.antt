@@ -249,7 +249,8 @@ total = two 68 Or xBelowY yBelowX
 
 -- (= (* 2 (+ x y)) (+ (* 2 x) (* 2 y)))
 abbrev pub distributed : Term
-distributed = two 74 Equals (two 70 Mult twice (two 69 Add x y)) (two 73 Add (two 71 Mult twice x) (two 72 Mult twice y))
+distributed =
+    two 74 Equals (two 70 Mult twice (two 69 Add x y)) (two 73 Add (two 71 Mult twice x) (two 72 Mult twice y))
 
 -- K9: (= (bvmul #x80 (bvadd v v)) #x00)
 abbrev pub vanishing : Term
@@ -325,5 +326,7 @@ mixed = two 131 Equals xBelowY faLessFb
 -- ---- one name that opens all that the Alethe side's tests go through: a closed example says `unfolding alethe`
 
 unfoldable pub alethe : Unit {0}
-unfolding gcdWithin gcd lowest mulQ divQ addQ negQ absQ floorQ isInteger isZero isPositive lessQ lessEqQ if_then_else_ all gives sort timesEach coefficientOf allIntIn scaleEach timesOne multiply without occurs sameAtoms coefficientIn allTerms sumBound joined contradicts
+unfolding gcdWithin gcd lowest mulQ divQ addQ negQ absQ floorQ isInteger isZero isPositive lessQ lessEqQ if_then_else_
+    all gives sort timesEach coefficientOf allIntIn scaleEach timesOne multiply without occurs sameAtoms coefficientIn
+    allTerms sumBound joined contradicts
 alethe = tt

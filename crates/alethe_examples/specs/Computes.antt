@@ -3,7 +3,7 @@ use Rattle.numbers.specs.Rational.{mulQ, addQ, absQ, floorQ, isPositive, eqQ, l
 use Rattle.terms.specs.Readers.{asOp}
 use Rattle.terms.specs.BookExamples.{reads}
 use Rattle.rules.specs.Refusal.{_>>=_, assert, orElse}
-use Rattle.rules.specs.Limits.{ranged, times, plus, over, fractionOf, fractionErr, signedNumberErr}
+use Rattle.rules.specs.Limits.{ranged, times, plus, over, fractionOf, fractionErr, signedNumberErr, bitvectorErr, opErr}
 use Rattle.rules.specs.IndexMap
 use Rattle.rules.specs.IndexMap.{lastFirst, swapRemove, negAll, scaleAll, get, enter, insert, insertAll, add, neg, sub}
 use Rattle.rules.specs.IndexMap.{visit, addEntry, addConstant}
@@ -25,5 +25,14 @@ use Rattle.polynomial_walk.specs.PolynomialTerms
 use Rattle.polynomial_walk.specs.PolynomialTerms.{divisorOf}
 
 unfoldable pub rules : Unit {0}
-unfolding reads mulQ addQ absQ floorQ isPositive eqQ lessQ lessEqQ asOp _>>=_ assert orElse ranged times plus over fractionOf fractionErr signedNumberErr lastFirst swapRemove negAll scaleAll get enter insert insertAll add neg sub visit addEntry addConstant LinearComb.mul gcdFrom coefficientsGcd LinearComb.armOf LinearComb.addLeaf factorsOf LinearComb.addTerm LinearComb.fromTerm onlyLiteral bind bindAll solve solveAll hasForm laRwEq laDisequality laTotality negateOperator inner negateDisequality turned disequalityOf isIntegerTimes raised strengthen inferred argumentOf allInt processDisequality readArgs foldLiterals isTrueAtZero laGenericPartial laGeneric assertEq assertLessThan assertLessEq negatedBinary boundsCase tautologyCase laTautology sameMonomial place joined mulEach mulLeft insertScaled Polynomial.mul moduloAll reduced PolynomialTerms.armOf PolynomialTerms.addLeaf divisorOf PolynomialTerms.addTerm PolynomialTerms.fromTerm polySimp equated difference scaled assertSides bitvectorCase numberCase polySimpRel
+unfolding reads mulQ addQ absQ floorQ isPositive eqQ lessQ lessEqQ asOp _>>=_ assert orElse ranged times plus over
+    fractionOf fractionErr signedNumberErr bitvectorErr opErr lastFirst swapRemove negAll scaleAll get enter insert
+    insertAll add neg sub visit addEntry addConstant LinearComb.mul gcdFrom coefficientsGcd LinearComb.armOf
+    LinearComb.addLeaf factorsOf LinearComb.addTerm LinearComb.fromTerm onlyLiteral bind bindAll solve solveAll
+    hasForm laRwEq laDisequality laTotality negateOperator inner negateDisequality turned disequalityOf isIntegerTimes
+    raised strengthen inferred argumentOf allInt processDisequality readArgs foldLiterals isTrueAtZero
+    laGenericPartial laGeneric assertEq assertLessThan assertLessEq negatedBinary boundsCase tautologyCase laTautology
+    sameMonomial place joined mulEach mulLeft insertScaled Polynomial.mul moduloAll reduced PolynomialTerms.armOf
+    PolynomialTerms.addLeaf divisorOf PolynomialTerms.addTerm PolynomialTerms.fromTerm polySimp equated difference
+    scaled assertSides bitvectorCase numberCase polySimpRel
 rules = tt

@@ -7,11 +7,11 @@
 ghost use Prim.Native.Nat.{_*_, _≤_};
 ghost use lib.ListN.{length};
 use libc::STDOUT_FILENO;
+use numbers::bytes::byte;
 use numbers::bytes::read_u16;
 use numbers::bytes::write_u32;
 use terms::book::BookRead;
 use terms::book::book_number;
-use terms::book::byte;
 use terms::book::read_book;
 
 // A book of 2,050 records, two more than the most.

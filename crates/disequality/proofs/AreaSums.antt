@@ -15,13 +15,13 @@ use Rattle.rules.specs.Refusal.Outcome.{ok}
 use Rattle.rules.specs.Limits.{limited, plus}
 use Rattle.rules.specs.IndexMap.{Map, combination, insertAll, add, neg}
 use Rattle.linear_comb.specs.LinearComb.{LinearComb}
-use Rattle.rules.specs.Entries.{terms, Inserts, blanked}
-use Rattle.linear_comb.specs.WorkArea.{Sum, combOf, KeptSum, Sums, Area, areaOf, withArea, OnlyArea, signedAll, signedQ}
-use Rattle.linear_comb.specs.WorkArea.{signedComb}
+use Rattle.rules.specs.memory.Entries.{terms, Inserts, blanked}
+use Rattle.linear_comb.specs.memory.WorkArea.{Sum, combOf, KeptSum, Combines, Area, areaOf, withArea, OnlyArea}
+use Rattle.linear_comb.specs.memory.WorkArea.{sumBytes, signedAll, signedQ, signedComb}
 use Rattle.rules.specs.declared.index_map.Inserted.{Inserted}
 use Rattle.rules.specs.declared.index_map.Inserted.the-variants.{Length, OutOfRange}
-use Rattle.linear_comb.specs.declared.linear_comb.Summed.{Summed}
-use Rattle.linear_comb.specs.declared.linear_comb.Summed.the-variants as summed
+use Rattle.linear_comb.specs.declared.linear_comb.Combined.{Combined}
+use Rattle.linear_comb.specs.declared.linear_comb.Combined.the-variants as combined
 use Rattle.rules.proofs.CheckedNumbers.{plus-value, plus-out}
 use Rattle.rules.proofs.NumberedKeys.{length-blanked}
 use Rattle.rules.proofs.StoredEntries.{clear-all}
@@ -44,12 +44,12 @@ add-parts false l m r c d = refl
 
 -- x has the bytes once the entries' insertion has answered d
 module _ {bk x : Bytes} {d : Result (Map Term)} (l : ℕ) (c e : Rational) where
-  sums-refused : Inserts bk x OutOfRange d → Sums bk x summed.OutOfRange (d >>= Then l c e)
+  sums-refused : Inserts bk x OutOfRange d → Combines bk x combined.OutOfRange (d >>= Then l c e)
   unfolding _>>=_
   sums-refused i = record { map = i .map; held = i .held; is = (rw (i .is .0), i .is .1) }
 
   module _ {n : ℕ} (i : Inserts bk x (Length n) d) (r : Checked) (made : Gives r (checked (addQ c e))) where
-    sums-out : r ≡ answer.OutOfRange → Sums bk (blanked n x) summed.OutOfRange (d >>= Then l c e)
+    sums-out : r ≡ answer.OutOfRange → Combines bk (blanked n x) combined.OutOfRange (d >>= Then l c e)
     unfolding _>>=_
     sums-out out =
         record {
@@ -60,7 +60,7 @@ module _ {bk x : Bytes} {d : Result (Map Term)} (l : ℕ) (c e : Rational) where
 
     sums-sum :
         (q : Rational) → r ≡ answer.Value q →
-        Sums bk x (summed.Sum (record { len = n; constant = q })) (d >>= Then l c e)
+        Combines bk x (combined.Is (record { len = n; constant = q })) (d >>= Then l c e)
     unfolding _>>=_
     sums-sum q value =
         record {
@@ -72,11 +72,11 @@ module _ {bk x : Bytes} {d : Result (Map Term)} (l : ℕ) (c e : Rational) where
 -- ---- the answers
 
 -- what the answer r says, with the bytes w that are left
-abbrev pub Added : Bytes → ℕ → Sum → ℕ → Sum → Bool → Bytes → Summed → Type 0
+abbrev pub Added : Bytes → ℕ → Sum → ℕ → Sum → Bool → Bytes → Combined → Type 0
 Added w₀ to a from b turned w r =
     OnlyArea to w₀ w
     × ((bk : Bytes) → KeptSum bk (areaOf to w₀) a → KeptSum bk (areaOf from w₀) b → (l : ℕ) →
-    Sums bk (areaOf to w) r
+    Combines bk (areaOf to w) r
     (add terms (limited l) (combOf bk (areaOf to w₀) a) (signedComb turned (combOf bk (areaOf from w₀) b))))
 
 -- the entries' insertion answers r and leaves the bytes w
@@ -90,7 +90,7 @@ module _
     (w : Bytes)
     (r : Inserted)
     (all : InsertedAll w₀ to (a .len) from (b .len) turned w r) where
-  pub added-refused : r ≡ OutOfRange → Added w₀ to a from b turned w summed.OutOfRange
+  pub added-refused : r ≡ OutOfRange → Added w₀ to a from b turned w combined.OutOfRange
   added-refused e = (
     all .0 .1,
     λ bk kept kept′ l.
@@ -107,7 +107,7 @@ module _
       (made : Gives s (checked (addQ (a .constant) v))) where
     pub added-sum :
         (q : Rational) → s ≡ answer.Value q →
-        Added w₀ to a from b turned w (summed.Sum (record { len = len; constant = q }))
+        Added w₀ to a from b turned w (combined.Is (record { len = len; constant = q }))
     added-sum q value = (
       all .0 .1,
       λ bk kept kept′ l.
@@ -117,10 +117,11 @@ module _
 
     pub added-out :
         Area to w₀ → length w ≡ length w₀ → s ≡ answer.OutOfRange → (w′ : Bytes) →
-        w′ ≡ withArea to (blanked len (areaOf to w)) w → Added w₀ to a from b turned w′ summed.OutOfRange
+        w′ ≡ withArea to (blanked len (areaOf to w)) w → Added w₀ to a from b turned w′ combined.OutOfRange
     added-out area size out w′ is =
         let area-w : Area to w = record { size = size ∙ area .size; among = area .among } in
-        let long : length (blanked len (areaOf to w)) ≡ 20480 = length-blanked len (areaOf to w) ∙ area-length area-w in
+        let long : length (blanked len (areaOf to w)) ≡ sumBytes =
+        length-blanked len (areaOf to w) ∙ area-length area-w in
         let empty : areaOf to w′ ≡ blanked len (areaOf to w) = given-area area-w _ long is in (
           only-then area (all .0 .1) (given-only area-w _ long is),
           λ bk kept kept′ l.

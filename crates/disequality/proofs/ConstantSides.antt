@@ -21,20 +21,20 @@ use Rattle.terms.specs.Readers.{asNumber, quotientOf, asUnsignedFraction, asFra
 use Rattle.numbers.specs.declared.number.Checked.{Checked}
 use Rattle.numbers.specs.declared.number.Checked.the-variants as answer
 use Rattle.terms.specs.declared.term.Reading.the-variants.{Value}
-use Rattle.rules.specs.StoredMaps as maps
-use Rattle.rules.specs.Refusal.{Result, _>>=_, assert}
+use Rattle.rules.specs.memory.StoredMaps as maps
+use Rattle.rules.specs.Refusal.{number, Result, _>>=_, assert}
 use Rattle.rules.specs.Refusal.Outcome.{ok}
 use Rattle.rules.specs.Refusal.Refusal.{numberRange}
 use Rattle.rules.specs.Limits.{Limits, limited, times, fractionOf}
 use Rattle.rules.specs.IndexMap.{combination, new, Walked, walked, visit, addConstant, sub}
 use Rattle.linear_comb.specs.LinearComb.{addTerm, addLeaf, fromTerm}
 use Rattle.disequality.specs.Disequality.{turned}
-use Rattle.linear_comb.specs.WorkArea.{Sum, combOf, KeptSum, Walks, Apart, areaOf, withArea, OnlyArea}
-use Rattle.rules.specs.Entries.{entriesOf, blanked, Held}
-use Rattle.disequality.specs.DisequalitySteps.{constantSide, subtracted, SubtractedLeft, LiteralLeft}
+use Rattle.linear_comb.specs.memory.WorkArea.{Sum, combOf, KeptSum, Walks, Apart, areaOf, withArea, OnlyArea}
+use Rattle.rules.specs.memory.Entries.{entriesOf, blanked, Held}
+use Rattle.disequality.specs.memory.DisequalitySteps.{constantSide, subtracted, SubtractedLeft, LiteralLeft}
 use Rattle.rules.specs.declared.index_map.Inserted.the-variants.{Length}
-use Rattle.linear_comb.specs.declared.linear_comb.Summed.the-variants as summed
-use Rattle.linear_comb.specs.declared.linear_comb.Walk.the-variants.{Done, Refused}
+use Rattle.linear_comb.specs.declared.linear_comb.Combined.the-variants as combined
+use Rattle.linear_comb.specs.declared.linear_walk.Walk.the-variants.{Done, Refused}
 use Rattle.disequality.specs.declared.disequality.Disequality as by-value
 use Rattle.disequality.specs.declared.disequality.Literal.the-variants as literal
 use Rattle.rules.proofs.Results.{refuses}
@@ -45,7 +45,7 @@ use Rattle.linear_comb.proofs.AreaSteps.{in-first, both-apart}
 use Rattle.disequality.proofs.InsertLoops.{InsertedAll, inserting-none, inserting-done}
 use Rattle.disequality.proofs.AreaSums.{Added, added-sum, added-out}
 use Rattle.linear_comb.proofs.WalkSteps.{constant-out, constant-added}
-use Rattle.disequality.proofs.SidesAreas.{out-of-range, subtracted-left}
+use Rattle.disequality.proofs.SubtractedSides.{out-of-range, subtracted-left}
 
 -- ---- the walk of a number
 
@@ -88,7 +88,7 @@ module _ {b w : Bytes} (held : Held b w []) where
     product-is : r ≡ checked (mulQ q (whole (pos 1)))
     product-is = product .is ∙ ap (λ (x : Rational). checked (mulQ q x)) one-is
 
-    pub product-out : r ≡ answer.OutOfRange → Walks b w (Refused 11) (constantSide (limited l) q v)
+    pub product-out : r ≡ answer.OutOfRange → Walks b w (Refused (number numberRange)) (constantSide (limited l) q v)
     unfolding constantSide _>>=_
     product-out e =
         let no = times-out l q (whole (pos 1)) (sym product-is ∙ e) in
@@ -105,7 +105,7 @@ module _ {b w : Bytes} (held : Held b w []) where
       start : KeptSum b w (record { len = 0; constant = whole (pos 0) })
       start = plain (whole-proper (pos 0) (lit≤ tt))
 
-      pub sum-out : s ≡ answer.OutOfRange → Walks b w (Refused 11) (constantSide (limited l) q v)
+      pub sum-out : s ≡ answer.OutOfRange → Walks b w (Refused (number numberRange)) (constantSide (limited l) q v)
       unfolding entriesOf maps.blanked
       sum-out out = rw then (constant-out start l v c s (rw zero-is at sum) out refl)
 
@@ -148,11 +148,11 @@ module _
 
   pub bounded-out :
       {w′ : Bytes} → r ≡ answer.OutOfRange → w′ ≡ withArea 1 (blanked (s .len) (areaOf 1 w)) w →
-      SubtractedLeft b w w′ (literal.Refused 11)
+      SubtractedLeft b w w′ (literal.Refused (number numberRange))
       (subtracted (limited l) o (combOf b (areaOf 1 w) s) (combination [] d) n)
   unfolding entriesOf sub
   bounded-out {w′} e clear =
-      let added : Added w 1 s 2 right true w′ summed.OutOfRange =
+      let added : Added w 1 s 2 right true w′ combined.OutOfRange =
       added-out w 1 s 2 right true w _ none-inserted _ refl v v-is r sum (apart .first) refl e w′ clear in
       out-of-range apart left right-kept (added .0) (stays (added .0)) o n (limited l)
       (added .1 b left right-kept l)
@@ -168,7 +168,7 @@ module _
   unfolding entriesOf sub
   bounded-left {c} value turn turning =
       let same = only-none (apart .first) in
-      let added : Added w 1 s 2 right true w (summed.Sum (record { len = s .len; constant = c })) =
+      let added : Added w 1 s 2 right true w (combined.Is (record { len = s .len; constant = c })) =
       added-sum w 1 s 2 right true w _ none-inserted _ refl v v-is r sum c value in
       subtracted-left apart left right-kept same (stays same) o n (limited l) (added .1 b left right-kept l) turn
       turning

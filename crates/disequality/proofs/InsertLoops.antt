@@ -16,8 +16,8 @@ use Rattle.rules.specs.Refusal.{Result, _>>=_, assert}
 use Rattle.rules.specs.Refusal.Outcome.{ok}
 use Rattle.rules.specs.Limits.{limited}
 use Rattle.rules.specs.IndexMap.{Map, negAll, insert, insertAll}
-use Rattle.rules.specs.Entries.{terms, entriesOf, Grown, absent, Good, Held, Kept, Inserts}
-use Rattle.linear_comb.specs.WorkArea.{areaOf, OnlyArea, Apart, signedAll, signedQ}
+use Rattle.rules.specs.memory.Entries.{slots, terms, entriesOf, Grown, absent, Good, Held, Kept, Inserts}
+use Rattle.linear_comb.specs.memory.WorkArea.{mostEntries, areaOf, OnlyArea, Apart, signedAll, signedQ}
 use Rattle.rules.specs.declared.index_map.Inserted.{Inserted}
 use Rattle.rules.specs.declared.index_map.Inserted.the-variants.{Length, OutOfRange}
 use Rattle.rules.proofs.KeyedMaps.{insert-zero, insert-missing}
@@ -123,14 +123,14 @@ Whole w₀ to n from m turned b l =
 -- what the answer r says, with the bytes w that are left
 abbrev pub InsertedAll : Bytes → ℕ → ℕ → ℕ → ℕ → Bool → Bytes → Inserted → Type 0
 InsertedAll w₀ to n from m turned w r =
-    (Grown 4095 r × OnlyArea to w₀ w)
+    (Grown (mostEntries - 1) r × OnlyArea to w₀ w)
     × ((b : Bytes) → Kept b (areaOf to w₀) n → Kept b (areaOf from w₀) m → (l : ℕ) →
     Inserts b (areaOf to w) r (Whole w₀ to n from m turned b l))
 
 pub record Inserting (w₀ : Bytes) (to n from m : ℕ) (turned : Bool) (w : Bytes) (len k : ℕ) : Type 0 where
   pub apart : Apart to from w₀
   pub inside : k ≤ m
-  pub few : len + (m - k) ≤ 4096
+  pub few : len + (m - k) ≤ mostEntries
   pub size : length w ≡ length w₀
   pub only : OnlyArea to w₀ w
   pub left :
@@ -147,7 +147,7 @@ all-new {b} {x} kept kept′ none =
     rw (empty, kept-entries kept′) (kept′ .held .good)
 
 pub inserting-none :
-    {w₀ : Bytes} {to n from m : ℕ} {turned : Bool} → Apart to from w₀ → n ≤ 2048 → m ≤ 2048 →
+    {w₀ : Bytes} {to n from m : ℕ} {turned : Bool} → Apart to from w₀ → n ≤ slots → m ≤ slots →
     Inserting w₀ to n from m turned w₀ n 0
 inserting-none apart few few′ =
     record {

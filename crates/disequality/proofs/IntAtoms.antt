@@ -11,7 +11,7 @@ use Rattle.numbers.specs.Bytes.{Bytes, le}
 use Rattle.terms.specs.Term.{recordNumber, sort, sortCode}
 use Rattle.terms.specs.Book.{count, SortsBelow}
 use Rattle.linear_comb.specs.LinearComb.{allInt}
-use Rattle.rules.specs.Entries.{entriesOf, Kept}
+use Rattle.rules.specs.memory.Entries.{entriesOf, Kept}
 use Rattle.linear_comb.proofs.EntryPlaces.{kept-at, all-behind}
 
 -- w's first bytes are sorts, x are the bytes of an area of n entries

@@ -9,4 +9,5 @@ pub mod ConstantSides
 -- steps of the rules in memory
 pub mod Relations
 pub mod StrengthenAnswers
+pub mod SubtractedSides
 pub mod SidesAreas

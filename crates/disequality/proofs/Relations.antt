@@ -12,7 +12,7 @@ use borrow.Author.Tests.{le-leb, lt-leb, ltb-true, ne-eqb}
 use lib.Dec.{eqb, ltb}
 use lib.ListN.{length}
 use Rattle.numbers.specs.Bytes.{Bytes}
-use Rattle.terms.specs.Operator.{Not, LessThan, LessEq, GreaterThan, GreaterEq}
+use Rattle.terms.specs.Operator.{Not, Equals, LessThan, LessEq, GreaterThan, GreaterEq}
 use Rattle.terms.specs.Term.{Term, Terms, recordNumber, unary}
 use Rattle.numbers.specs.Choice.{if_then_else_}
 use Rattle.terms.specs.Term.Term.{op}
@@ -22,17 +22,17 @@ use Rattle.terms.specs.Readers.{Child, found, asOp, operatorOf, argumentsOf, re
 use Rattle.terms.specs.declared.term.Only.{Only}
 use Rattle.terms.specs.declared.term.Only.the-variants as only
 use Rattle.numbers.proofs.Truths.{both}
-use Rattle.terms.proofs.Records.{earlier-before, forest-of-two}
+use Rattle.terms.proofs.RecordBytes.{earlier-before, forest-of-two}
 use Rattle.terms.proofs.Readings.{unary-shape}
 use Rattle.terms.proofs.BookTerms.{recordNumber-tree}
 use Rattle.terms.proofs.RecordReadings.{argumentsOf-record}
-use Rattle.rules.specs.Refusal.{Result, _>>=_, orElse}
+use Rattle.rules.specs.Refusal.{number, Result, _>>=_, orElse}
 use Rattle.rules.specs.Refusal.Outcome.{ok, refused}
 use Rattle.rules.specs.Refusal.Refusal.{invalidDisequalityOp, tooManyArgsInDisequality}
 use Rattle.rules.specs.Shapes.{size, isRelation}
 use Rattle.disequality.specs.Disequality.{negateOperator, inner, twoSides}
-use Rattle.rules.specs.Parts.{Refuses, Laid}
-use Rattle.disequality.specs.DisequalitySteps.{orZero, InnerIs, relationOf, RelationIs}
+use Rattle.rules.specs.memory.Parts.{Refuses, Laid}
+use Rattle.disequality.specs.memory.DisequalitySteps.{orZero, InnerIs, relationOf, RelationIs}
 use Rattle.disequality.specs.declared.disequality.Operation.{Operation}
 use Rattle.disequality.specs.declared.disequality.Operation.the-variants as operation
 use Rattle.disequality.specs.declared.disequality.Relation.the-variants as relation
@@ -85,10 +85,11 @@ abbrev argumentsIn : Option (ℕ × Terms) → Terms
 argumentsIn m = elim m [ some p ↦ p .1 | none ↦ nil ]
 
 is-relation :
-    (m : Option (ℕ × Terms)) (o : ℕ) → o ≡ operatorIn m → 4 ≤ o → o ≤ 8 → relationIn m ≡ some (o, argumentsIn m)
+    (m : Option (ℕ × Terms)) (o : ℕ) → o ≡ operatorIn m → Equals ≤ o → o ≤ GreaterEq →
+    relationIn m ≡ some (o, argumentsIn m)
 is-relation none o e h k = absurd (omega arith)
 is-relation (some p) o e h k =
-    rw (← e, relationIn, le-leb 4 o h, le-leb o 8 k) (ap (λ (q : ℕ). some (q, p .1)) (sym e))
+    rw (← e, relationIn, le-leb Equals o h, le-leb o GreaterEq k) (ap (λ (q : ℕ). some (q, p .1)) (sym e))
 
 no-relation : (m : Option (ℕ × Terms)) → isRelation (operatorIn m) ≡ false → relationIn m ≡ none
 no-relation none e = refl
@@ -170,7 +171,7 @@ module _ (b : Bytes) (i : ℕ) {r : Only} (n : Child b i r (removeNegation (tree
         omega (arith, lower)
 
     pub negated-relation :
-        {o : ℕ} → Laid b × (i < count b) → o ≡ operatorOf (tree b x) → 4 ≤ o → o ≤ 8 →
+        {o : ℕ} → Laid b × (i < count b) → o ≡ operatorOf (tree b x) → Equals ≤ o → o ≤ GreaterEq →
         InnerIs b (operation.Of o x) (inner (tree b i))
     negated-relation {o} (laid, inside) o-is h k =
         (inner-is ∙ is-relation (asOp (tree b x)) o o-is h k, negated-below laid inside)
@@ -178,13 +179,13 @@ module _ (b : Bytes) (i : ℕ) {r : Only} (n : Child b i r (removeNegation (tree
     negated-other : isRelation (operatorOf (tree b x)) ≡ false → inner (tree b i) ≡ none
     negated-other h = inner-is ∙ no-relation (asOp (tree b x)) h
 
-    pub negated-low : {o : ℕ} → o ≡ operatorOf (tree b x) → o < 4 → inner (tree b i) ≡ none
-    negated-low {o} o-is h = negated-other (rw (← o-is, lt-leb 4 o h))
+    pub negated-low : {o : ℕ} → o ≡ operatorOf (tree b x) → o < Equals → inner (tree b i) ≡ none
+    negated-low {o} o-is h = negated-other (rw (← o-is, lt-leb Equals o h))
 
-    pub negated-high : {o : ℕ} → o ≡ operatorOf (tree b x) → 4 ≤ o → 8 < o → inner (tree b i) ≡ none
-    negated-high {o} o-is h k = negated-other (rw (← o-is, le-leb 4 o h, lt-leb o 8 k))
+    pub negated-high : {o : ℕ} → o ≡ operatorOf (tree b x) → Equals ≤ o → GreaterEq < o → inner (tree b i) ≡ none
+    negated-high {o} o-is h k = negated-other (rw (← o-is, le-leb Equals o h, lt-leb o GreaterEq k))
 
-  module _ (e : r ≡ only.Neither) {o p : ℕ} (o-is : o ≡ operatorOf (tree b i))
+  module _ (e : r ≡ only.NotOne) {o p : ℕ} (o-is : o ≡ operatorOf (tree b i))
       (p-is : p ≡ orZero (negateOperator o)) where
     plain : inner (tree b i) ≡ negatedIn (asOp (tree b i))
     plain = plain-inner (tree b i) (sym (n .is) ∙ ap (found b) e)
@@ -212,7 +213,7 @@ abbrev withSides : ℕ → Result (Term × Term) → Result (ℕ × Term × Term
 withSides o m = m >>= λ p. ok (o, p .0, p .1)
 
 module _ (b : Bytes) (i : ℕ) {r : Operation} (n : InnerIs b r (inner (tree b i))) where
-  pub no-relation-of : r ≡ operation.Neither → Refuses 26 (relationOf (tree b i))
+  pub no-relation-of : r ≡ operation.NoRelation → Refuses (number invalidDisequalityOp) (relationOf (tree b i))
   unfolding relationOf orElse _>>=_
   no-relation-of e =
       let is : inner (tree b i) ≡ none = subst (λ (r : Operation). InnerIs b r (inner (tree b i))) e n in
@@ -227,7 +228,7 @@ module _ (b : Bytes) (i : ℕ) {r : Operation} (n : InnerIs b r (inner (tree b i
     unfolding relationOf orElse _>>=_
     relation-is = rw (operation-is .0, relationOf)
 
-    pub other-sides : (length args / 2 ≡ 2 → ⊥) → Refuses 27 (relationOf (tree b i))
+    pub other-sides : (length args / 2 ≡ 2 → ⊥) → Refuses (number tooManyArgsInDisequality) (relationOf (tree b i))
     unfolding _>>=_
     other-sides h =
         let many = not-two-sides (argumentsOf (tree b x)) (λ k. h (counted (tree b x) b x args args-is ∙ k)) in

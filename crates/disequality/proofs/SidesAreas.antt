@@ -1,51 +1,43 @@
--- A literal's two sides in areas 1 and 2: what `negate_disequality`, `turned`, `subtracted` and `disequality_of` leave
--- there. Each call changes one of the two areas, so both are followed together. Each way of returning has its lemma,
--- from what the calls before it have promised.
-use mathlib.Core.Path.{_≡_, refl, sym, ap, subst, _∙_}
-use mathlib.Core.Logic.{_≢_}
-use mathlib.Core.List.{[], _∷_}
-use Prim.Native.Nat.{ℕ, suc}
+-- A literal's two sides in their areas: what `negate_disequality` and `disequality_of` leave there. Each call changes
+-- one of the two areas, so both are followed together. Each way of returning has its lemma, from what the calls before
+-- it have promised.
+use mathlib.Core.Path.{_≡_, refl, sym, subst, _∙_}
+use mathlib.Core.List.{[]}
+use Prim.Native.Nat.{ℕ}
 use native.Mathlib.Omega.{arith}
-use borrow.Author.Tests.{ne-eqb}
 use lib.ListN.{length}
-use Rattle.numbers.specs.Rational.{Rational, Makes, negQ}
 use Rattle.numbers.specs.Bytes.{Bytes}
-use Rattle.terms.specs.Operator.{LessThan, LessEq, GreaterThan, GreaterEq}
 use Rattle.terms.specs.Term.{Term, Terms}
-use Rattle.numbers.specs.Choice.{if_then_else_}
 use Rattle.terms.specs.Book.{tree}
-use Rattle.numbers.proofs.Ranges.{proper-neg}
 use Rattle.rules.specs.Refusal.{Result, _>>=_, orElse}
 use Rattle.rules.specs.Refusal.Outcome.{ok}
-use Rattle.rules.specs.Refusal.Refusal.{numberRange, invalidDisequalityOp}
+use Rattle.rules.specs.Refusal.Refusal.{invalidDisequalityOp}
 use Rattle.rules.specs.Limits.{Limits}
-use Rattle.rules.specs.IndexMap.{Map, combination, negAll, neg, sub}
-use Rattle.linear_comb.specs.LinearComb.{LinearComb, fromTerm}
-use Rattle.rules.specs.Entries.{terms, slots, stored, entriesOf, blanked, Held, Kept}
-use Rattle.disequality.specs.Disequality.{inner, twoSides, negateDisequality, turned, Disequality, disequalityOf}
-use Rattle.linear_comb.specs.WorkArea.{Sum, combOf, KeptSum, negated, Sums, Walks, Area, Apart, areaOf, withArea}
-use Rattle.linear_comb.specs.WorkArea.{OnlyArea, SumHas}
-use Rattle.rules.specs.Parts.{Refuses}
-use Rattle.disequality.specs.DisequalitySteps.{Between, relationOf, RelationIs, SidesLeft, LiteralIs, LiteralLeft}
-use Rattle.disequality.specs.DisequalitySteps.{subtracted, SubtractedLeft}
-use Rattle.linear_comb.specs.declared.linear_comb.Summed.the-variants as summed
-use Rattle.linear_comb.specs.declared.linear_comb.Walk.the-variants.{Done, Refused}
+use Rattle.linear_comb.specs.LinearComb.{fromTerm}
+use Rattle.rules.specs.memory.Entries.{slots, stored, blanked, Held, Kept}
+use Rattle.disequality.specs.Disequality.{inner, twoSides, negateDisequality, disequalityOf}
+use Rattle.linear_comb.specs.memory.WorkArea.{Sum, combOf, KeptSum, Walks, Apart, areaOf, withArea}
+use Rattle.linear_comb.specs.memory.WorkArea.{OnlyArea}
+use Rattle.linear_comb.specs.memory.WorkArea.{workBytes}
+use Rattle.rules.specs.memory.Parts.{Refuses}
+use Rattle.disequality.specs.memory.DisequalitySteps.{Between, relationOf, RelationIs, SidesLeft}
+use Rattle.disequality.specs.memory.DisequalitySteps.{LiteralIs, LiteralLeft, subtracted, SubtractedLeft}
+use Rattle.linear_comb.specs.declared.linear_walk.Walk.the-variants.{Done, Refused}
 use Rattle.disequality.specs.declared.disequality.Relation.the-variants as relation
 use Rattle.disequality.specs.declared.disequality.Sides.{Sides}
 use Rattle.disequality.specs.declared.disequality.Sides.the-variants as sides
-use Rattle.disequality.specs.declared.disequality.Disequality as by-value
 use Rattle.disequality.specs.declared.disequality.Literal.{Literal}
 use Rattle.disequality.specs.declared.disequality.Literal.the-variants as literal
-use Rattle.rules.proofs.Results.{bind-same, bind-assoc, refuses, refuses-as}
-use Rattle.rules.proofs.StoredEntries.{held-length, kept-entries}
-use Rattle.linear_comb.proofs.Areas.{empty-length, empty-held, only-none}
+use Rattle.rules.proofs.Results.{bind-same, bind-assoc, refuses-as}
+use Rattle.rules.proofs.StoredEntries.{held-length}
+use Rattle.linear_comb.proofs.Areas.{empty-length, empty-held}
 use Rattle.linear_comb.proofs.AreaSteps.{kept-sum, sum-comb, answer-has, emptied-held, emptied-only, two-areas, Both}
-use Rattle.linear_comb.proofs.AreaSteps.{both-then, both-none, both-apart, then-first, then-second, second-emptied}
-use Rattle.linear_comb.proofs.AreaSteps.{in-first, both-read, both-first, both-written, both-only}
+use Rattle.linear_comb.proofs.AreaSteps.{both-then, both-none, both-apart, then-first, then-second}
+use Rattle.linear_comb.proofs.AreaSteps.{in-first, both-read, both-first, both-only}
 
 -- ---- both areas
 
-pub in-both : {w : Bytes} → length w ≡ 65536 → Apart 1 2 w
+pub in-both : {w : Bytes} → length w ≡ workBytes → Apart 1 2 w
 in-both size = two-areas size (omega arith) (omega arith) (λ e. omega arith)
 
 -- ---- negate_disequality
@@ -149,112 +141,6 @@ module _ {b w : Bytes} (between : Between b w) where
                 (answer-has (left .is .1), answer-has (right .is .1)),
               );
             }
-
--- ---- turned
-
-neg-length : (m : Map Term) → length (negAll m) ≡ length m
-unfolding negAll
-neg-length [] = refl
-neg-length (e ∷ m) = ap suc (neg-length m)
-
--- an operator and a combination by value, and the visits
-abbrev is-now : ℕ → Sum → ℕ → Literal
-is-now o s n = literal.Is (record { operator = o; sum = s; visits = n })
-
-module _ {b w : Bytes} {s : Sum} (a : Area 1 w) (kept : KeptSum b (areaOf 1 w) s) (o n : ℕ) where
-  pub as-it-is :
-      o ≢ LessThan → o ≢ LessEq →
-      LiteralLeft b w w (is-now o s n) (ok (turned o (combOf b (areaOf 1 w) s) n))
-  unfolding turned if_then_else_
-  as-it-is not-less not-less-eq =
-      record {
-        map = kept .kept .map;
-        held = kept .kept .held;
-        only = only-none a;
-        is = (
-          rw (turned, ne-eqb o LessThan not-less, ne-eqb o LessEq not-less-eq, kept-entries (kept .kept)),
-          record { size = kept .kept .size; proper = kept .proper },
-        );
-      }
-
-  module _
-      {w′ : Bytes} {r : Sum} (is : r ≡ negated s) (only : OnlyArea 1 w w′)
-      (held : Held b (areaOf 1 w′) (negAll (entriesOf b (areaOf 1 w) (s .len)))) where
-    has : SumHas r (negAll (entriesOf b (areaOf 1 w) (s .len)))
-    has =
-        rw is
-        record {
-          size = kept .kept .size ∙ ap length (sym (kept-entries (kept .kept))) ∙ sym (neg-length _);
-          proper = proper-neg (kept .proper);
-        }
-
-    pub from-less :
-        o ≡ LessThan → LiteralLeft b w w′ (is-now GreaterThan r n) (ok (turned o (combOf b (areaOf 1 w) s) n))
-    unfolding turned if_then_else_ neg
-    from-less less = record { map = _; held = held; only = only; is = (rw (turned, less, is), has) }
-
-    pub from-less-eq :
-        o ≡ LessEq → LiteralLeft b w w′ (is-now GreaterEq r n) (ok (turned o (combOf b (areaOf 1 w) s) n))
-    unfolding turned if_then_else_ neg
-    from-less-eq less = record { map = _; held = held; only = only; is = (rw (turned, less, is), has) }
-
--- ---- subtracted
-
-module _
-    {b w w₁ w₂ : Bytes} {s t : Sum} (a : Apart 1 2 w) (left : KeptSum b (areaOf 1 w) s)
-    (right : KeptSum b (areaOf 2 w) t) (only₁ : OnlyArea 1 w w₁)
-    (clear : w₂ ≡ withArea 2 (blanked (t .len) (areaOf 2 w₁)) w₁) where
-  so-far : Both 1 2 w (areaOf 1 w₁) (stored slots []) w₂
-  so-far = second-emptied a (in-first a only₁) (right .kept) clear
-
-  module _ (o n : ℕ) (l : Limits) where
-    abbrev difference : Result LinearComb
-    difference = sub terms l (combOf b (areaOf 1 w) s) (combOf b (areaOf 2 w) t)
-
-    abbrev result : Result Disequality
-    result = subtracted l o (combOf b (areaOf 1 w) s) (combOf b (areaOf 2 w) t) n
-
-    pub out-of-range :
-        Sums b (areaOf 1 w₁) summed.OutOfRange difference → SubtractedLeft b w w₂ (literal.Refused 11) result
-    unfolding subtracted _>>=_
-    out-of-range out =
-        record {
-          map = out .map;
-          held = rw (so-far .first) (out .held);
-          only = both-written a so-far;
-          is = (refuses numberRange (rw (subtracted, out .is .0)), out .is .1);
-        }
-
-    -- the constant on the right
-    module _
-        {d : Sum} (sum : Sums b (areaOf 1 w₁) (summed.Sum d) difference) {q : Rational}
-        (turn : Makes q (negQ (d .constant))) where
-      abbrev over : Sum
-      over = record { len = d .len; constant = q }
-
-      over-held : Held b (areaOf 1 w₂) (sum .map)
-      over-held = rw (so-far .first) (sum .held)
-
-      over-has : SumHas over (sum .map)
-      over-has = record { size = sum .is .1 .0; proper = turn .proper }
-
-      over-is : combination (sum .map) (negQ (d .constant)) ≡ combOf b (areaOf 1 w₂) over
-      over-is = ap (combination (sum .map)) (sym (turn .is)) ∙ sym (sum-comb over-held over-has)
-
-      pub subtracted-left :
-          {w₃ : Bytes} {e : by-value.Disequality} →
-          (KeptSum b (areaOf 1 w₂) over →
-          LiteralLeft b w₂ w₃ (literal.Is e) (ok (turned o (combOf b (areaOf 1 w₂) over) n))) →
-          SubtractedLeft b w w₃ (literal.Is e) result
-      unfolding subtracted _>>=_
-      subtracted-left turning =
-          let last = turning (kept-sum over-held over-has) in
-          record {
-            map = last .map;
-            held = last .held;
-            only = both-written a (then-first a so-far (last .only));
-            is = (rw (subtracted, sum .is .0) (ap (λ x. ok (turned o x n)) over-is ∙ last .is .0), last .is .1);
-          }
 
 -- ---- disequality_of
 

@@ -22,9 +22,9 @@ use Rattle.rules.specs.Limits.{limited}
 use Rattle.rules.specs.IndexMap.{Map, combination}
 use Rattle.linear_comb.specs.LinearComb.{LinearComb, coefficientsGcd}
 use Rattle.disequality.specs.Disequality.{isIntegerTimes, raised, floored, strengthen}
-use Rattle.linear_comb.specs.WorkArea.{Sum, combOf, combWith}
-use Rattle.rules.specs.Entries.{Kept}
-use Rattle.disequality.specs.DisequalitySteps.{StrengthenedIs}
+use Rattle.linear_comb.specs.memory.WorkArea.{Sum, combOf, combWith}
+use Rattle.rules.specs.memory.Entries.{Kept}
+use Rattle.disequality.specs.memory.DisequalitySteps.{StrengthenedIs}
 use Rattle.disequality.specs.declared.disequality.Strengthened.{Strengthened}
 use Rattle.disequality.specs.declared.disequality.Strengthened.the-variants as stronger
 use Rattle.disequality.proofs.WholeProducts.{times-whole}

@@ -1,5 +1,5 @@
--- A literal of rules 4 to 6 as a disequality, src/checker/rules/linear_arithmetic.rs: negated, its sides made combinations, strengthened over
--- the integers.
+-- A literal of rules 4 to 6 as a disequality, src/checker/rules/linear_arithmetic.rs: negated, its sides made
+-- combinations, strengthened over the integers.
 use mathlib.Core.Bool.{Bool, true, false, _&&_, _||_, not}
 use mathlib.Core.Option.{Option, some, none}
 use Prim.Native.Nat.{ℕ}
@@ -17,7 +17,7 @@ use Rattle.rules.specs.Refusal.Refusal.{invalidDisequalityOp, tooManyArgsInDise
 use Rattle.rules.specs.Limits.{Limits, plus}
 use Rattle.rules.specs.IndexMap.{combination, neg, sub}
 use Rattle.linear_comb.specs.LinearComb.{LinearComb, coefficientsGcd, fromTerm}
-use Rattle.rules.specs.Entries.{terms}
+use Rattle.rules.specs.memory.Entries.{terms}
 use Rattle.rules.specs.Shapes.{isRelation}
 
 unfoldable pub negateOperator : ℕ → Option ℕ

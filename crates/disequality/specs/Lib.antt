@@ -1,2 +1,2 @@
 pub mod Disequality
-pub mod DisequalitySteps
+pub mod memory

@@ -1,8 +1,8 @@
-// One literal as a disequality: steps 1 to 4 of `process_disequality` in src/checker/rules/linear_arithmetic.rs. A literal's two
-// sides are filled into areas 1 and 2; their difference is left in area 1.
+// One literal as a disequality: steps 1 to 4 of `process_disequality` in src/checker/rules/linear_arithmetic.rs. A
+// literal's two sides are filled into the areas `LEFT` and `RIGHT`; their difference is left in `LEFT`.
 ghost use mathlib.Core.Path.{_≡_};
 ghost use mathlib.Core.List.{[]};
-ghost use Prim.Native.Nat.{ℕ, _≤_, _<_};
+ghost use Prim.Native.Nat.{ℕ, _<_};
 ghost use lib.ListN.{length};
 ghost use Rattle.numbers.specs.Rational.{Proper, whole};
 ghost use Rattle.numbers.specs.Bytes.{Bytes};
@@ -14,24 +14,38 @@ ghost use Rattle.rules.specs.IndexMap.{Map, combination};
 ghost use Rattle.linear_comb.specs.LinearComb.{fromTerm};
 ghost use Rattle.disequality.specs.Disequality.{inner, negateOperator, negateDisequality, turned, disequalityOf};
 ghost use Rattle.disequality.specs.Disequality.{isIntegerTimes, raised, strengthen};
-ghost use Rattle.linear_comb.specs.WorkArea.{Area, Apart, areaOf, OnlyArea, combOf, KeptSum, Walks, SumScales};
-ghost use Rattle.rules.specs.Entries.{Held, Kept};
-ghost use Rattle.rules.specs.Parts.{Laid};
-ghost use Rattle.disequality.specs.DisequalitySteps.{Between, orZero, InnerIs, relationOf, RelationIs, SidesLeft};
-ghost use Rattle.disequality.specs.DisequalitySteps.{LiteralLeft, constantSide, subtracted, SubtractedLeft};
-ghost use Rattle.disequality.specs.DisequalitySteps.{StrengthenedIs};
+ghost use Rattle.linear_comb.specs.memory.WorkArea.{leftSide, rightSide, Area, Apart, areaOf, OnlyArea};
+ghost use Rattle.linear_comb.specs.memory.WorkArea.{combOf, KeptSum, Walks, SumFits, SumScales};
+ghost use Rattle.rules.specs.memory.Entries.{Held, Kept};
+ghost use Rattle.rules.specs.memory.Parts.{Laid};
+ghost use Rattle.disequality.specs.memory.DisequalitySteps.{relationRefusal, sidesRefusal, literalRefusal};
+ghost use Rattle.disequality.specs.memory.DisequalitySteps.{Between, orZero, InnerIs, relationOf, RelationIs};
+ghost use Rattle.disequality.specs.memory.DisequalitySteps.{SidesLeft, LiteralLeft, constantSide};
+ghost use Rattle.disequality.specs.memory.DisequalitySteps.{subtracted, SubtractedLeft, StrengthenedIs};
 ghost use Rattle.disequality.specs.declared.disequality.Literal.the-variants as literal;
+use crate::work_area::LEFT;
+use crate::work_area::RIGHT;
 use crate::work_area::clear_in;
 use crate::work_area::from_term;
 use crate::work_area::neg_in;
 use crate::work_area::sub;
+use linear_comb::linear_comb::Combined;
 use linear_comb::linear_comb::LinearComb;
-use linear_comb::linear_comb::Summed;
-use linear_comb::linear_comb::Walk;
 use linear_comb::linear_comb::coefficients_gcd;
+use linear_comb::linear_walk::Walk;
+use linear_comb::linear_walk::walk_refusal;
 use numbers::number::Checked;
 use numbers::number::Number;
-use terms::book::argument;
+use terms::operator::EQUALS;
+use terms::operator::GREATER_EQ;
+use terms::operator::GREATER_THAN;
+use terms::operator::LESS_EQ;
+use terms::operator::LESS_THAN;
+use terms::operator::NO_OPERATOR;
+use terms::records::argument;
+use terms::refusal::INVALID_DISEQUALITY_OP;
+use terms::refusal::NUMBER_RANGE;
+use terms::refusal::TOO_MANY_ARGS_IN_DISEQUALITY;
 use terms::term::Only;
 use terms::term::Reading;
 use terms::term::args;
@@ -44,31 +58,53 @@ use terms::term::remove_negation;
 // An operator, and the record whose arguments it stands between.
 pub enum Operation {
     Of(u8, usize),
-    Neither,
+    NoRelation,
 }
 
 // The relation that a literal's negation is, and the records of its two sides.
 pub enum Relation {
     Is(u8, usize, usize),
+    // Document 01's number of the refusal.
     Refused(u8),
+}
+
+// The number of a relation's refusal; 0 where there is none.
+fn relation_refusal(r: Relation) -> u8
+    ensures { λ c. ⌜ c ≡ relationRefusal r ⌝ }
+{
+    match r {
+        Relation::Is(_, _, _) => 0,
+        Relation::Refused(code) => code,
+    }
 }
 
 // The operator, the two sides, and the visits made so far.
 pub enum Sides {
     Both(u8, LinearComb, LinearComb, u32),
+    // Document 01's number of the refusal.
     Refused(u8),
 }
 
-// The operator that holds where o does not; 0 where there is none.
+// The number of the sides' refusal; 0 where there is none.
+fn sides_refusal(r: Sides) -> u8
+    ensures { λ c. ⌜ c ≡ sidesRefusal r ⌝ }
+{
+    match r {
+        Sides::Both(_, _, _, _) => 0,
+        Sides::Refused(code) => code,
+    }
+}
+
+// The operator that holds where o does not; `NO_OPERATOR` where there is none.
 fn negate_operator(o: u8) -> u8
     ensures { λ r. ⌜ r ≡ orZero (negateOperator o) ⌝ }
 {
     match o {
-        5 => 8,
-        6 => 7,
-        7 => 6,
-        8 => 5,
-        _ => 0,
+        LESS_THAN => GREATER_EQ,
+        LESS_EQ => GREATER_THAN,
+        GREATER_THAN => LESS_EQ,
+        GREATER_EQ => LESS_THAN,
+        _ => NO_OPERATOR,
     }
 }
 
@@ -80,13 +116,13 @@ fn inner(book: &[u8], phi: usize) -> Operation
     if let Only::Of(x) = remove_negation(book, phi) {
         let o = operator(book, x);
         return match o {
-            4..=8 => Operation::Of(o, x),
-            _ => Operation::Neither,
+            EQUALS..=GREATER_EQ => Operation::Of(o, x),
+            _ => Operation::NoRelation,
         };
     }
     let p = negate_operator(operator(book, phi));
-    if p == 0 {
-        return Operation::Neither;
+    if p == NO_OPERATOR {
+        return Operation::NoRelation;
     }
     Operation::Of(p, phi)
 }
@@ -96,11 +132,11 @@ fn relation_of(book: &[u8], phi: usize) -> Relation
     ensures { λ r. ⌜ RelationIs (now (book .entry)) r (relationOf (tree (now (book .entry)) phi)) ⌝ }
 {
     let Operation::Of(o, x) = inner(book, phi) else {
-        return Relation::Refused(26);
+        return Relation::Refused(INVALID_DISEQUALITY_OP);
     };
     let sides = args(book, x);
     if sides.len() / 2 != 2 {
-        return Relation::Refused(27);
+        return Relation::Refused(TOO_MANY_ARGS_IN_DISEQUALITY);
     }
     Relation::Is(o, argument(sides, 0, x), argument(sides, 1, x))
 }
@@ -111,19 +147,20 @@ fn constant_side(q: Number, visits: u32) -> Walk
     ensures { λ r. ⌜ ((b w : Bytes) → Held b w [] → (l : ℕ) → Walks b w r (constantSide (limited l) q visits)) ⌝ }
 {
     let Checked::Value(c) = q.mul(Number::whole(1)) else {
-        return Walk::Refused(11);
+        return Walk::Refused(NUMBER_RANGE);
     };
     let Checked::Value(constant) = Number::whole(0).add(c) else {
-        return Walk::Refused(11);
+        return Walk::Refused(NUMBER_RANGE);
     };
     Walk::Done(LinearComb { len: 0, constant }, visits)
 }
 
-// The right side, in area 2, which is empty before. It is a constant as a rule, and then nothing is walked.
+// The right side, in its area, which is empty before. It is a constant as a rule, and then nothing is walked.
 fn right_side(book: &[u8], work: &mut [u8], id: usize, visits: u32, limit: u32) -> Walk
-    requires { ⌜ Area 2 (now work) × (Laid (now book) × ((id < count (now book)) × Held (now book) (areaOf 2 (now work)) [])) ⌝ }
-    ensures { λ r. ⌜ OnlyArea 2 (now (work .entry)) (now (work .exit)) ⌝ }
-    ensures { λ r. ⌜ Walks (now (book .entry)) (areaOf 2 (now (work .exit))) r
+    requires { ⌜ Area rightSide (now work) × (Laid (now book) ×
+        ((id < count (now book)) × Held (now book) (areaOf rightSide (now work)) [])) ⌝ }
+    ensures { λ r. ⌜ OnlyArea rightSide (now (work .entry)) (now (work .exit)) ⌝ }
+    ensures { λ r. ⌜ Walks (now (book .entry)) (areaOf rightSide (now (work .exit))) r
         (fromTerm (limited limit) (tree (now (book .entry)) id) visits) ⌝ }
 {
     if visits < limit {
@@ -131,29 +168,30 @@ fn right_side(book: &[u8], work: &mut [u8], id: usize, visits: u32, limit: u32) 
             return constant_side(q, visits + 1);
         }
     }
-    from_term(book, work, 2, id, visits, limit)
+    from_term(book, work, RIGHT, id, visits, limit)
 }
 
-// Fills areas 1 and 2, which are empty before; a refusal leaves both empty.
+// Fills the areas of both sides, which are empty before; a refusal leaves both empty.
 fn negate_disequality(book: &[u8], work: &mut [u8], phi: usize, visits: u32, limit: u32) -> Sides
     requires { ⌜ Between (now book) (now work) × (phi < count (now book)) ⌝ }
     ensures { λ r. ⌜ SidesLeft (now (book .entry)) (now (work .entry)) (now (work .exit)) r
         (negateDisequality (limited limit) (tree (now (book .entry)) phi) visits) ⌝ }
 {
-    match relation_of(book, phi) {
-        Relation::Refused(c) => Sides::Refused(c),
-        Relation::Is(o, x, y) => match from_term(book, work, 1, x, visits, limit) {
-            Walk::Refused(c) => Sides::Refused(c),
-            Walk::Done(s, seen) => match right_side(book, work, y, seen, limit) {
-                Walk::Refused(c) => {
-                    let n = s.len;
-                    clear_in(work, 1, n);
-                    Sides::Refused(c)
-                }
-                Walk::Done(t, v) => Sides::Both(o, s, t, v),
-            },
-        },
-    }
+    let relation = relation_of(book, phi);
+    let Relation::Is(o, x, y) = relation else {
+        return Sides::Refused(relation_refusal(relation));
+    };
+    let first = from_term(book, work, LEFT, x, visits, limit);
+    let Walk::Done(s, seen) = first else {
+        return Sides::Refused(walk_refusal(first));
+    };
+    let second = right_side(book, work, y, seen, limit);
+    let Walk::Done(t, total) = second else {
+        let n = s.len;
+        clear_in(work, LEFT, n);
+        return Sides::Refused(walk_refusal(second));
+    };
+    Sides::Both(o, s, t, total)
 }
 
 // ---- steps 1 to 3
@@ -167,24 +205,36 @@ pub struct Disequality {
 
 pub enum Literal {
     Is(Disequality),
+    // Document 01's number of the refusal.
     Refused(u8),
+}
+
+// The number of a literal's refusal; 0 where there is none.
+pub fn literal_refusal(l: Literal) -> u8
+    ensures { λ r. ⌜ r ≡ literalRefusal l ⌝ }
+{
+    match l {
+        Literal::Is(_) => 0,
+        Literal::Refused(code) => code,
+    }
 }
 
 // < and <= are turned to > and >=.
 fn turned(work: &mut [u8], o: u8, s: LinearComb, visits: u32) -> Disequality
-    requires { ⌜ Area 1 (now work) × ((s .len ≤ 4096) × Proper (s .constant)) ⌝ }
-    ensures { λ r. ⌜ ((b : Bytes) → KeptSum b (areaOf 1 (now (work .entry))) s →
-        LiteralLeft b (now (work .entry)) (now (work .exit)) (literal.Is r) (ok (turned o (combOf b (areaOf 1 (now (work .entry))) s) visits))) ⌝ }
+    requires { ⌜ Area leftSide (now work) × SumFits s ⌝ }
+    ensures { λ r. ⌜ ((b : Bytes) → KeptSum b (areaOf leftSide (now (work .entry))) s →
+        LiteralLeft b (now (work .entry)) (now (work .exit)) (literal.Is r)
+        (ok (turned o (combOf b (areaOf leftSide (now (work .entry))) s) visits))) ⌝ }
 {
     match o {
-        5 => Disequality {
-            operator: 7,
-            sum: neg_in(work, 1, s),
+        LESS_THAN => Disequality {
+            operator: GREATER_THAN,
+            sum: neg_in(work, LEFT, s),
             visits,
         },
-        6 => Disequality {
-            operator: 8,
-            sum: neg_in(work, 1, s),
+        LESS_EQ => Disequality {
+            operator: GREATER_EQ,
+            sum: neg_in(work, LEFT, s),
             visits,
         },
         _ => Disequality {
@@ -195,18 +245,20 @@ fn turned(work: &mut [u8], o: u8, s: LinearComb, visits: u32) -> Disequality
     }
 }
 
-// Both sides subtracted where the right one has no atoms: d is its constant, and area 2 is not touched.
+// Both sides subtracted where the right one has no atoms: d is its constant, and its area is not touched.
 fn bounded(work: &mut [u8], o: u8, s: LinearComb, d: Number, visits: u32) -> Literal
-    requires { ⌜ Apart 1 2 (now work) × (((b : Bytes) × KeptSum b (areaOf 1 (now work)) s) × Proper d) ⌝ }
-    ensures { λ r. ⌜ ((b : Bytes) → KeptSum b (areaOf 1 (now (work .entry))) s → Held b (areaOf 2 (now (work .entry))) [] → (l : ℕ) →
+    requires { ⌜ Apart leftSide rightSide (now work) ×
+        (((b : Bytes) × KeptSum b (areaOf leftSide (now work)) s) × Proper d) ⌝ }
+    ensures { λ r. ⌜ ((b : Bytes) → KeptSum b (areaOf leftSide (now (work .entry))) s →
+        Held b (areaOf rightSide (now (work .entry))) [] → (l : ℕ) →
         SubtractedLeft b (now (work .entry)) (now (work .exit)) r
-        (subtracted (limited l) o (combOf b (areaOf 1 (now (work .entry))) s) (combination [] d) visits)) ⌝ }
+        (subtracted (limited l) o (combOf b (areaOf leftSide (now (work .entry))) s) (combination [] d) visits)) ⌝ }
 {
     let n = s.len;
     let c = s.constant;
     let Checked::Value(difference) = c.add(d.neg()) else {
-        clear_in(work, 1, n);
-        return Literal::Refused(11);
+        clear_in(work, LEFT, n);
+        return Literal::Refused(NUMBER_RANGE);
     };
     let right = LinearComb {
         len: n,
@@ -215,22 +267,26 @@ fn bounded(work: &mut [u8], o: u8, s: LinearComb, d: Number, visits: u32) -> Lit
     Literal::Is(turned(work, o, right, visits))
 }
 
-// Both sides subtracted: all atoms on the left, the constant on the right. Area 2 is empty afterwards.
+// Both sides subtracted: all atoms on the left, the constant on the right. The area of the right side is empty
+// afterwards.
 fn subtracted(work: &mut [u8], o: u8, s: LinearComb, t: LinearComb, visits: u32) -> Literal
-    requires { ⌜ Apart 1 2 (now work) × ((b : Bytes) × (KeptSum b (areaOf 1 (now work)) s × KeptSum b (areaOf 2 (now work)) t)) ⌝ }
-    ensures { λ r. ⌜ ((b : Bytes) → KeptSum b (areaOf 1 (now (work .entry))) s → KeptSum b (areaOf 2 (now (work .entry))) t → (l : ℕ) →
+    requires { ⌜ Apart leftSide rightSide (now work) ×
+        ((b : Bytes) × (KeptSum b (areaOf leftSide (now work)) s × KeptSum b (areaOf rightSide (now work)) t)) ⌝ }
+    ensures { λ r. ⌜ ((b : Bytes) → KeptSum b (areaOf leftSide (now (work .entry))) s →
+        KeptSum b (areaOf rightSide (now (work .entry))) t → (l : ℕ) →
         SubtractedLeft b (now (work .entry)) (now (work .exit)) r
-        (subtracted (limited l) o (combOf b (areaOf 1 (now (work .entry))) s) (combOf b (areaOf 2 (now (work .entry))) t) visits)) ⌝ }
+        (subtracted (limited l) o (combOf b (areaOf leftSide (now (work .entry))) s)
+        (combOf b (areaOf rightSide (now (work .entry))) t) visits)) ⌝ }
 {
     let m = t.len;
     let d = t.constant;
     if m == 0 {
         return bounded(work, o, s, d, visits);
     }
-    let answer = sub(work, 1, s, 2, t);
-    clear_in(work, 2, m);
-    let Summed::Sum(difference) = answer else {
-        return Literal::Refused(11);
+    let answer = sub(work, LEFT, s, RIGHT, t);
+    clear_in(work, RIGHT, m);
+    let Combined::Is(difference) = answer else {
+        return Literal::Refused(NUMBER_RANGE);
     };
     let len = difference.len;
     let c = difference.constant;
@@ -241,16 +297,18 @@ fn subtracted(work: &mut [u8], o: u8, s: LinearComb, t: LinearComb, visits: u32)
     Literal::Is(turned(work, o, right, visits))
 }
 
-// The literal negated, as a disequality with > or >= or =, in area 1; a refusal leaves areas 1 and 2 empty.
+// The literal negated, as a disequality with > or >= or =, in the area of the left side; a refusal leaves the areas of
+// both sides empty.
 pub fn disequality_of(book: &[u8], work: &mut [u8], phi: usize, visits: u32, limit: u32) -> Literal
     requires { ⌜ Between (now book) (now work) × (phi < count (now book)) ⌝ }
     ensures { λ r. ⌜ LiteralLeft (now (book .entry)) (now (work .entry)) (now (work .exit)) r
         (disequalityOf (limited limit) (tree (now (book .entry)) phi) visits) ⌝ }
 {
-    match negate_disequality(book, work, phi, visits, limit) {
-        Sides::Refused(c) => Literal::Refused(c),
-        Sides::Both(o, s, t, seen) => subtracted(work, o, s, t, seen),
-    }
+    let sides = negate_disequality(book, work, phi, visits, limit);
+    let Sides::Both(o, s, t, seen) = sides else {
+        return Literal::Refused(sides_refusal(sides));
+    };
+    subtracted(work, o, s, t, seen)
 }
 
 // ---- strengthen
@@ -283,12 +341,13 @@ fn is_integer_times(d: Number, a: Number) -> bool
 // The constant is rounded down, and then raised.
 fn raised(len: usize, floor: Number, step: i64) -> Strengthened
     requires { ⌜ Proper floor × Proper (whole step) ⌝ }
-    ensures { λ r. ⌜ ((m : Map Term) → len ≡ length m → (l : ℕ) → StrengthenedIs m r (raised (limited l) (combination m floor) step)) ⌝ }
+    ensures { λ r. ⌜ ((m : Map Term) → len ≡ length m → (l : ℕ) →
+        StrengthenedIs m r (raised (limited l) (combination m floor) step)) ⌝ }
 {
     let Checked::Value(constant) = floor.add(Number::whole(step)) else {
         return Strengthened::OutOfRange;
     };
-    Strengthened::Is(8, LinearComb { len, constant })
+    Strengthened::Is(GREATER_EQ, LinearComb { len, constant })
 }
 
 // A disequality over integers; `entries` are its own.
@@ -302,7 +361,7 @@ pub fn strengthen(entries: &[u8], o: u8, s: LinearComb, a: Number) -> Strengthen
     let whole = is_integer_times(c, a);
     let floor = c.floor();
     match o {
-        7 => if whole {
+        GREATER_THAN => if whole {
             let step = coefficients_gcd(
                 entries,
                 LinearComb {
@@ -314,7 +373,7 @@ pub fn strengthen(entries: &[u8], o: u8, s: LinearComb, a: Number) -> Strengthen
         } else {
             raised(len, floor, 1)
         },
-        8 => if whole {
+        GREATER_EQ => if whole {
             Strengthened::Is(o, s)
         } else {
             raised(len, floor, 1)

@@ -1,26 +1,30 @@
-// Combinations in the three areas of the work area: 0 the accumulated one, 1 and 2 a literal's two sides. The areas lie apart,
-// and each function changes the bytes of one area alone. A refusal leaves that area empty.
+// Combinations in the three areas of the work area: the accumulated one, and a literal's two sides. The areas lie
+// apart, and each function changes the bytes of one area alone. A refusal leaves that area empty.
 ghost use mathlib.Core.Path.{_≡_};
 ghost use mathlib.Core.Bool.{true};
 ghost use mathlib.Core.List.{[]};
-ghost use Prim.Native.Nat.{ℕ, _+_, _≤_, _<_};
+ghost use Prim.Native.Nat.{ℕ, _+_, _-_, _≤_, _<_};
 ghost use Rattle.numbers.specs.Rational.{Makes, Proper};
 ghost use Rattle.numbers.specs.Bytes.{Bytes};
 ghost use Rattle.terms.specs.Book.{count, tree, SortsBelow};
 ghost use Rattle.rules.specs.Limits.{limited};
 ghost use Rattle.rules.specs.IndexMap.{insert, insertAll, add, sub, negAll};
 ghost use Rattle.linear_comb.specs.LinearComb.{mul, fromTerm, allInt};
-ghost use Rattle.rules.specs.Entries.{terms, entriesOf, blanked, Kept, Grown, Held, absent, Inserts};
-ghost use Rattle.linear_comb.specs.WorkArea.{Area, Apart, areaOf, withArea, OnlyArea, combOf, signedAll, signedQ};
-ghost use Rattle.linear_comb.specs.WorkArea.{signedComb, negated, KeptSum, Sums, Walks, AreaCount, AreaSum, TwoSums};
-ghost use Rattle.rules.specs.Parts.{Laid};
+ghost use Rattle.rules.specs.memory.Entries.{slots, terms, entriesOf, blanked, Kept, Grown, Held, absent, Inserts};
+ghost use Rattle.rules.specs.memory.Entries.{NewEntry};
+ghost use Rattle.linear_comb.specs.memory.WorkArea.{mostEntries, Area, Apart, areaOf, withArea, OnlyArea, combOf};
+ghost use Rattle.linear_comb.specs.memory.WorkArea.{signedAll, signedQ, signedComb, negated, KeptSum, Combines, Walks};
+ghost use Rattle.linear_comb.specs.memory.WorkArea.{SumFits, AreaCount, AreaSum, TwoSums};
+ghost use Rattle.rules.specs.memory.Parts.{Laid};
 ghost use Rattle.rules.specs.declared.index_map.Inserted.the-variants as inserted;
+use linear_comb::linear_comb::Combined;
 use linear_comb::linear_comb::LinearComb;
-use linear_comb::linear_comb::Summed;
-use linear_comb::linear_comb::Walk;
-use linear_comb::linear_comb::add_term;
 use linear_comb::linear_comb::mul;
 use linear_comb::linear_comb::neg;
+use linear_comb::linear_walk::Walk;
+use linear_comb::linear_walk::add_term;
+use linear_comb::notes::NOTE_WORDS;
+use numbers::bytes::byte;
 use numbers::number::Checked;
 use numbers::number::Number;
 use rules::index_map::Inserted;
@@ -29,19 +33,25 @@ use rules::index_map::clear;
 use rules::index_map::insert;
 use rules::index_map::key_at;
 use rules::index_map::value_at;
-use terms::book::byte;
+use terms::areas::STEP_AT;
+use terms::areas::SUM_BYTES;
+use terms::format::INT_SORT;
 
-// ---- before the first step
+// ---- one area
 
-// ---- the parts of the work area
+pub const ACCUMULATED: usize = 0;
+
+pub const LEFT: usize = 1;
+
+pub const RIGHT: usize = 2;
 
 // Area j.
 pub fn area(work: &[u8], j: usize) -> &[u8]
     requires { ⌜ Area j (now work) ⌝ }
     ensures { λ r. ⌜ now r ≡ areaOf j (now (work .entry)) ⌝ }
 {
-    let start = 2048 + 20480 * j;
-    let end = start + 20480;
+    let start = STEP_AT + SUM_BYTES * j;
+    let end = start + SUM_BYTES;
     &work[start..end]
 }
 
@@ -50,56 +60,57 @@ pub fn clear_in(work: &mut [u8], j: usize, n: usize)
     requires { ⌜ AreaCount j n (now work) ⌝ }
     ensures { λ _. ⌜ now (work .exit) ≡ withArea j (blanked n (areaOf j (now (work .entry)))) (now (work .entry)) ⌝ }
 {
-    let start = 2048 + 20480 * j;
-    let end = start + 20480;
+    let start = STEP_AT + SUM_BYTES * j;
+    let end = start + SUM_BYTES;
     clear(&mut work[start..end], n);
 }
 
 fn insert_in(work: &mut [u8], j: usize, n: usize, key: usize, value: Number) -> Inserted
-    requires { ⌜ Area j (now work) × ((n ≤ 4096) × ((key < 65536) × Proper value)) ⌝ }
+    requires { ⌜ Area j (now work) × NewEntry n key value ⌝ }
     ensures { λ r. ⌜ Grown n r × OnlyArea j (now (work .entry)) (now (work .exit)) ⌝ }
     ensures { λ r. ⌜ ((b : Bytes) → Kept b (areaOf j (now (work .entry))) n → key < count b → (l : ℕ) →
         Inserts b (areaOf j (now (work .exit))) r
         (insert terms (limited l) (entriesOf b (areaOf j (now (work .entry))) n) (tree b key) value)) ⌝ }
 {
-    let start = 2048 + 20480 * j;
-    let end = start + 20480;
+    let start = STEP_AT + SUM_BYTES * j;
+    let end = start + SUM_BYTES;
     insert(&mut work[start..end], n, key, value)
 }
 
 // The same with a key that no entry has.
 fn append_in(work: &mut [u8], j: usize, n: usize, key: usize, value: Number) -> usize
-    requires { ⌜ Area j (now work) × ((n ≤ 4096) × ((key < 65536) × Proper value)) ⌝ }
+    requires { ⌜ Area j (now work) × NewEntry n key value ⌝ }
     ensures { λ r. ⌜ (r ≤ n + 1) × OnlyArea j (now (work .entry)) (now (work .exit)) ⌝ }
     ensures { λ r. ⌜ ((b : Bytes) → Kept b (areaOf j (now (work .entry))) n → key < count b →
         absent key (entriesOf b (areaOf j (now (work .entry))) n) ≡ true → (l : ℕ) →
         Inserts b (areaOf j (now (work .exit))) (inserted.Length r)
         (insert terms (limited l) (entriesOf b (areaOf j (now (work .entry))) n) (tree b key) value)) ⌝ }
 {
-    let start = 2048 + 20480 * j;
-    let end = start + 20480;
+    let start = STEP_AT + SUM_BYTES * j;
+    let end = start + SUM_BYTES;
     append(&mut work[start..end], n, key, value)
 }
 
 pub(crate) fn neg_in(work: &mut [u8], j: usize, s: LinearComb) -> LinearComb
-    requires { ⌜ Area j (now work) × ((s .len ≤ 4096) × Proper (s .constant)) ⌝ }
+    requires { ⌜ Area j (now work) × SumFits s ⌝ }
     ensures { λ r. ⌜ (r ≡ negated s) × OnlyArea j (now (work .entry)) (now (work .exit)) ⌝ }
     ensures { λ r. ⌜ ((b : Bytes) → KeptSum b (areaOf j (now (work .entry))) s →
         Held b (areaOf j (now (work .exit))) (negAll (entriesOf b (areaOf j (now (work .entry))) (s .len)))) ⌝ }
 {
-    let start = 2048 + 20480 * j;
-    let end = start + 20480;
+    let start = STEP_AT + SUM_BYTES * j;
+    let end = start + SUM_BYTES;
     neg(&mut work[start..end], s)
 }
 
-pub fn mul_in(work: &mut [u8], j: usize, s: LinearComb, q: Number) -> Summed
+pub fn mul_in(work: &mut [u8], j: usize, s: LinearComb, q: Number) -> Combined
     requires { ⌜ AreaSum j s q (now work) ⌝ }
     ensures { λ r. ⌜ OnlyArea j (now (work .entry)) (now (work .exit)) ⌝ }
     ensures { λ r. ⌜ ((b : Bytes) → KeptSum b (areaOf j (now (work .entry))) s → (l : ℕ) →
-        Sums b (areaOf j (now (work .exit))) r (mul (limited l) (combOf b (areaOf j (now (work .entry))) s) q)) ⌝ }
+        Combines b (areaOf j (now (work .exit))) r
+        (mul (limited l) (combOf b (areaOf j (now (work .entry))) s) q)) ⌝ }
 {
-    let start = 2048 + 20480 * j;
-    let end = start + 20480;
+    let start = STEP_AT + SUM_BYTES * j;
+    let end = start + SUM_BYTES;
     mul(&mut work[start..end], s, q)
 }
 
@@ -112,18 +123,19 @@ pub(crate) fn from_term(
     visits: u32,
     limit: u32,
 ) -> Walk
-    requires { ⌜ Area j (now work) × (Laid (now book) × ((id < count (now book)) × Held (now book) (areaOf j (now work)) [])) ⌝ }
+    requires { ⌜ Area j (now work) × (Laid (now book) ×
+        ((id < count (now book)) × Held (now book) (areaOf j (now work)) [])) ⌝ }
     ensures { λ r. ⌜ OnlyArea j (now (work .entry)) (now (work .exit)) ⌝ }
     ensures { λ r. ⌜ Walks (now (book .entry)) (areaOf j (now (work .exit))) r
         (fromTerm (limited limit) (tree (now (book .entry)) id) visits) ⌝ }
 {
-    let start = 2048 + 20480 * j;
-    let end = start + 20480;
+    let start = STEP_AT + SUM_BYTES * j;
+    let end = start + SUM_BYTES;
     let none = LinearComb {
         len: 0,
         constant: Number::whole(0),
     };
-    let mut noted = [0u64; 32];
+    let mut noted = [0u64; NOTE_WORDS];
     add_term(
         book,
         &mut work[start..end],
@@ -149,8 +161,8 @@ fn signed(turned: bool, q: Number) -> Number
 // Inserts the m entries of area `from` into area `to`, which is empty, with the sign turned or as they are: the keys of
 // area `from` differ, so each is a key that no entry has. How many entries there are then.
 fn copy_all(work: &mut [u8], to: usize, from: usize, m: usize, turned: bool) -> usize
-    requires { ⌜ Apart to from (now work) × (m ≤ 2048) ⌝ }
-    ensures { λ r. ⌜ (r ≤ 4096) × OnlyArea to (now (work .entry)) (now (work .exit)) ⌝ }
+    requires { ⌜ Apart to from (now work) × (m ≤ slots) ⌝ }
+    ensures { λ r. ⌜ (r ≤ mostEntries) × OnlyArea to (now (work .entry)) (now (work .exit)) ⌝ }
     ensures { λ r. ⌜ ((b : Bytes) → Kept b (areaOf to (now (work .entry))) 0 →
         Kept b (areaOf from (now (work .entry))) m → (l : ℕ) →
         Inserts b (areaOf to (now (work .exit))) (inserted.Length r)
@@ -167,12 +179,13 @@ fn copy_all(work: &mut [u8], to: usize, from: usize, m: usize, turned: bool) -> 
     len
 }
 
-// Inserts the m entries of area `from` into the n of area `to`, one by one, with the sign turned or as they are. There are 4096 at
-// most in the end.
+// Inserts the m entries of area `from` into the n of area `to`, one by one, with the sign turned or as they are. There
+// are no more in the end than two areas have.
 fn insert_all(work: &mut [u8], to: usize, n: usize, from: usize, m: usize, turned: bool) -> Inserted
-    requires { ⌜ Apart to from (now work) × ((n ≤ 2048) × (m ≤ 2048)) ⌝ }
-    ensures { λ r. ⌜ Grown 4095 r × OnlyArea to (now (work .entry)) (now (work .exit)) ⌝ }
-    ensures { λ r. ⌜ ((b : Bytes) → Kept b (areaOf to (now (work .entry))) n → Kept b (areaOf from (now (work .entry))) m → (l : ℕ) →
+    requires { ⌜ Apart to from (now work) × ((n ≤ slots) × (m ≤ slots)) ⌝ }
+    ensures { λ r. ⌜ Grown (mostEntries - 1) r × OnlyArea to (now (work .entry)) (now (work .exit)) ⌝ }
+    ensures { λ r. ⌜ ((b : Bytes) → Kept b (areaOf to (now (work .entry))) n →
+        Kept b (areaOf from (now (work .entry))) m → (l : ℕ) →
         Inserts b (areaOf to (now (work .exit))) r
         (insertAll terms (limited l) (entriesOf b (areaOf to (now (work .entry))) n)
         (signedAll turned (entriesOf b (areaOf from (now (work .entry))) m)))) ⌝ }
@@ -202,11 +215,12 @@ fn add_signed(
     from: usize,
     b: LinearComb,
     turned: bool,
-) -> Summed
+) -> Combined
     requires { ⌜ TwoSums to a from b (now work) ⌝ }
     ensures { λ r. ⌜ OnlyArea to (now (work .entry)) (now (work .exit)) ⌝ }
-    ensures { λ r. ⌜ ((bk : Bytes) → KeptSum bk (areaOf to (now (work .entry))) a → KeptSum bk (areaOf from (now (work .entry))) b → (l : ℕ) →
-        Sums bk (areaOf to (now (work .exit))) r
+    ensures { λ r. ⌜ ((bk : Bytes) → KeptSum bk (areaOf to (now (work .entry))) a →
+        KeptSum bk (areaOf from (now (work .entry))) b → (l : ℕ) →
+        Combines bk (areaOf to (now (work .exit))) r
         (add terms (limited l) (combOf bk (areaOf to (now (work .entry))) a)
         (signedComb turned (combOf bk (areaOf from (now (work .entry))) b)))) ⌝ }
 {
@@ -215,31 +229,35 @@ fn add_signed(
     let c = a.constant;
     let d = b.constant;
     let Inserted::Length(len) = insert_all(work, to, n, from, m, turned) else {
-        return Summed::OutOfRange;
+        return Combined::OutOfRange;
     };
     let Checked::Value(constant) = c.add(signed(turned, d)) else {
         clear_in(work, to, len);
-        return Summed::OutOfRange;
+        return Combined::OutOfRange;
     };
-    Summed::Sum(LinearComb { len, constant })
+    Combined::Is(LinearComb { len, constant })
 }
 
-pub fn add(work: &mut [u8], to: usize, a: LinearComb, from: usize, b: LinearComb) -> Summed
+pub fn add(work: &mut [u8], to: usize, a: LinearComb, from: usize, b: LinearComb) -> Combined
     requires { ⌜ TwoSums to a from b (now work) ⌝ }
     ensures { λ r. ⌜ OnlyArea to (now (work .entry)) (now (work .exit)) ⌝ }
-    ensures { λ r. ⌜ ((bk : Bytes) → KeptSum bk (areaOf to (now (work .entry))) a → KeptSum bk (areaOf from (now (work .entry))) b → (l : ℕ) →
-        Sums bk (areaOf to (now (work .exit))) r
-        (add terms (limited l) (combOf bk (areaOf to (now (work .entry))) a) (combOf bk (areaOf from (now (work .entry))) b))) ⌝ }
+    ensures { λ r. ⌜ ((bk : Bytes) → KeptSum bk (areaOf to (now (work .entry))) a →
+        KeptSum bk (areaOf from (now (work .entry))) b → (l : ℕ) →
+        Combines bk (areaOf to (now (work .exit))) r
+        (add terms (limited l) (combOf bk (areaOf to (now (work .entry))) a)
+        (combOf bk (areaOf from (now (work .entry))) b))) ⌝ }
 {
     add_signed(work, to, a, from, b, false)
 }
 
-pub(crate) fn sub(work: &mut [u8], to: usize, a: LinearComb, from: usize, b: LinearComb) -> Summed
+pub(crate) fn sub(work: &mut [u8], to: usize, a: LinearComb, from: usize, b: LinearComb) -> Combined
     requires { ⌜ TwoSums to a from b (now work) ⌝ }
     ensures { λ r. ⌜ OnlyArea to (now (work .entry)) (now (work .exit)) ⌝ }
-    ensures { λ r. ⌜ ((bk : Bytes) → KeptSum bk (areaOf to (now (work .entry))) a → KeptSum bk (areaOf from (now (work .entry))) b → (l : ℕ) →
-        Sums bk (areaOf to (now (work .exit))) r
-        (sub terms (limited l) (combOf bk (areaOf to (now (work .entry))) a) (combOf bk (areaOf from (now (work .entry))) b))) ⌝ }
+    ensures { λ r. ⌜ ((bk : Bytes) → KeptSum bk (areaOf to (now (work .entry))) a →
+        KeptSum bk (areaOf from (now (work .entry))) b → (l : ℕ) →
+        Combines bk (areaOf to (now (work .exit))) r
+        (sub terms (limited l) (combOf bk (areaOf to (now (work .entry))) a)
+        (combOf bk (areaOf from (now (work .entry))) b))) ⌝ }
 {
     add_signed(work, to, a, from, b, true)
 }
@@ -249,14 +267,15 @@ pub(crate) fn sub(work: &mut [u8], to: usize, a: LinearComb, from: usize, b: Lin
 // Whether all atoms of the n entries of area j are Int.
 pub fn all_int(work: &[u8], j: usize, n: usize) -> bool
     requires { ⌜ AreaCount j n (now work) ⌝ }
-    ensures { λ r. ⌜ ((b : Bytes) → SortsBelow (count b) b (now (work .entry)) → Kept b (areaOf j (now (work .entry))) n →
+    ensures { λ r. ⌜ ((b : Bytes) → SortsBelow (count b) b (now (work .entry)) →
+        Kept b (areaOf j (now (work .entry))) n →
         r ≡ allInt (entriesOf b (areaOf j (now (work .entry))) n)) ⌝ }
 {
     let entries = area(work, j);
     let mut k = 0;
     while k < n {
         let key = key_at(entries, k);
-        if byte(work, key) != 2 {
+        if byte(work, key) != INT_SORT {
             return false;
         }
         k += 1;

@@ -14,7 +14,7 @@ use Rattle.numbers.specs.Bytes.{Bytes, bytesOf}
 use Rattle.terms.specs.Book.{count}
 use Rattle.runs.specs.Run.{A, recordBytes, end, also}
 use Rattle.elaborate.specs.Elaborate.{Written, realRecord, tailBytes, fits}
-use Rattle.elaborate.specs.OutAreas.{Stored, WritesOne, withArg, withConstant, more}
+use Rattle.elaborate.specs.memory.OutAreas.{Stored, WritesOne, withArg, withConstant, more}
 use Rattle.elaborate.specs.declared.farkas.Out.{Out}
 use Rattle.elaborate.proofs.Everywhere.{every-append}
 use Rattle.elaborate.proofs.RealRecord.{length-real}

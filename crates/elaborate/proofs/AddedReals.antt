@@ -16,9 +16,9 @@ use Rattle.numbers.specs.Bytes.{Bytes}
 use Rattle.terms.specs.Book.{count}
 use Rattle.runs.specs.Run.{A, Every, recordBytes}
 use Rattle.elaborate.specs.Elaborate.{Written, written, findReal, placeIn, withTail, addReal, tailBytes, fits}
-use Rattle.elaborate.specs.OutAreas.{Holds, Writing, Lies, Writes, WritesOne, withArg, withConstant, more}
-use Rattle.elaborate.specs.OutAreas.{moreReal}
-use Rattle.elaborate.specs.OutMemory.{placeOr}
+use Rattle.elaborate.specs.memory.OutAreas.{Holds, Writing, Lies, Writes, WritesOne, withArg, withConstant, more}
+use Rattle.elaborate.specs.memory.OutAreas.{moreReal}
+use Rattle.elaborate.specs.memory.OutMemory.{placeOr}
 use Rattle.elaborate.specs.declared.farkas.Out.{Out}
 use Rattle.elaborate.proofs.ElaboratedSteps.{found-real}
 use Rattle.elaborate.proofs.WrittenSteps.{real-grows}

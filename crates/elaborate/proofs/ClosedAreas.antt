@@ -9,11 +9,15 @@ use lib.ListN.{length, take}
 use Rattle.numbers.specs.Bytes.{Bytes}
 use Rattle.runs.specs.Check.{Marking, check}
 use Rattle.elaborate.specs.Elaborate.{Written, written, tailBytes, addSteps, elaborated, writtenPart}
-use Rattle.runs.specs.Lent.{area, stateOf, zeroedFrom, openCode}
+use Rattle.runs.specs.Answers.{area}
+use Rattle.runs.specs.memory.Lent.{stateOf, opening, openedOf, openedRefusal}
+use Rattle.numbers.specs.Bytes.{zeroedFrom}
 use Rattle.runs.specs.declared.check.State as by-value
+use Rattle.runs.specs.declared.check.Opened.{Opened}
+use Rattle.runs.specs.declared.check.Opened.the-variants as opened
 use Rattle.runs.proofs.CheckLoops.{endedAs, first}
-use Rattle.elaborate.specs.OutAreas.{Stored, Holds}
-use Rattle.elaborate.specs.OutMemory.{Elaborates, Closes}
+use Rattle.elaborate.specs.memory.OutAreas.{Stored, Holds}
+use Rattle.elaborate.specs.memory.OutMemory.{Elaborates, Closes}
 use Rattle.elaborate.specs.declared.farkas.Out.{Out}
 use Rattle.elaborate.specs.declared.elaborate.Elaborating.{Elaborating}
 use Rattle.elaborate.proofs.Memory.{tailBytes-length}
@@ -85,15 +89,17 @@ module _ (out : Bytes) (n : ℕ) where
 
 -- ---- the elaboration, by what `open` answered
 
-module _ (b run : Bytes) (limit n : ℕ) {r : ℕ} (code : r ≡ openCode b run limit n) where
+module _ (b run : Bytes) (limit n : ℕ) {r : Opened} (answered : r ≡ openedOf (opening b run limit n)) where
+  -- v is the number that is answered
   pub refused-elaborating :
-      {o t : Bytes} → (r ≡ 0 → ⊥) → {s s′ : by-value.State} → ((x : Bytes) → s ≡ stateOf x limit (first limit)) →
-      s′ ≡ endedAs s r → {out : Out} → out ≡ record { run = 0; tail = 0; full = false } →
+      {o t : Bytes} {c v : ℕ} → r ≡ opened.Refused c → v ≡ openedRefusal r → {s s′ : by-value.State} →
+      ((x : Bytes) → s ≡ stateOf x limit (first limit)) → s′ ≡ endedAs s v → {out : Out} →
+      out ≡ record { run = 0; tail = 0; full = false } →
       Elaborates b o t (record { state = s′; out = out }) (check b run limit n)
   unfolding addSteps
-  refused-elaborating {o} {t} h starts ends {out} none =
-      let refused = refused-is b run limit n code h in
-      let is = ends ∙ ap (λ x. endedAs x r) (starts run) in
+  refused-elaborating {o} {t} {v = v} stops number-is starts ends {out} none =
+      let refused = refused-is b run limit n answered stops number-is in
+      let is = ends ∙ ap (λ x. endedAs x v) (starts run) in
       subst (Elaborates b o t _) (sym (refused .is))
       record {
         verdict = ap (λ x. x .verdict) is ∙ refused .code;
@@ -103,6 +109,7 @@ module _ (b run : Bytes) (limit n : ℕ) {r : ℕ} (code : r ≡ openCode b run 
       }
 
   pub opened-elaborating :
-      {o t : Bytes} {e : Elaborating} → r ≡ 0 → Elaborates b o t e (stepsMarked b run limit n) →
+      {o t : Bytes} {e : Elaborating} → r ≡ opened.Ready → Elaborates b o t e (stepsMarked b run limit n) →
       Elaborates b o t e (check b run limit n)
-  opened-elaborating {o} {t} {e} z h = subst (Elaborates b o t e) (sym (opened-marked b run limit n code z)) h
+  opened-elaborating {o} {t} {e} ready h =
+      subst (Elaborates b o t e) (sym (opened-marked b run limit n answered ready)) h

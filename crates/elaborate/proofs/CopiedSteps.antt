@@ -18,14 +18,16 @@ use Rattle.numbers.specs.Bytes.{Bytes, bytesOf, le}
 use Rattle.numbers.proofs.Truths.{both, never}
 use Rattle.terms.proofs.BookTerms.{recordNumber-tree}
 use Rattle.numbers.proofs.LittleEndian.{le-of-two}
-use Rattle.rules.specs.Parts.{numbersIn, named, termsIn}
+use Rattle.rules.specs.memory.Parts.{numbersIn, named, termsIn}
 use Rattle.runs.specs.Rule.{Rule, ruleNumber, ruleOf}
 use Rattle.runs.specs.Run.{Step, Rec, rec, S, P, C, A, recs, leading, allRight, numbersOf, headRule, recordBytes}
 use Rattle.runs.specs.Run.{premiseBytes, termBytes}
-use Rattle.runs.specs.StepParts.{leadingIn, afterIn, premisesIn, clauseIn, argsIn, bytesIn, headIn, ruleIn, stepIn}
-use Rattle.runs.specs.StepParts.{isSome, StandsIn}
+use Rattle.runs.specs.memory.StepParts.{leadingIn, afterIn, premisesIn, clauseIn, argsIn, bytesIn, headIn, ruleIn}
+use Rattle.runs.specs.memory.StepParts.{stepIn}
+use Rattle.runs.specs.memory.StepParts.{StandsIn}
+use Rattle.rules.specs.memory.Parts.{isSome}
 use Rattle.elaborate.specs.Elaborate.{elaboratedRule, stepBytes}
-use Rattle.elaborate.specs.OutAreas.{WritesOne, withStep}
+use Rattle.elaborate.specs.memory.OutAreas.{WritesOne, withStep}
 use Rattle.elaborate.specs.declared.farkas.Out.{Out}
 use Rattle.runs.proofs.RunRecords.{recs-leading, numbers-of, rowsIn, step-taken, bytes-within, bytes-least}
 use Rattle.runs.proofs.RowRecords.{numberBytes, recordNumbers, premises-are-numbers, terms-are-numbers}

@@ -10,11 +10,11 @@ use Rattle.numbers.specs.Rational.{Rational}
 use Rattle.numbers.specs.Bytes.{Bytes}
 use Rattle.rules.specs.Refusal.Outcome.{ok}
 use Rattle.rules.specs.Limits.{limited}
-use Rattle.rules.specs.Parts.{Ready}
+use Rattle.rules.specs.memory.Parts.{Ready}
 use Rattle.runs.specs.Run.{Step, readRun, stepsOf}
 use Rattle.runs.specs.Check.{Accepted, Marking, State, turn, answered, checkSteps}
-use Rattle.runs.specs.StepParts.{stepIn, bytesIn}
-use Rattle.runs.specs.Lent.{Reached, stateOf}
+use Rattle.runs.specs.memory.StepParts.{stepIn, bytesIn}
+use Rattle.runs.specs.memory.Lent.{Reached, stateOf}
 use Rattle.runs.specs.declared.check.State as by-value
 use Rattle.runs.specs.declared.check.Marked.{Marked}
 use Rattle.runs.proofs.RunRecords.{partFrom}
@@ -22,8 +22,8 @@ use Rattle.runs.proofs.CheckLoops.{Shows, answerTo, endedAs, placed, turn-same,
 use Rattle.runs.proofs.CheckLoops.{turn-answered, turn-refused, turn-accepted, first, OnTheWay, way-begins, way-goes}
 use Rattle.runs.proofs.CheckLoops.{turnsIn, way-less, way-marking, way-ends}
 use Rattle.elaborate.specs.Elaborate.{Written, written, addReals, addSteps}
-use Rattle.elaborate.specs.OutAreas.{Holds, withStep, moreStep, SteppedIs, SteppedLeft}
-use Rattle.elaborate.specs.OutMemory.{ElaboratesTo, TurnsWritten, Elaborates}
+use Rattle.elaborate.specs.memory.OutAreas.{Holds, withStep, moreStep, steppedRefusal, SteppedIs, SteppedLeft}
+use Rattle.elaborate.specs.memory.OutMemory.{ElaboratesTo, TurnsWritten, Elaborates}
 use Rattle.elaborate.specs.declared.farkas.Out.{Out}
 use Rattle.elaborate.specs.declared.farkas.Stepped.{Stepped}
 use Rattle.elaborate.specs.declared.farkas.Stepped.the-variants as stepped
@@ -105,12 +105,15 @@ module _ {b run o t : Bytes} {e : Elaborating} {σ : State} (under : Under b run
           (left .is (stepsWritten b σ) (under .holds))
 
       pub written-refused :
-          length o′ ≡ length o → length t′ ≡ length t → (c : ℕ) → r ≡ stepped.Refused c → {s : by-value.State} →
-          s ≡ endedAs (e .state) c → Next o′ t′ (record { state = s; out = e .out })
-      written-refused size size′ c f is =
+          length o′ ≡ length o → length t′ ≡ length t → {c : ℕ} → r ≡ stepped.Refused c → {n : ℕ} →
+          n ≡ steppedRefusal r → {s : by-value.State} → s ≡ endedAs (e .state) n →
+          Next o′ t′ (record { state = s; out = e .out })
+      written-refused size size′ {c} f number-is is =
           let refuses = said (stepped.Refused c) f in
           record {
-            state = is ∙ turn-refused (under .shows) going h refuses;
+            state =
+                is ∙ ap (endedAs (e .state)) (number-is ∙ ap steppedRefusal f)
+                ∙ turn-refused (under .shows) going h refuses;
             holds =
                 as-next o′ t′ (e .out) (turn-answered (under .shows) going h ∙ ap (answered σ step) (refuses .is))
                 (holds-back b (e .out) (stepsWritten b σ) (left .fronts) size size′ (under .holds));

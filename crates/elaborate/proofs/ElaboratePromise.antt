@@ -15,10 +15,11 @@ use Rattle.runs.specs.Verdict.{Verdict, lent}
 use Rattle.runs.specs.Verdict.LentRefusal.{noRoom}
 use Rattle.runs.specs.Check.{Marking, check}
 use Rattle.elaborate.specs.Elaborate.{Written, written, addSteps, Answer, answer, fits, elaborated, elaborate}
-use Rattle.elaborate.specs.Demands.{KnownState, Elaboration}
-use Rattle.elaborate.specs.Memory.{Memory, answerTo, memoryAfter, lent as lending}
-use Rattle.runs.specs.Lent.{zeros}
-use Rattle.elaborate.specs.OutMemory.{elaboratedOf, Elaborates, Closes}
+use Rattle.elaborate.specs.Statements.{KnownState, Elaboration}
+use Rattle.elaborate.specs.LentMemory.{Memory, answerTo, memoryAfter, lent as lending}
+use Rattle.runs.specs.Answers.{zeros}
+use Rattle.elaborate.specs.LentMemory.{elaboratedOf}
+use Rattle.elaborate.specs.memory.OutMemory.{Elaborates, Closes}
 use Rattle.elaborate.specs.ElaborateEntry.{foundIn, ElaborateDone}
 use Rattle.elaborate.specs.declared.elaborate.Elaborating.{Elaborating}
 use Rattle.elaborate.specs.declared.elaborate.Elaborated.{Elaborated}

@@ -12,7 +12,7 @@ use Rattle.numbers.specs.Rational.{Rational}
 use Rattle.numbers.specs.Bytes.{Bytes}
 use Rattle.rules.specs.Limits.{limited}
 use Rattle.linear_arithmetic.specs.LinearArithmetic.{laGenericPartial}
-use Rattle.rules.specs.Parts.{termsIn, verdictOf}
+use Rattle.rules.specs.memory.Parts.{termsIn, verdictOf}
 use Rattle.rules.specs.declared.verdict.Verdict.{Verdict}
 use Rattle.rules.proofs.Yields.{weaker}
 use Rattle.runs.specs.Rule.{ruleOf, isRule}
@@ -20,14 +20,15 @@ use Rattle.runs.specs.Rule.Rule.{boundedFarkas}
 use Rattle.runs.specs.Run.{Step}
 use Rattle.runs.specs.Check.{traced, checkRule, checkStep}
 use Rattle.elaborate.specs.Elaborate.{Written, addReals, fits}
-use Rattle.runs.specs.StepParts.{clauseIn, argsIn, ruleIn, stepIn, StandsIn}
+use Rattle.runs.specs.memory.StepParts.{clauseIn, argsIn, ruleIn, stepIn, StandsIn}
 use Rattle.runs.proofs.Rules.{rule-back, rule-number}
 use Rattle.runs.proofs.StepRules.{rule-is}
 use Rattle.runs.proofs.Standing.{stands-rule}
-use Rattle.elaborate.specs.OutAreas.{Holds, Writing, more, moreReal, moreReals, Lies, WritesOne, withStep}
-use Rattle.elaborate.specs.OutAreas.{judgedAs, farkasNumbers, stepNumbers, moreStep, SteppedIs, over, Leaves}
-use Rattle.elaborate.specs.OutAreas.{SteppedLeft}
-use Rattle.runs.specs.Lent.{visitsAfter}
+use Rattle.elaborate.specs.memory.OutAreas.{Holds, Writing, more, moreReal, moreReals, Lies, WritesOne, withStep}
+use Rattle.elaborate.specs.memory.OutAreas.{judgedAs, farkasNumbers, stepNumbers, moreStep, SteppedIs, over}
+use Rattle.elaborate.specs.memory.OutAreas.{Leaves}
+use Rattle.elaborate.specs.memory.OutAreas.{SteppedLeft}
+use Rattle.runs.specs.memory.Lent.{visitsAfter}
 use Rattle.elaborate.specs.declared.farkas.Out.{Out}
 use Rattle.elaborate.specs.declared.farkas.Stepped.{Stepped}
 use Rattle.elaborate.proofs.OutAreas.{fronts-then, further}

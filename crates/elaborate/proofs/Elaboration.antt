@@ -27,9 +27,10 @@ use Rattle.runs.specs.Run.{Step, readRun, maxRunRecords, Every, end, also}
 use Rattle.runs.specs.Check.{Marking, marking, mark}
 use Rattle.elaborate.specs.Elaborate.{Written, written, Answer, answer, addReals, addSteps, fits, elaborate}
 use Rattle.elaborate.specs.Elaborate.{tailBytes, writtenPart, elaboratedRule, stepBytes}
-use Rattle.runs.specs.Lent.{area}
-use Rattle.elaborate.specs.Demands.{MeaningPremises, NoSurplus, writtenSteps, AcceptedAgain, clauses}
-use Rattle.elaborate.specs.Demands.{EveryClauseTrue, SecondMarking, ClausesTrue, Demand3}
+use Rattle.runs.specs.Answers.{area}
+use Rattle.elaborate.specs.Statements.{MeaningPremises, NoSurplus, writtenSteps, AcceptedAgain, clauses}
+use Rattle.elaborate.specs.Statements.{EveryClauseTrue}
+use Rattle.elaborate.specs.Demands.{SecondMarking, ClausesTrue, Demand3}
 use Rattle.elaborate.proofs.EachRule.{laws}
 use Rattle.elaborate.proofs.OutAreas.{Fit, fit-of, fits-of}
 use Rattle.elaborate.proofs.WrittenRuns.{plainBytes, runBytes, AllWritable, whole-run, run-read-back}

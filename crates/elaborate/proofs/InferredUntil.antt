@@ -13,15 +13,15 @@ use Rattle.rules.specs.Refusal.{Refusal, Result}
 use Rattle.rules.specs.Refusal.Outcome.{ok, refused}
 use Rattle.rules.specs.Limits.{Limits}
 use Rattle.rules.specs.IndexMap.{new}
-use Rattle.rules.specs.Parts.{termsIn}
+use Rattle.rules.specs.memory.Parts.{termsIn}
 use Rattle.rules.specs.Shapes.{Clause}
 use Rattle.linear_arithmetic.specs.LinearArithmetic.{Progress, progress, processDisequality, readArgs}
-use Rattle.linear_arithmetic.specs.LinearSteps.{at}
+use Rattle.linear_arithmetic.specs.memory.LinearSteps.{at}
 use Rattle.rules.proofs.Results.{next, ends}
 use Rattle.linear_arithmetic.proofs.FoldedSteps.{by-outcome, foldEnd, end-by}
 use Rattle.linear_arithmetic.proofs.FoldedAreas.{Given, limitsOf, clauseOf}
 use Rattle.linear_arithmetic.proofs.PartialFold.{partialEnd, Ended}
-use Rattle.elaborate.specs.OutAreas.{inferredUntil, farkasNumbers}
+use Rattle.elaborate.specs.memory.OutAreas.{inferredUntil, farkasNumbers}
 
 module _ (l : Limits) where
   -- by what the first literal does

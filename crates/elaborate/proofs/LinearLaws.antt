@@ -32,7 +32,8 @@ use Rattle.runs.specs.Rule.{ruleNumber}
 use Rattle.runs.specs.Rule.Rule.{laTautology, laGeneric, boundedFarkas}
 use Rattle.runs.specs.Run.{Step, Every, end, also}
 use Rattle.runs.specs.Check.{accepted, traced, checkRule}
-use Rattle.elaborate.specs.Demands.{MeaningPremises, Differs}
+use Rattle.elaborate.specs.Statements.{MeaningPremises}
+use Rattle.elaborate.specs.Demands.{Differs}
 use Rattle.elaborate.specs.Demands.Differs.{negativeEquality, quotientBound}
 use Rattle.elaborate.proofs.RealRecord.{Storable}
 use Rattle.elaborate.proofs.RuleLaws.{RuleLaws, Inference, infers-nothing, refused-before, OnLiteral, one-meets}

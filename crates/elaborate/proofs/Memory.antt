@@ -22,9 +22,10 @@ use Rattle.runs.specs.Check.{Marking, mark, lentOk, check}
 use Rattle.runs.proofs.Turns.{Marks, ends, stops, goes-on}
 use Rattle.elaborate.specs.Elaborate.{Written, Answer, answer, realRecord, tailBytes, written, addSteps, fits}
 use Rattle.elaborate.specs.Elaborate.{elaborated, elaborate}
-use Rattle.runs.specs.Lent.{area}
-use Rattle.elaborate.specs.Demands.{KnownState, Demand1, TraceMakesNoDifference, checkOf}
-use Rattle.elaborate.specs.Memory.{Memory, answerTo, memoryAfter}
+use Rattle.runs.specs.Answers.{area}
+use Rattle.elaborate.specs.Statements.{KnownState}
+use Rattle.elaborate.specs.Demands.{Demand1, TraceMakesNoDifference, checkOf}
+use Rattle.elaborate.specs.LentMemory.{Memory, answerTo, memoryAfter}
 use Rattle.elaborate.proofs.OutAreas.{Fit, fit-of, none-fits}
 use Rattle.elaborate.proofs.Unrefused.{steps-marked, Reads, reads, mark-is, checked, elaborate-is}
 use Rattle.elaborate.proofs.Unrefused.Reads.{not-read, is-read}

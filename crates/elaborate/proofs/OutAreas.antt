@@ -18,11 +18,12 @@ use lib.Dec.{leb}
 use lib.ListN.{length, take, drop}
 use lib.Seq.{take-take, drop-drop}
 use Rattle.numbers.specs.Bytes.{Bytes}
-use Rattle.terms.specs.Book.{count, maxRecords}
+use Rattle.terms.specs.Book.{count}
+use Rattle.terms.specs.Format.{maxRecords}
 use Rattle.numbers.proofs.Truths.{both, never}
 use Rattle.elaborate.specs.Elaborate.{Written, written, tailBytes, fits}
 use Rattle.runs.specs.Run.{end}
-use Rattle.elaborate.specs.OutAreas.{Stored, Holds, Fronts, Grows, Backs, Writing, Writes}
+use Rattle.elaborate.specs.memory.OutAreas.{Stored, Holds, Fronts, Grows, Backs, Writing, Writes}
 use Rattle.elaborate.specs.declared.farkas.Out.{Out}
 
 -- ---- what fits

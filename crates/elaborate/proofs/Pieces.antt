@@ -13,7 +13,7 @@ use lib.ListN.{length, take, drop, length-append}
 use lib.Seq.{paste, take-take, take-length, take-at, length-take-le, take-paste, length-paste, drop-paste}
 use Rattle.numbers.specs.Bytes.{Bytes}
 use Rattle.elaborate.specs.Elaborate.{Written, written, fits}
-use Rattle.elaborate.specs.OutAreas.{Stored, Holds, Writing, writing, more, Lies, Writes, WritesOne}
+use Rattle.elaborate.specs.memory.OutAreas.{Stored, Holds, Writing, writing, more, Lies, Writes, WritesOne}
 use Rattle.elaborate.specs.declared.farkas.Out.{Out}
 use Rattle.elaborate.proofs.OutAreas.{Fit, fit-of, fits-of, unfit, Longer, unfit-longer, fronts-same, grows-same}
 use Rattle.elaborate.proofs.OutAreas.{backs-same, holds-stored, stored-holds, holds-unfit, unfit-holds}

@@ -45,7 +45,7 @@ use Rattle.runs.specs.Rule.Rule.{assume, laRwEq, laDisequality, laTotality, laT
 use Rattle.runs.specs.Rule.Rule.{polySimp, polySimpRel}
 use Rattle.runs.specs.Run.{Every}
 use Rattle.runs.proofs.Rules.{same-rule}
-use Rattle.elaborate.specs.OutMemory.{placeOr}
+use Rattle.elaborate.specs.memory.OutMemory.{placeOr}
 use Rattle.elaborate.proofs.Everywhere.{every-at}
 use Rattle.elaborate.proofs.Memory.{tailBytes-length}
 use Rattle.elaborate.proofs.RealRecord.{length-real, real-of}

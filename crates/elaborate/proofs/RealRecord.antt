@@ -24,7 +24,7 @@ use Rattle.numbers.proofs.Ranges.{inRange-of-sizes}
 use Rattle.numbers.proofs.LittleEndian.{le-inside, le-add, le-cons}
 use Rattle.numbers.proofs.TwosComplement.{complement-below, signed-complement}
 use Rattle.terms.proofs.Trees.{tree-node}
-use Rattle.terms.proofs.Records.{sameBytes-false}
+use Rattle.numbers.proofs.SameBytes.{sameBytes-false}
 use Rattle.terms.proofs.Nodes.{node-rational}
 use Rattle.elaborate.specs.Elaborate.{realRecord, isReal}
 

@@ -29,7 +29,8 @@ use Rattle.runs.specs.Rule.Rule.{assume, boundedFarkas}
 use Rattle.runs.specs.Run.{step, Every, end, also}
 use Rattle.runs.specs.Check.{Accepted, accepted, checkRule}
 use Rattle.elaborate.specs.Elaborate.{elaboratedRule}
-use Rattle.elaborate.specs.Demands.{MeaningPremises, NoSurplus, OneLiteral, meetsRule, Comparable, Differs}
+use Rattle.elaborate.specs.Statements.{MeaningPremises, NoSurplus}
+use Rattle.elaborate.specs.Demands.{OneLiteral, meetsRule, Comparable, Differs}
 use Rattle.elaborate.proofs.RealRecord.{Storable}
 
 -- the terms are of a book, or of another class that is closed

@@ -16,7 +16,7 @@ use Rattle.runs.specs.Verdict.{Verdict}
 use Rattle.runs.specs.Run.{Step, Every, end, also}
 use Rattle.runs.specs.Check.{Accepted, accepted, clausesOf, checkStep, Marking, marking}
 use Rattle.runs.proofs.Turns.{before, markFrom, next, Marks, ends, stops, goes-on}
-use Rattle.elaborate.specs.Demands.{NoSurplus}
+use Rattle.elaborate.specs.Statements.{NoSurplus}
 use Rattle.elaborate.proofs.EachRule.{laws}
 use Rattle.elaborate.proofs.RunTerms.{Ordered, one, no-such-step}
 use Rattle.elaborate.proofs.Unrefused.{markSteps, steps-marked}

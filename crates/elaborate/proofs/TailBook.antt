@@ -17,7 +17,9 @@ use Rattle.numbers.specs.Rational.{Rational, eqQ}
 use Rattle.numbers.specs.Bytes.{Bytes}
 use Rattle.terms.specs.Term.{sort, sortCode}
 use Rattle.terms.specs.Term.Term.{rational}
-use Rattle.terms.specs.Book.{count, maxRecords, recordOf, tree, sameBytes, stands, recordRead, readRecords, readBook}
+use Rattle.terms.specs.Book.{count, recordOf, tree, stands, recordRead, readRecords, readBook}
+use Rattle.terms.specs.Format.{maxRecords}
+use Rattle.numbers.specs.Bytes.{sameBytes}
 use Rattle.terms.specs.Book.{sizeOk}
 use Rattle.terms.specs.declared.book.BookRefusal.the-variants.{BookSize}
 use Rattle.terms.specs.declared.book.BookRead.the-variants.{Records, RefusedAt}

@@ -12,7 +12,7 @@ use Rattle.runs.specs.Rule.{isRule}
 use Rattle.runs.specs.Rule.Rule.{laGeneric, boundedFarkas}
 use Rattle.runs.specs.Run.{Step}
 use Rattle.runs.proofs.Rules.{same-rule}
-use Rattle.elaborate.specs.Demands.{Premises}
+use Rattle.elaborate.specs.Statements.{Premises}
 use Rattle.elaborate.specs.PremiseTests.{premisesMet}
 
 -- ---- an implication as a test

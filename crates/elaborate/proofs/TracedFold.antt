@@ -12,29 +12,32 @@ use lib.IntN.{pos}
 use lib.ListN.{length, take, drop, take-append-drop}
 use Rattle.numbers.specs.Rational.{Rational, whole}
 use Rattle.numbers.specs.Bytes.{Bytes}
+use Rattle.terms.specs.Operator.{Equals}
 use Rattle.rules.specs.Refusal.{Result, _>>=_}
 use Rattle.rules.specs.Refusal.Outcome.{ok, refused}
 use Rattle.rules.specs.Limits.{limited}
 use Rattle.linear_arithmetic.specs.LinearArithmetic.{Progress, readArgs}
-use Rattle.linear_comb.specs.WorkArea.{areaOf, withArea}
-use Rattle.rules.specs.Entries.{blanked}
-use Rattle.rules.specs.Parts.{Ready, Refuses, termsIn, Inside, codeOf, verdictOf}
-use Rattle.linear_arithmetic.specs.LinearSteps.{visitsOf, contradicts}
+use Rattle.linear_comb.specs.memory.WorkArea.{areaOf, withArea}
+use Rattle.rules.specs.memory.Entries.{blanked}
+use Rattle.rules.specs.memory.Parts.{Ready, Refuses, termsIn, Inside, assertedOf, verdictOf}
+use Rattle.linear_arithmetic.specs.memory.LinearSteps.{maxRunBytes, visitsOf, contradicts}
 use Rattle.linear_arithmetic.specs.declared.linear_arithmetic.Folded.{Folded}
 use Rattle.linear_arithmetic.specs.declared.linear_arithmetic.Folded.the-variants as folded
-use Rattle.linear_arithmetic.specs.declared.linear_arithmetic.Progress as by-value
+use Rattle.linear_arithmetic.specs.declared.process_disequality.Progress as by-value
+use Rattle.rules.specs.declared.verdict.Asserted.{Asserted}
+use Rattle.rules.specs.declared.verdict.Asserted.the-variants as asserted
 use Rattle.rules.specs.declared.verdict.Verdict.{Verdict}
 use Rattle.rules.specs.declared.verdict.Verdict.the-variants as verdict
-use Rattle.rules.proofs.Results.{code-some}
+use Rattle.rules.proofs.Results.{asserted-refuses}
 use Rattle.rules.proofs.Yields.{Yields, gives, refuses, and-then}
 use Rattle.linear_arithmetic.proofs.FoldedAreas.{Given}
 use Rattle.linear_arithmetic.proofs.PartialFold.{PartSoFar, Rested, Ended, partialOf, ended-trace, part-unread}
 use Rattle.linear_arithmetic.proofs.PartialFold.{part-begin, refused-end, part-refused, done-end, part-done, part-again}
 use Rattle.runs.specs.Check.{Accepted, traced}
 use Rattle.elaborate.specs.Elaborate.{Written, addReal, addReals, fits}
-use Rattle.elaborate.specs.OutAreas.{Holds, Backs, Writing, moreReal, moreReals, Lies, Writes, judgedAs}
-use Rattle.elaborate.specs.OutAreas.{SteppedIs, Counts, over, Leaves, SteppedLeft}
-use Rattle.runs.specs.Lent.{visitsAfter}
+use Rattle.elaborate.specs.memory.OutAreas.{Holds, Backs, Writing, moreReal, moreReals, Lies, Writes, judgedAs}
+use Rattle.elaborate.specs.memory.OutAreas.{SteppedIs, Counts, over, Leaves, SteppedLeft}
+use Rattle.runs.specs.memory.Lent.{visitsAfter}
 use Rattle.elaborate.specs.declared.farkas.Out.{Out}
 use Rattle.elaborate.specs.declared.farkas.Stepped.{Stepped}
 use Rattle.elaborate.specs.declared.farkas.Stepped.the-variants as stepped
@@ -109,7 +112,9 @@ more-reals-then f b (x ∷ qs) q s = more-reals-then f b qs q (moreReal f b x s)
 -- ---- the loop
 
 -- from the out areas o and t with the counts out; now they are o′ and t′ with the counts r
-pub record TracedSoFar (g : Given) (v : ℕ) (o t : Bytes) (out : Out) (w : Bytes) (p : by-value.Progress) (done : ℕ) (o′ t′ : Bytes) (r : Out) : Type 0 where
+pub record TracedSoFar
+    (g : Given) (v : ℕ) (o t : Bytes) (out : Out) (w : Bytes) (p : by-value.Progress) (done : ℕ) (o′ t′ : Bytes)
+    (r : Out) : Type 0 where
   pub trace : List Rational
   pub far : PartSoFar g v trace w p done
   pub writes :
@@ -127,35 +132,40 @@ refused-traced :
     (c : ℕ) (d : Result Progress) → verdict.Refused c ≡ verdictOf (visitsOf d) → Refuses c (traced d)
 refused-traced c d e = refused-as c (traced d) (e ∙ ap verdictOf (sym (visits-traced d)))
 
--- c is the number of what is read
-module _ (g : Given) (v c : ℕ) (c-is : (n : ℕ) → c ≡ codeOf (readArgs (limited n) (termsIn (g .book) (g .args)))) where
+-- r is what reading the arguments answers
+module _
+    (g : Given) (v : ℕ) {r : Asserted}
+    (r-is : (n : ℕ) → r ≡ assertedOf (readArgs (limited n) (termsIn (g .book) (g .args)))) where
   pub traced-unread :
-      (c ≡ 0 → ⊥) → (o t : Bytes) (out : Out) → Promised g v o t out (g .work) o t (stepped.Refused c)
+      {c : ℕ} → r ≡ asserted.Refused c → (o t : Bytes) (out : Out) →
+      Promised g v o t out (g .work) o t (stepped.Refused c)
   unfolding moreReals
-  traced-unread other o t out =
-      let stops = part-unread g v c c-is other in
-      let unread = code-some _ c (c-is (g .limit)) other in
+  traced-unread {c} other o t out =
+      let stops = part-unread g v r-is other in
+      let unread = asserted-refuses _ (sym other ∙ r-is (g .limit)) in
       let none : numbersOf g v ≡ [] = numbers-unread _ _ _ v (unread .reason) (unread .is) in (
         record {
           fronts = fronts-same;
           is = λ x h. refused-traced c (partialOf g v) (stops .0);
           left = λ s h.
-              subst (λ qs. Leaves o t o t (stepped.Refused c) (moreReals (fits (g .book) (length o) (length t)) (g .book) qs s))
+              subst
+              (λ qs.
+              Leaves o t o t (stepped.Refused c) (moreReals (fits (g .book) (length o) (length t)) (g .book) qs s))
               (sym none) (counts-leave h backs-same (stepped.Refused c) tt);
         },
         refl,
       )
 
   pub traced-begin :
-      c ≡ 0 → Ready (g .book) (g .work) → Inside (g .book) (g .literals) → length (g .literals) ≤ 16384 →
-      (q : Rational) → q ≡ whole (pos 0) → (o t : Bytes) (out : Out) →
-      TracedSoFar g v o t out (g .work) (record { operator = 4; acc = record { len = 0; constant = q }; visits = v }) 0
-      o t out
+      r ≡ asserted.Holds → Ready (g .book) (g .work) → Inside (g .book) (g .literals) →
+      length (g .literals) ≤ maxRunBytes → (q : Rational) → q ≡ whole (pos 0) → (o t : Bytes) (out : Out) →
+      TracedSoFar g v o t out (g .work)
+      (record { operator = Equals; acc = record { len = 0; constant = q }; visits = v }) 0 o t out
   unfolding addReals moreReals
-  traced-begin zero-is ready named small q q-is o t out =
+  traced-begin numbers ready named small q q-is o t out =
       record {
         trace = [];
-        far = part-begin g v (sym (c-is (g .limit)) ∙ zero-is) ready named small q q-is;
+        far = part-begin g v (sym numbers ∙ r-is (g .limit)) ready named small q q-is;
         writes =
             record {
               fronts = fronts-same;
@@ -168,8 +178,11 @@ module _ (g : Given) (v c : ℕ) (c-is : (n : ℕ) → c ≡ codeOf (readArgs (l
             };
       }
 
-module _ {g : Given} {v : ℕ} {o t : Bytes} {out : Out} {w : Bytes} {p : by-value.Progress} {done : ℕ} {o′ t′ : Bytes} where
-  module _ {written : Out} (so : TracedSoFar g v o t out w p done o′ t′ written) {w′ : Bytes} {r : Folded} (rested : Rested g w p done w′ r) where
+module _
+    {g : Given} {v : ℕ} {o t : Bytes} {out : Out} {w : Bytes} {p : by-value.Progress} {done : ℕ} {o′ t′ : Bytes} where
+  module _
+      {written : Out} (so : TracedSoFar g v o t out w p done o′ t′ written) {w′ : Bytes} {r : Folded}
+      (rested : Rested g w p done w′ r) where
     -- the numbers of the loop are those up to its end or its refusal
     lies-numbers :
         Ended g v (so .trace) → (s : Writing) → Lies (g .book) o t out s →

@@ -19,7 +19,8 @@ use Rattle.runs.specs.Rule.Rule.{assume}
 use Rattle.runs.specs.Run.{Step, Every, stepsOf, end, also}
 use Rattle.runs.specs.Check.{Marking, clausesOf, mark}
 use Rattle.runs.proofs.Turns.{Marks, ends, stops, goes-on}
-use Rattle.elaborate.specs.Demands.{MeaningPremises, Meets}
+use Rattle.elaborate.specs.Statements.{MeaningPremises}
+use Rattle.elaborate.specs.Demands.{Meets}
 use Rattle.elaborate.proofs.EachRule.{laws}
 use Rattle.elaborate.proofs.Everywhere.{every-both, every-append, every-at}
 use Rattle.elaborate.proofs.Meeting.{meets-alethe}

@@ -1,58 +1,42 @@
 -- The three demands, as statements over the definitions, for all bytes, lengths, limits and lent memory. Each part is
--- commented with the sentence that it renders. Nothing is proved here: proofs/Memory proves demand 1 and that the
--- trace makes no difference, proofs/Meeting demand 2, proofs/Elaboration demand 3 and its two halves, the second
--- marking and the truth of the clauses.
+-- commented with the sentence that it renders; what they say of one call is in Statements. Nothing is proved here:
+-- proofs/Memory proves demand 1 and that the trace makes no difference, proofs/Meeting demand 2, proofs/Elaboration
+-- demand 3 and its two halves, the second marking and the truth of the clauses. Only proofs import this module.
 use mathlib.Core.Path.{_≡_}
-use mathlib.Core.Bool.{_&&_, _||_, not}
-use mathlib.Core.List.{List, [], _∷_, _++_}
+use mathlib.Core.Bool.{not}
+use mathlib.Core.List.{List, [], _∷_}
 use mathlib.Core.Logic.{_⊎_}
-use Prim.Native.Nat.{ℕ, _-_, _≤_}
+use Prim.Native.Nat.{ℕ}
 use lib.Dec.{T}
-use lib.ListN.{length, replicate, getD}
+use lib.ListN.{length, getD}
 use Rattle.numbers.specs.Rational.{Rational}
 use Rattle.numbers.specs.Bytes.{Bytes}
 use Rattle.terms.specs.Term.{Term}
-use Rattle.terms.specs.Smtlib.{Assignment, holds}
-use Rattle.rules.specs.Refusal.{Outcome}
 use Rattle.rules.specs.Refusal.Outcome.{ok}
 use Rattle.rules.specs.Limits.{theRust, limited}
 use Rattle.rules.specs.Shapes.{Clause}
-use Rattle.linear_theory.specs.Premises.{allEven, wholeLiterals}
 use Rattle.alethe.specs.Alethe as Alethe
 use Rattle.alethe.specs.AletheDifferences.{NegativeEquality, QuotientBound, VanishingMonomial, WholeBounds}
 use Rattle.alethe.specs.AletheDifferences.{NoZeroArgument}
-use Rattle.runs.specs.Verdict.{LentRefusal, Verdict, lent, isLent, isOfRule, isLentOrLimit}
+use Rattle.runs.specs.Verdict.{lent, isLent, isOfRule, isLentOrLimit}
 use Rattle.runs.specs.Verdict.LentRefusal.{noRoom}
-use Rattle.runs.specs.Rule.{Rule, isRule}
+use Rattle.runs.specs.Rule.{Rule}
 use Rattle.runs.specs.Rule.Rule.{assume, laRwEq, laDisequality, laTotality, laTautology, laGeneric, boundedFarkas}
 use Rattle.runs.specs.Rule.Rule.{polySimp, polySimpRel}
-use Rattle.runs.specs.Run.{Step, step, readRun, stepsOf, Every}
+use Rattle.runs.specs.Run.{Step, step, stepsOf, Every}
 use Rattle.runs.specs.Check.{Marking, mark, check, clausesOf}
-use Rattle.elaborate.specs.Elaborate.{Answer, answer, elaborateUnder, elaborate, writtenPart}
-use Rattle.runs.specs.Lent.{area, zeros}
-use Rattle.elaborate.specs.Memory.{Memory, answerTo, memoryAfter}
+use Rattle.elaborate.specs.Elaborate.{elaborateUnder, elaborate}
+use Rattle.elaborate.specs.LentMemory.{Memory, answerTo, memoryAfter}
+use Rattle.elaborate.specs.Statements.{KnownState, MeaningPremises, NoSurplus, AllPremises, writtenSteps}
+use Rattle.elaborate.specs.Statements.{AcceptedAgain, EveryClauseTrue, Elaboration}
 
 -- ---- demand 1: memory
-
--- 'For all bytes, lengths and limits the lent memory comes back in a known state'
-pub record KnownState (m after : Memory) (a : Answer) : Type 0 where
-  -- 'book and run unchanged'
-  pub book : after .book ≡ m .book
-  pub run : after .run ≡ m .run
-  -- 'work area all zero'
-  pub work : after .work ≡ zeros (m .work)
-  -- 'each out area its answer and then zeros', and as long as it was
-  pub outRun : after .outRun ≡ a .run ++ replicate (length (m .outRun) - length (a .run)) 0
-  pub outTail : after .outTail ≡ a .tail ++ replicate (length (m .outTail) - length (a .tail)) 0
-  pub runLength : length (after .outRun) ≡ length (m .outRun)
-  pub tailLength : length (after .outTail) ≡ length (m .outTail)
-  -- 'or only zeros on refusals 1 to 8'
-  pub refusedRun : T (isLent (a .verdict)) → after .outRun ≡ zeros (m .outRun)
-  pub refusedTail : T (isLent (a .verdict)) → after .outTail ≡ zeros (m .outTail)
 
 -- That every entry point finishes and puts no condition on its caller is the code's proof; that it refuses by
 -- document 01's table is its contract, which equates the answer with `elaborate` and `check`.
 pub record Demand1 : Type 0 where
+  -- 'For all bytes, lengths and limits the lent memory comes back in a known state: book and run unchanged, work area
+  -- all zero, each out area its answer and then zeros, or only zeros on refusals 1 to 8'
   pub memory : (m : Memory) (limit : ℕ) → KnownState m (memoryAfter m limit) (answerTo m limit)
 
 -- ---- trace on and off
@@ -74,29 +58,6 @@ pub record TraceOnAndOff (m : Memory) (limit : ℕ) : Type 0 where
 -- for all lent memory and limits
 abbrev pub TraceMakesNoDifference : Type 0
 TraceMakesNoDifference = (m : Memory) (limit : ℕ) → TraceOnAndOff m limit
-
--- ---- demand 3's premises on the accepted steps
-
--- what the truth of its clause needs
-pub record MeaningPremises (s : Step) (inferred : List Rational) : Type 0 where
-  -- 'each div of two written numbers with a nonzero divisor comes out even'
-  pub evenDivs : T (allEven (s .clause) && allEven (s .args))
-  -- 'in la_generic and bounded_farkas each literal whose atoms, after cancelling, are all Int has whole coefficients
-  -- and a whole argument, given or inferred'
-  pub whole :
-      T (isRule laGeneric (s .rule) || isRule boundedFarkas (s .rule)) →
-      T (wholeLiterals (s .clause) (s .args) inferred)
-
--- what its second marking needs: 'no bounded_farkas step has more arguments than literals'
-abbrev pub NoSurplus : Step → Type 0
-NoSurplus s = s .rule ≡ boundedFarkas → length (s .args) ≤ length (s .clause)
-
-pub record Premises (s : Step) (inferred : List Rational) : Type 0 where
-  pub meaning : MeaningPremises s inferred
-  pub noSurplus : NoSurplus s
-
-abbrev pub AllPremises : List (Step × List Rational) → Type 0
-AllPremises = Every (λ x. Premises (x .0) (x .1))
 
 -- ---- demand 2: the Rust's answers
 
@@ -186,46 +147,12 @@ pub record Demand2 : Type 1 where
 
 -- ---- demand 3: elaboration
 
-abbrev pub clauses : List Step → List Clause
-clauses [] = []
-clauses (s ∷ ss) = s .clause ∷ clauses ss
-
--- 'the assumed clauses are those of the accepted assume steps'
-abbrev pub AssumedTrue : Assignment → List Step → Type 0
-AssumedTrue ρ = Every (λ s. s .rule ≡ assume → T (holds ρ (s .clause)))
-
--- the steps that an answer wrote: 'book, then tail, is the elaborated run's book'
-abbrev pub writtenSteps : Bytes → Answer → Outcome LentRefusal (List Step)
-writtenSteps book a = readRun (book ++ a .tail) (a .run)
-
--- the second marking of what an answer wrote
-pub record AcceptedAgain (book : Bytes) (limit work outRun outTail : ℕ) (a : Answer) : Type 0 where
-  -- 'marked once more under the same limit' over book and tail, with areas as large and of any content: 'accepted
-  -- whole with nothing inferred: verdict 0, exactly the accepted steps and visits of the first marking', 'and its own
-  -- elaboration is the same run with an empty tail'
-  pub again :
-      elaborate (book ++ a .tail) (writtenPart (area outRun (a .run)) (length (a .run))) limit work outRun outTail
-      ≡ answer Verdict.accepted (a .steps) (a .visits) (a .run) []
-  -- its steps
-  pub steps : List Step
-  pub read : writtenSteps book a ≡ ok steps
-  pub count : length steps ≡ a .steps
-  -- 'it holds no rule 6'
-  pub noRule6 : Every (λ s. s .rule ≡ boundedFarkas → ⊥) steps
-
--- 'Under every assignment of the right sorts that makes the assumed clauses true, every clause in it has a true
--- literal'
-abbrev pub EveryClauseTrue : List Step → Type 0
-EveryClauseTrue steps = (ρ : Assignment) → AssumedTrue ρ steps → Every (λ c. T (holds ρ c)) (clauses steps)
-
-pub record Elaboration (book : Bytes) (limit work outRun outTail : ℕ) (a : Answer) : Type 0 where
-  pub marked : AcceptedAgain book limit work outRun outTail a
-  pub truth : EveryClauseTrue (marked .steps)
-
 -- Each of the following is 'for every book, run, limit and lent memory on which refusals 1 to 8 don't arise, wherever
 -- the run stops'.
 
--- the second marking needs no more than that no bounded_farkas step has surplus arguments
+-- what was written, 'marked once more under the same limit', is 'accepted whole with nothing inferred', 'and its own
+-- elaboration is the same run with an empty tail'; this needs no more than that 'no bounded_farkas step has more
+-- arguments than literals'
 abbrev pub SecondMarking : Type 0
 SecondMarking =
     (book run : Bytes) (limit work outRun outTail : ℕ) →
@@ -233,7 +160,9 @@ SecondMarking =
     Every (λ x. NoSurplus (x .0)) (mark (limited limit) book run .steps) →
     AcceptedAgain book limit work outRun outTail (elaborate book run limit work outRun outTail)
 
--- the truth of what was written needs no more than the premises on meaning
+-- 'Under every assignment of the right sorts that makes the assumed clauses true, every clause in it has a true
+-- literal'; this needs no more than the premises on meaning: that divs come out even, and that the numbers of literals
+-- whose atoms are all Int are whole
 abbrev pub ClausesTrue : Type 0
 ClausesTrue =
     (book run : Bytes) (limit work outRun outTail : ℕ) →

@@ -1,6 +1,6 @@
 -- Elaboration, src/elaborator/local/farkas.rs: the accepted steps with rule 6 turned to 5, and the numbers that it
 -- inferred appended as A records of real constants. A constant that neither the book nor the tail has is added to the
--- tail. And the entry points: what they answer, and every byte of the lent areas afterwards.
+-- tail. And what the entry points answer.
 use mathlib.Core.Bool.{Bool, true, false, _&&_}
 use mathlib.Core.List.{List, [], _∷_, _++_}
 use mathlib.Core.Option.{Option, some, none}
@@ -11,21 +11,24 @@ use Rattle.numbers.specs.Rational.{Rational, eqQ}
 use Rattle.numbers.specs.Bytes.{Bytes, bytesOf, complement}
 use Rattle.terms.specs.Term.{Term}
 use Rattle.terms.specs.Term.Term.{integer, rational, bitvector, atom, op}
-use Rattle.terms.specs.Book.{count, tree, maxRecords}
+use Rattle.terms.specs.Format as format
+use Rattle.terms.specs.Book.{count, tree}
+use Rattle.terms.specs.Format.{maxRecords}
 use Rattle.rules.specs.Limits.{Limits, limited}
 use Rattle.runs.specs.Verdict.{Verdict, lent}
 use Rattle.runs.specs.Verdict.LentRefusal.{workAreaOrLimit, noRoom}
 use Rattle.runs.specs.Rule.{Rule, ruleNumber}
 use Rattle.runs.specs.Rule.Rule.{assume, laRwEq, laDisequality, laTotality, laTautology, laGeneric, boundedFarkas}
 use Rattle.runs.specs.Rule.Rule.{polySimp, polySimpRel}
-use Rattle.runs.specs.Run.{Step, S, C, A, maxRunRecords, recordBytes, premiseBytes, termBytes}
+use Rattle.runs.specs.Run.{Step, S, C, A, runRecordBytes, maxRunRecords, recordBytes, premiseBytes, termBytes}
 use Rattle.runs.specs.Check.{Marking, mark, lentOk}
 
 -- ---- constants
 
 unfoldable pub realRecord : Rational → Bytes
 realRecord q =
-    2 ∷ 0 ∷ 0 ∷ 0 ∷ (bytesOf 8 (complement 8 (q .num)) ++ (bytesOf 8 (complement 8 (q .den)) ++ replicate 12 0))
+    format.realKind ∷ 0 ∷ 0 ∷ 0
+    ∷ (bytesOf 8 (complement 8 (q .num)) ++ (bytesOf 8 (complement 8 (q .den)) ++ replicate 12 0))
 
 abbrev pub isReal : Rational → Term → Bool
 isReal q (integer i v) = false
@@ -108,8 +111,8 @@ answer v s n r t = record { verdict = v; steps = s; visits = n; run = r; tail = 
 -- refusal 8: the elaboration goes into both areas, and into document 01's limits
 unfoldable pub fits : Bytes → ℕ → ℕ → Written → Bool
 fits book outRun outTail w =
-    (leb (length (w .run)) outRun && leb (32 * length (w .tail)) outTail)
-    && (leb (count book + length (w .tail)) maxRecords && leb (length (w .run) / 4) maxRunRecords)
+    (leb (length (w .run)) outRun && leb (format.recordBytes * length (w .tail)) outTail)
+    && (leb (count book + length (w .tail)) format.maxRecords && leb (length (w .run) / runRecordBytes) maxRunRecords)
 
 -- 8 is tested after the marking and replaces its verdict
 unfoldable pub elaborated : Bytes → ℕ → ℕ → Marking → Answer
@@ -130,8 +133,10 @@ elaborate book run limit work outRun outTail = elim (lentOk work limit) [
   | false ↦ answer (lent workAreaOrLimit) 0 0 [] []
 ]
 
--- ---- the lent bytes afterwards
+-- ---- the written part of the out run, as an entry point shows it
 
--- the entry point that shows the written part of the out run
 unfoldable pub writtenPart : Bytes → ℕ → Bytes
-writtenPart out bytes = elim (leb bytes (length out) && eqb (bytes % 4) 0) [ true ↦ take bytes out | false ↦ [] ]
+writtenPart out bytes = elim (leb bytes (length out) && eqb (bytes % runRecordBytes) 0) [
+  | true ↦ take bytes out
+  | false ↦ []
+]

@@ -2,17 +2,17 @@
 -- was lent, equated with definitions. A name with a prime is what lies in a lent area when the function returns.
 use mathlib.Core.Path.{_≡_}
 use mathlib.Core.Bool.{not}
-use Prim.Native.Nat.{ℕ, _+_, _≤_}
+use Prim.Native.Nat.{ℕ, _+_, _*_, _≤_}
 use lib.Dec.{T}
 use lib.ListN.{length}
 use Rattle.numbers.specs.Bytes.{Bytes}
+use Rattle.terms.specs.Format.{recordBytes, maxRecords}
 use Rattle.rules.specs.Limits.{limited}
 use Rattle.runs.specs.Verdict.{Verdict, isLent}
 use Rattle.runs.specs.Check.{mark}
 use Rattle.elaborate.specs.Elaborate.{Answer, answer, writtenPart}
-use Rattle.elaborate.specs.Demands.{KnownState, AllPremises, Elaboration}
-use Rattle.elaborate.specs.Memory.{Memory, answerTo, memoryAfter}
-use Rattle.elaborate.specs.OutMemory.{elaboratedOf}
+use Rattle.elaborate.specs.LentMemory.{Memory, answerTo, elaboratedOf, memoryAfter}
+use Rattle.elaborate.specs.Statements.{KnownState, AllPremises, Elaboration}
 use Rattle.elaborate.specs.declared.elaborate.Elaborated.{Elaborated}
 
 -- ---- `elaborate`
@@ -36,7 +36,7 @@ pub record ElaborateDone (m : Memory) (limit : ℕ) (m′ : Memory) (r : Elabora
   -- demand 1: these bytes are a known state
   pub known : KnownState m m′ (answerTo m limit)
   -- book and tail are 2,048 records at most: 65,536 bytes have room for both
-  pub room : T (not (isLent (answerTo m limit .verdict))) → length (m .book) + r .tail ≤ 65536
+  pub room : T (not (isLent (answerTo m limit .verdict))) → length (m .book) + r .tail ≤ recordBytes * maxRecords
   -- demand 3, of what is answered and written
   pub elaboration :
       Demand3Applies m limit →

@@ -1,7 +1,8 @@
 pub mod Elaborate
-pub mod Memory
-pub mod Demands
-pub mod OutAreas
-pub mod OutMemory
+pub mod LentMemory
+pub mod Statements
 pub mod ElaborateEntry
 pub mod PremiseTests
+pub mod memory
+-- the top
+pub mod Demands

@@ -5,24 +5,30 @@ ghost use lib.ListN.{length};
 ghost use Rattle.numbers.specs.Bytes.{Bytes};
 ghost use Rattle.rules.specs.Refusal.Outcome.{ok};
 ghost use Rattle.rules.specs.Limits.{limited};
-ghost use Rattle.rules.specs.Parts.{Ready};
+ghost use Rattle.rules.specs.memory.Parts.{Ready};
 ghost use Rattle.runs.specs.Run.{readRun, stepsOf};
 ghost use Rattle.runs.specs.Check.{Marking, checkSteps, check};
 ghost use Rattle.elaborate.specs.Elaborate.{elaborated};
-ghost use Rattle.runs.specs.Lent.{openWork, Underway};
-ghost use Rattle.elaborate.specs.OutMemory.{TurnsWritten, Elaborates, Closes};
-ghost use Rattle.elaborate.specs.Memory.{lent};
+ghost use Rattle.runs.specs.memory.Lent.{openWork, Underway};
+ghost use Rattle.elaborate.specs.memory.OutMemory.{TurnsWritten, Elaborates, Closes};
+ghost use Rattle.elaborate.specs.LentMemory.{lent};
 ghost use Rattle.elaborate.specs.ElaborateEntry.{ElaborateDone, WrittenDone};
 use crate::farkas::Out;
 use crate::farkas::Stepped;
 use crate::farkas::elaborate_step;
+use crate::farkas::stepped_refusal;
+use numbers::bytes::clear_from;
+use runs::check::ACCEPTED;
+use runs::check::Opened;
 use runs::check::State;
 use runs::check::advanced;
-use runs::check::clear_from;
 use runs::check::ended;
 use runs::check::open;
+use runs::check::opened_refusal;
 use runs::check::start;
-use runs::run::bytes;
+use runs::run::parts;
+use terms::format::RUN_RECORD_BYTES;
+use terms::refusal::NO_ROOM;
 
 // A marking under way, and what of its elaboration is written.
 pub(crate) struct Elaborating {
@@ -77,20 +83,22 @@ pub(crate) fn turn(
     }
     if run.len() <= at {
         return Elaborating {
-            state: ended(s, 0),
+            state: ended(s, ACCEPTED),
             out,
         };
     }
     let step = &run[at..];
-    match elaborate_step(book, work, run, step, counter, outrun, outtail, out) {
-        Stepped::Refused(verdict) => Elaborating {
-            state: ended(s, verdict),
+    let p = parts(step);
+    let answer = elaborate_step(book, work, run, step, p, counter, outrun, outtail, out);
+    let Stepped::Accepted(visits, longer) = answer else {
+        return Elaborating {
+            state: ended(s, stepped_refusal(answer)),
             out,
-        },
-        Stepped::Accepted(visits, longer) => Elaborating {
-            state: advanced(s, bytes(step), visits),
-            out: longer,
-        },
+        };
+    };
+    Elaborating {
+        state: advanced(s, p.args, visits),
+        out: longer,
     }
 }
 
@@ -120,7 +128,8 @@ fn elaborate_steps(
     }
 }
 
-fn opened(
+// All of `elaborate` but for the clearing of the areas.
+fn elaborate_run(
     book: &[u8],
     run: &[u8],
     limit: u32,
@@ -132,13 +141,13 @@ fn opened(
         (check (now (book .entry)) (now (run .entry)) limit (length (now (work .entry)))) ⌝ }
     ensures { λ _. ⌜ now (work .exit) ≡ openWork (now (book .entry)) limit (now (work .entry)) ⌝ }
 {
-    let verdict = open(book, run, limit, work);
-    if verdict != 0 {
+    let answer = open(book, run, limit, work);
+    let Opened::Ready = answer else {
         return Elaborating {
-            state: ended(start(limit), verdict),
+            state: ended(start(limit), opened_refusal(answer)),
             out: nothing(),
         };
-    }
+    };
     elaborate_steps(book, run, limit, work, outrun, outtail)
 }
 
@@ -163,7 +172,7 @@ fn close(outrun: &mut [u8], outtail: &mut [u8], e: Elaborating) -> Elaborated
         clear_from(outrun, 0);
         clear_from(outtail, 0);
         return Elaborated {
-            verdict: 8,
+            verdict: NO_ROOM,
             steps,
             visits,
             run: 0,
@@ -196,7 +205,7 @@ pub fn elaborate(
         (now (outrun .entry)) (now (outtail .entry))) limit
         (lent (now (book .exit)) (now (run .exit)) (now (work .exit)) (now (outrun .exit)) (now (outtail .exit))) r ⌝ }
 {
-    let e = opened(book, run, limit, work, outrun, outtail);
+    let e = elaborate_run(book, run, limit, work, outrun, outtail);
     clear_from(work, 0);
     close(outrun, outtail, e)
 }
@@ -207,7 +216,7 @@ pub fn written(outrun: &[u8], bytes: usize) -> &[u8]
     ensures { λ r. ⌜ WrittenDone (now (outrun .entry)) bytes (now (outrun .exit)) (now r) ⌝ }
 {
     if bytes <= outrun.len() {
-        if bytes % 4 == 0 {
+        if bytes % RUN_RECORD_BYTES == 0 {
             return &outrun[0..bytes];
         }
     }

@@ -3,51 +3,55 @@
 // by the counts, and what it wrote is cleared at the end with all that lies behind the counts.
 ghost use mathlib.Core.Path.{_≡_};
 ghost use mathlib.Core.Bool.{false, _&&_};
-ghost use mathlib.Core.List.{List};
 ghost use Prim.Native.Nat.{_+_, _/_, _≤_};
 ghost use lib.Dec.{leb};
-ghost use lib.ListN.{length, take, drop, replicate};
-ghost use lib.IntN.{natAbs};
-ghost use lib.Seq.{paste};
-ghost use Rattle.numbers.specs.Rational.{Rational, Proper};
-ghost use Rattle.numbers.specs.Bytes.{Bytes, put, complement};
-ghost use Rattle.terms.specs.Book.{count, tree};
+ghost use lib.ListN.{length};
+ghost use Rattle.numbers.specs.Rational.{Proper};
+ghost use Rattle.numbers.specs.Bytes.{Bytes};
+ghost use Rattle.terms.specs.Format.{recordBytes};
 ghost use Rattle.rules.specs.Limits.{limited};
+ghost use Rattle.rules.specs.memory.Parts.{Ready, termsIn, Inside};
 ghost use Rattle.linear_arithmetic.specs.LinearArithmetic.{laGenericPartial};
-ghost use Rattle.rules.specs.Parts.{Ready, termsIn, Inside};
-ghost use Rattle.runs.specs.Check.{traced, checkStep};
-ghost use Rattle.elaborate.specs.Elaborate.{realRecord, isReal, findReal, placeIn, tailBytes, Written, addReal};
-ghost use Rattle.elaborate.specs.Elaborate.{elaboratedRule, fits};
+ghost use Rattle.linear_arithmetic.specs.memory.LinearSteps.{maxRunBytes};
 ghost use Rattle.runs.specs.Rule.{Rule, ruleNumber};
-ghost use Rattle.runs.specs.Run.{Every, stepsOf};
-ghost use Rattle.runs.specs.StepParts.{stepIn, StandsIn};
-ghost use Rattle.elaborate.specs.OutAreas.{Holds, Writes, WritesOne, withArg, withConstant, withStep, moreReal};
-ghost use Rattle.elaborate.specs.OutAreas.{moreReals, farkasNumbers, moreStep, SteppedLeft, judgedAs};
-ghost use Rattle.elaborate.specs.OutMemory.{placeOr};
+ghost use Rattle.runs.specs.Run.{runRecordBytes, stepsOf};
+ghost use Rattle.runs.specs.Check.{traced, checkStep};
+ghost use Rattle.runs.specs.memory.StepParts.{partsIn, stepIn, StandsIn};
+ghost use Rattle.elaborate.specs.Elaborate.{placeIn, Written, addReal, elaboratedRule, fits};
+ghost use Rattle.elaborate.specs.memory.OutAreas.{Holds, Writes, WritesOne, withArg, withConstant, withStep};
+ghost use Rattle.elaborate.specs.memory.OutAreas.{moreReal, moreReals, farkasNumbers, moreStep, SteppedLeft};
+ghost use Rattle.elaborate.specs.memory.OutAreas.{judgedAs, steppedRefusal};
+use crate::constants::find_real;
+use crate::constants::place_in;
+use crate::constants::put_real;
 use linear_arithmetic::linear_arithmetic::Folded;
-use linear_arithmetic::linear_arithmetic::Progress;
 use linear_arithmetic::linear_arithmetic::contradiction;
 use linear_arithmetic::linear_arithmetic::fold_literals;
 use linear_arithmetic::linear_arithmetic::read_args;
-use linear_arithmetic::linear_arithmetic::rest;
+use linear_arithmetic::process_disequality::Progress;
 use linear_comb::linear_comb::LinearComb;
-use numbers::bytes::complement;
-use numbers::bytes::read_u64;
+use numbers::bytes::byte;
+use numbers::bytes::paste;
 use numbers::bytes::room;
-use numbers::bytes::signed_u64;
-use numbers::bytes::write_u32;
 use numbers::number::Number;
+use rules::run_records::rest;
+use rules::verdict::Asserted;
 use rules::verdict::Verdict;
+use runs::check::ACCEPTED;
 use runs::check::Counter;
 use runs::check::check_step;
+use runs::rule::BOUNDED_FARKAS;
+use runs::rule::LA_GENERIC;
+use runs::run::StepParts;
 use runs::run::args;
-use runs::run::bytes;
 use runs::run::clause;
-use terms::book::byte;
-use terms::book::count;
-use terms::book::record;
-use terms::term::Reading;
-use terms::term::as_number;
+use terms::format::ARGUMENT;
+use terms::format::BYTE_AT;
+use terms::format::MAX_RUN_BYTES;
+use terms::format::RECORD_BYTES;
+use terms::format::RUN_RECORD_BYTES;
+use terms::operator::EQUALS;
+use terms::records::count;
 
 // The bytes written to each out area so far; whether they no longer take what is to be written.
 pub struct Out {
@@ -56,91 +60,16 @@ pub struct Out {
     pub full: bool,
 }
 
-// Accepted with the visits made so far, and with what is written; refused with document 01's number of the refusal.
+// What checking a step and writing it answers.
 pub enum Stepped {
+    // With the visits made so far, and with what is written.
     Accepted(u32, Out),
+    // Document 01's number of the refusal.
     Refused(u8),
 }
 
-// ---- constants
-
-// Whether a record is the real constant q.
-fn is_real(book: &[u8], id: usize, q: Number) -> bool
-    ensures { λ r. ⌜ r ≡ isReal q (tree (now (book .entry)) id) ⌝ }
-{
-    if byte(record(book, id), 0) == 2 {
-        if let Reading::Value(v) = as_number(book, id) {
-            return q.eq(v);
-        }
-    }
-    false
-}
-
-// The record of the real constant q in the book; the number of records where there is none.
-fn find_real(book: &[u8], q: Number) -> usize
-    ensures { λ r. ⌜ r ≡ placeOr (findReal (count (now (book .entry))) (now (book .entry)) q 0) (count
-        (now (book .entry))) ⌝ }
-{
-    let n = count(book);
-    let mut id = 0;
-    while id < n {
-        if is_real(book, id, q) {
-            return id;
-        }
-        id += 1;
-    }
-    n
-}
-
-// The number in a real constant's record, from byte `at` of a tail on.
-fn real_at(tail: &[u8], at: usize) -> Number
-    requires { ⌜ at + 32 ≤ length (now tail) ⌝ }
-    ensures { λ r. ⌜ ((q : Rational) → Proper q → take 32 (drop at (now (tail .entry))) ≡ realRecord q → r ≡ q) ⌝ }
-{
-    Number {
-        num: signed_u64(read_u64(tail, at + 4)),
-        den: signed_u64(read_u64(tail, at + 12)),
-    }
-}
-
-// The place of q among the constants of a tail; their number where it is not among them.
-fn place_in(tail: &[u8], q: Number) -> usize
-    ensures { λ r. ⌜ ((qs : List Rational) → Every Proper qs → now (tail .entry) ≡ tailBytes qs → r ≡ placeIn qs q) ⌝ }
-    ensures { λ r. ⌜ r ≤ length (now (tail .entry)) / 32 ⌝ }
-{
-    let n = tail.len() / 32;
-    let mut k = 0;
-    while k < n {
-        let v = real_at(tail, 32 * k);
-        if v.eq(q) {
-            return k;
-        }
-        k += 1;
-    }
-    n
-}
-
-// Eight bytes in two's complement, of a number in range.
-fn write_signed(s: &mut [u8], at: usize, n: i64)
-    requires { ⌜ (natAbs n ≤ 2147483647) × (at + 8 ≤ length (now s)) ⌝ }
-    ensures { λ _. ⌜ now (s .exit) ≡ put 8 (complement 8 n) (now (s .entry)) at ⌝ }
-{
-    let sign = if n < 0 { 4294967295 } else { 0 };
-    write_u32(s, at, complement(n));
-    write_u32(s, at + 4, sign);
-}
-
-// The record of the real constant q, in 32 zeros.
-fn put_real(r: &mut [u8], q: Number)
-    requires { ⌜ Proper q × (now r ≡ replicate 32 0) ⌝ }
-    ensures { λ _. ⌜ now (r .exit) ≡ realRecord q ⌝ }
-{
-    let n = q.num;
-    let d = q.den;
-    r[0] = 2;
-    write_signed(r, 4, n);
-    write_signed(r, 12, d);
-}
+// Book and tail have 2,048 records at most.
+const MAX_BOOK_BYTES: usize = 65536;
 
 // ---- what is written
 
@@ -154,19 +83,6 @@ fn goes_in(area: &[u8], at: usize, n: usize, most: usize) -> bool
     false
 }
 
-// Puts bytes at `at`, where there is room for them.
-pub fn paste(area: &mut [u8], at: usize, part: &[u8])
-    requires { ⌜ at + length (now part) ≤ length (now area) ⌝ }
-    ensures { λ _. ⌜ now (area .exit) ≡ paste (now (area .entry)) at (now (part .entry))
-        (length (now (part .entry))) ⌝ }
-{
-    let mut k = 0;
-    while k < part.len() {
-        area[at + k] = part[k];
-        k += 1;
-    }
-}
-
 // An argument: an A record of the number n.
 fn add_arg(outrun: &mut [u8], out: Out, n: usize) -> Out
     ensures { λ r. ⌜ ((b t : Bytes) → WritesOne b (now (outrun .entry)) t out (now (outrun .exit)) t r (withArg n)) ⌝ }
@@ -177,11 +93,11 @@ fn add_arg(outrun: &mut [u8], out: Out, n: usize) -> Out
     if full {
         return out;
     }
-    if goes_in(outrun, at, 4, 16384) {
-        let record = [b'A', 0, (n % 256) as u8, (n / 256 % 256) as u8];
+    if goes_in(outrun, at, RUN_RECORD_BYTES, MAX_RUN_BYTES) {
+        let record = [ARGUMENT, 0, (n % 256) as u8, (n / 256 % 256) as u8];
         paste(outrun, at, &record);
         return Out {
-            run: at + 4,
+            run: at + RUN_RECORD_BYTES,
             tail,
             full,
         };
@@ -205,13 +121,14 @@ fn add_constant(book: &[u8], outtail: &mut [u8], out: Out, q: Number) -> Out
     if full {
         return out;
     }
-    if goes_in(outtail, at, 32, 65536 - 32 * count(book)) {
-        let mut record = [0u8; 32];
+    let left = MAX_BOOK_BYTES - RECORD_BYTES * count(book);
+    if goes_in(outtail, at, RECORD_BYTES, left) {
+        let mut record = [0u8; RECORD_BYTES];
         put_real(&mut record, q);
         paste(outtail, at, &record);
         return Out {
             run,
-            tail: at + 32,
+            tail: at + RECORD_BYTES,
             full,
         };
     }
@@ -226,7 +143,7 @@ fn add_constant(book: &[u8], outtail: &mut [u8], out: Out, q: Number) -> Out
 fn place_of(outtail: &[u8], out: Out, q: Number) -> usize
     ensures { λ r. ⌜ ((b o : Bytes) (w : Written) → out .full ≡ false → Holds b o (now (outtail .entry)) out w → r ≡
         placeIn (w .tail) q) ⌝ }
-    ensures { λ r. ⌜ r ≤ length (now (outtail .entry)) / 32 ⌝ }
+    ensures { λ r. ⌜ r ≤ length (now (outtail .entry)) / recordBytes ⌝ }
 {
     let n = out.tail;
     if n <= outtail.len() {
@@ -254,23 +171,27 @@ fn add_real(book: &[u8], outrun: &mut [u8], outtail: &mut [u8], out: Out, q: Num
     }
     let tail = out.tail;
     let k = place_of(outtail, out, q);
-    if k < tail / 32 {
+    if k < tail / RECORD_BYTES {
         return add_arg(outrun, out, n + k);
     }
     let grown = add_constant(book, outtail, out, q);
     add_arg(outrun, grown, n + k)
 }
 
-// Rule 6 becomes 5.
+// `bounded_farkas` becomes `la_generic`.
 fn elaborated_rule(rule: u8) -> u8
     ensures { λ r. ⌜ ((x : Rule) → rule ≡ ruleNumber x → r ≡ ruleNumber (elaboratedRule x)) ⌝ }
 {
-    if rule == 6 { 5 } else { rule }
+    if rule == BOUNDED_FARKAS {
+        LA_GENERIC
+    } else {
+        rule
+    }
 }
 
-// The records of a step.
-fn add_step(outrun: &mut [u8], out: Out, step: &[u8]) -> Out
-    requires { ⌜ 4 ≤ length (now step) ⌝ }
+// The records of a step, whose parts p has.
+fn add_step(outrun: &mut [u8], out: Out, step: &[u8], p: StepParts) -> Out
+    requires { ⌜ (runRecordBytes ≤ length (now step)) × (p ≡ partsIn (now step)) ⌝ }
     ensures { λ r. ⌜ ((b t run : Bytes) → StandsIn b run (now (step .entry)) →
         WritesOne b (now (outrun .entry)) t out (now (outrun .exit)) t r (withStep (stepIn b (now (step .entry))))) ⌝ }
 {
@@ -280,10 +201,10 @@ fn add_step(outrun: &mut [u8], out: Out, step: &[u8]) -> Out
     if full {
         return out;
     }
-    let n = bytes(step);
-    if goes_in(outrun, at, n, 16384) {
+    let n = p.args;
+    if goes_in(outrun, at, n, MAX_RUN_BYTES) {
         paste(outrun, at, &step[0..n]);
-        outrun[at + 1] = elaborated_rule(byte(step, 1));
+        outrun[at + BYTE_AT] = elaborated_rule(byte(step, BYTE_AT));
         return Out {
             run: at + n,
             tail,
@@ -299,12 +220,23 @@ fn add_step(outrun: &mut [u8], out: Out, step: &[u8]) -> Out
 
 // ---- one step
 
+// The number of a step's refusal.
+pub(crate) fn stepped_refusal(s: Stepped) -> u8
+    ensures { λ r. ⌜ r ≡ steppedRefusal s ⌝ }
+{
+    match s {
+        Stepped::Accepted(_, _) => ACCEPTED,
+        Stepped::Refused(code) => code,
+    }
+}
+
+// A verdict, and what is written.
 fn judged(v: Verdict, out: Out) -> Stepped
     ensures { λ r. ⌜ r ≡ judgedAs v out ⌝ }
 {
     match v {
-        Verdict::Accepted(n) => Stepped::Accepted(n, out),
-        Verdict::Refused(c) => Stepped::Refused(c),
+        Verdict::Accepted(visits) => Stepped::Accepted(visits, out),
+        Verdict::Refused(code) => Stepped::Refused(code),
     }
 }
 
@@ -320,7 +252,8 @@ fn bounded_farkas(
     outtail: &mut [u8],
     out: Out,
 ) -> Stepped
-    requires { ⌜ Ready (now book) (now work) × (Inside (now book) (now literals) × (length (now literals) ≤ 16384)) ⌝ }
+    requires { ⌜ Ready (now book) (now work) ×
+        (Inside (now book) (now literals) × (length (now literals) ≤ maxRunBytes)) ⌝ }
     ensures { λ r. ⌜ SteppedLeft (now (book .entry)) (now (outrun .entry)) (now (outtail .entry)) out
         (now (outrun .exit)) (now (outtail .exit)) r (λ w. w)
         (moreReals (fits (now (book .entry)) (length (now (outrun .entry))) (length (now (outtail .entry))))
@@ -330,12 +263,11 @@ fn bounded_farkas(
         (termsIn (now (book .entry)) (now (args .entry))) visits)) ⌝ }
     ensures { λ _. ⌜ now (work .exit) ≡ now (work .entry) ⌝ }
 {
-    let code = read_args(book, args);
-    if code != 0 {
+    if let Asserted::Refused(code) = read_args(book, args) {
         return Stepped::Refused(code);
     }
     let mut p = Progress {
-        operator: 4,
+        operator: EQUALS,
         acc: LinearComb {
             len: 0,
             constant: Number::whole(0),
@@ -354,25 +286,27 @@ fn bounded_farkas(
                 p = q;
                 done += k;
             }
-            Folded::Refused(c) => {
-                return Stepped::Refused(c);
+            Folded::Refused(code) => {
+                return Stepped::Refused(code);
             }
         }
     }
 }
 
-// Checks a step and, where it is accepted, writes it.
-pub fn elaborate_step(
+// Checks a step, whose parts p has, and writes it where it is accepted.
+pub(crate) fn elaborate_step(
     book: &[u8],
     work: &mut [u8],
     run: &[u8],
     step: &[u8],
+    p: StepParts,
     counter: Counter,
     outrun: &mut [u8],
     outtail: &mut [u8],
     out: Out,
 ) -> Stepped
     requires { ⌜ Ready (now book) (now work) × StandsIn (now book) (now run) (now step) ⌝ }
+    requires { ⌜ p ≡ partsIn (now step) ⌝ }
     ensures { λ r. ⌜ SteppedLeft (now (book .entry)) (now (outrun .entry)) (now (outtail .entry)) out
         (now (outrun .exit)) (now (outtail .exit)) r (withStep (stepIn (now (book .entry)) (now (step .entry))))
         (moreStep (now (book .entry)) (length (now (outrun .entry))) (length (now (outtail .entry)))
@@ -381,13 +315,13 @@ pub fn elaborate_step(
         (stepIn (now (book .entry)) (now (step .entry))) (counter .visits)) ⌝ }
     ensures { λ _. ⌜ now (work .exit) ≡ now (work .entry) ⌝ }
 {
-    let longer = add_step(outrun, out, step);
-    if byte(step, 1) == 6 {
+    let longer = add_step(outrun, out, step, p);
+    if byte(step, BYTE_AT) == BOUNDED_FARKAS {
         return bounded_farkas(
             book,
             work,
-            clause(step),
-            args(step),
+            clause(step, p),
+            args(step, p),
             counter.visits,
             counter.limit,
             outrun,
@@ -395,5 +329,5 @@ pub fn elaborate_step(
             longer,
         );
     }
-    judged(check_step(book, work, run, step, counter), longer)
+    judged(check_step(book, work, run, step, p, counter), longer)
 }

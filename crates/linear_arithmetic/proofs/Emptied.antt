@@ -11,12 +11,12 @@ use Rattle.numbers.specs.Bytes.{Bytes}
 use Rattle.terms.specs.Term.{Term}
 use Rattle.rules.proofs.StoredEntries.{held-length}
 use Rattle.rules.specs.IndexMap.{Map}
-use Rattle.linear_comb.specs.WorkArea.{areaOf, withArea, OnlyArea, Area}
-use Rattle.rules.specs.Entries.{slots, stored, Held, Kept, blanked}
-use Rattle.rules.specs.Parts.{Ready}
-use Rattle.linear_arithmetic.specs.LinearSteps.{Folding}
-use Rattle.disequality.specs.DisequalitySteps.{Between}
-use Rattle.linear_arithmetic.specs.declared.linear_arithmetic.Progress as by-value
+use Rattle.linear_comb.specs.memory.WorkArea.{areaOf, withArea, OnlyArea, Area}
+use Rattle.rules.specs.memory.Entries.{slots, stored, Held, Kept, blanked}
+use Rattle.rules.specs.memory.Parts.{Ready}
+use Rattle.linear_arithmetic.specs.memory.LinearSteps.{Folding}
+use Rattle.disequality.specs.memory.DisequalitySteps.{Between}
+use Rattle.linear_arithmetic.specs.declared.process_disequality.Progress as by-value
 use Rattle.linear_comb.proofs.Areas.{only-none, only-then, empty-held, ready-area}
 use Rattle.linear_comb.proofs.AreaSteps.{only-area, emptied-held, emptied-only}
 

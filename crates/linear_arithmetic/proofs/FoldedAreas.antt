@@ -20,22 +20,23 @@ use Rattle.rules.specs.Limits.{Limits, limited}
 use Rattle.rules.specs.IndexMap.{Map}
 use Rattle.linear_arithmetic.specs.LinearArithmetic.{Progress, processDisequality, readArgs}
 use Rattle.rules.specs.Shapes.{Clause}
-use Rattle.linear_comb.specs.WorkArea.{areaOf, OnlyArea, Area, SumHas}
-use Rattle.rules.specs.Entries.{Held, CoefficientIs}
-use Rattle.linear_arithmetic.specs.LinearSteps.{givenOf, progressOf, progressWith, at, ProcessedIs, ProcessedLeft}
-use Rattle.linear_arithmetic.specs.LinearSteps.{foldSome, AllNumbers, foldRead, FoldedLeft, Folding}
-use Rattle.rules.specs.Parts.{numbersIn, termsIn, Inside}
-use Rattle.disequality.specs.DisequalitySteps.{Between}
+use Rattle.linear_comb.specs.memory.WorkArea.{areaOf, OnlyArea, Area, SumHas}
+use Rattle.rules.specs.memory.Entries.{Held, CoefficientIs}
+use Rattle.linear_arithmetic.specs.memory.LinearSteps.{givenOf, progressOf, progressWith, at, ProcessedIs}
+use Rattle.linear_arithmetic.specs.memory.LinearSteps.{ProcessedLeft, foldSome, AllNumbers, foldRead, FoldedLeft}
+use Rattle.linear_arithmetic.specs.memory.LinearSteps.{Folding, processedRefusal}
+use Rattle.rules.specs.memory.Parts.{numbersIn, termsIn, Inside}
+use Rattle.disequality.specs.memory.DisequalitySteps.{Between}
 use Rattle.rules.specs.declared.index_map.Coefficient.{Coefficient}
 use Rattle.rules.specs.declared.index_map.Coefficient.the-variants.{Of, Missing}
-use Rattle.linear_arithmetic.specs.declared.linear_arithmetic.Processed.{Processed}
-use Rattle.linear_arithmetic.specs.declared.linear_arithmetic.Processed.the-variants as processed
+use Rattle.linear_arithmetic.specs.declared.process_disequality.Processed.{Processed}
+use Rattle.linear_arithmetic.specs.declared.process_disequality.Processed.the-variants as processed
 use Rattle.linear_arithmetic.specs.declared.linear_arithmetic.Folded.{Folded}
 use Rattle.linear_arithmetic.specs.declared.linear_arithmetic.Folded.the-variants as folded
-use Rattle.linear_arithmetic.specs.declared.linear_arithmetic.Progress as by-value
+use Rattle.linear_arithmetic.specs.declared.process_disequality.Progress as by-value
 use Rattle.linear_comb.proofs.Areas.{Within, within-sorts, within-only, only-other, only-then, only-none}
 use Rattle.linear_comb.proofs.AreaSteps.{kept-sum, sum-entries}
-use Rattle.rules.proofs.Results.{next, ends, refuses-as, code-none}
+use Rattle.rules.proofs.Results.{next, ends, refuses-as, asserted-passes}
 use Rattle.rules.proofs.RunParts.{length-numbersIn, named-cons, named-past, below-at}
 use Rattle.linear_arithmetic.proofs.FoldedSteps.{some-first, some-inferred, some-again}
 
@@ -100,7 +101,7 @@ module _ {A : Type 0} {g : Given} {whole : A} {onward : Clause → List Rational
       Reached g whole onward (g .work) p 0
   reached-begin folding named numbers left =
       let area : Area 0 (g .work) = record { size = folding .between .size; among = omega arith } in
-      let read = code-none (readArgs (limitsOf g) (termsIn (g .book) (g .args))) (sym numbers) in
+      let read = asserted-passes (readArgs (limitsOf g) (termsIn (g .book) (g .args))) numbers in
       record {
         inside = omega arith;
         named = named;
@@ -224,9 +225,11 @@ module _ {g : Given} {whole : Result (Progress × ℕ)} {w : Bytes} {q : by-valu
     said s e =
         subst (λ z. ProcessedIs z (taken .left .map) (literalFrom g w q (taken .phi) (taken .arg))) e (taken .left .is)
 
-    pub step-refused : (c : ℕ) → r ≡ processed.Refused c → Promised g whole w′ (folded.Refused c)
-    step-refused c e =
-        let is = said (processed.Refused c) e in
+    -- n is the number of the refusal
+    pub step-refused :
+        {c n : ℕ} → r ≡ processed.Refused c → n ≡ processedRefusal r → Promised g whole w′ (folded.Refused n)
+    step-refused {n = n} e n-is =
+        let is = said (processed.Refused n) (e ∙ ap processed.Refused (sym (n-is ∙ ap processedRefusal e))) in
         let first = some-first (limitsOf g) _ refl _ _ (far .numbers) k (taken .arg) argued in
         record {
           map = taken .left .map;

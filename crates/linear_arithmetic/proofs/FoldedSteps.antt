@@ -19,12 +19,12 @@ use Rattle.rules.specs.Refusal.Outcome.{ok, refused}
 use Rattle.rules.specs.Limits.{Limits}
 use Rattle.rules.specs.IndexMap.{add}
 use Rattle.linear_comb.specs.LinearComb.{LinearComb, mul}
-use Rattle.rules.specs.Entries.{terms, CoefficientIs}
+use Rattle.rules.specs.memory.Entries.{terms, CoefficientIs}
 use Rattle.linear_arithmetic.specs.LinearArithmetic.{Progress, progress, inferred, argumentOf, strengthened}
 use Rattle.linear_arithmetic.specs.LinearArithmetic.{scalar, processDisequality, foldLiterals}
 use Rattle.disequality.specs.Disequality.{disequalityOf}
 use Rattle.rules.specs.Shapes.{Clause}
-use Rattle.linear_arithmetic.specs.LinearSteps.{foldSome, at, givenOf}
+use Rattle.linear_arithmetic.specs.memory.LinearSteps.{foldSome, at, givenOf}
 use Rattle.rules.specs.declared.index_map.Coefficient.{Coefficient}
 use Rattle.rules.specs.declared.index_map.Coefficient.the-variants.{Of, Missing}
 use Rattle.rules.proofs.Results.{next, ends, bind-same, bind-assoc}

@@ -9,14 +9,17 @@ use lib.Dec.{eqb}
 use Rattle.numbers.specs.Rational.{Rational, isZero, isPositive}
 use Rattle.numbers.specs.Bytes.{Bytes}
 use Rattle.numbers.specs.Choice.{if_then_else_}
+use Rattle.terms.specs.Operator.{Equals, GreaterThan}
+use Rattle.rules.specs.Refusal.{number}
+use Rattle.rules.specs.Refusal.Refusal.{disequalityIsNotContradiction}
 use Rattle.rules.specs.IndexMap.{isEmpty}
 use Rattle.linear_arithmetic.specs.LinearArithmetic.{isTrueAtZero, isTautology}
 use Rattle.disequality.specs.Disequality.{disequality}
-use Rattle.linear_comb.specs.WorkArea.{combOf}
-use Rattle.rules.specs.Entries.{entriesOf}
-use Rattle.linear_arithmetic.specs.LinearSteps.{contradicts}
+use Rattle.linear_comb.specs.memory.WorkArea.{combOf}
+use Rattle.rules.specs.memory.Entries.{entriesOf}
+use Rattle.linear_arithmetic.specs.memory.LinearSteps.{contradicts}
 use Rattle.disequality.specs.declared.disequality.Disequality.{Disequality}
-use Rattle.linear_arithmetic.specs.declared.linear_arithmetic.Progress.{Progress}
+use Rattle.linear_arithmetic.specs.declared.process_disequality.Progress.{Progress}
 use Rattle.rules.specs.declared.verdict.Verdict.the-variants.{Accepted, Refused}
 
 -- ---- 0 in its relation to the right side
@@ -27,14 +30,14 @@ module _ (o : ℕ) (r : Rational) (p : Bool) (p-is : p ≡ isPositive r) where
   positive-right h = let e : isPositive r ≡ true = cc in rw (e, isTrueAtZero, if_then_else_)
 
   module _ (z : Bool) (z-is : z ≡ isZero r) (h : p ≡ false) where
-    pub zero-right : z ≡ true → not (eqb o 7) ≡ isTrueAtZero o r
+    pub zero-right : z ≡ true → not (eqb o GreaterThan) ≡ isTrueAtZero o r
     unfolding isTrueAtZero if_then_else_
     zero-right g =
         let e : isPositive r ≡ false = cc in
         let f : isZero r ≡ true = cc in
         rw (e, f, isTrueAtZero, if_then_else_)
 
-    pub negative-right : z ≡ false → not (eqb o 4) ≡ isTrueAtZero o r
+    pub negative-right : z ≡ false → not (eqb o Equals) ≡ isTrueAtZero o r
     unfolding isTrueAtZero if_then_else_
     negative-right g =
         let e : isPositive r ≡ false = cc in
@@ -45,7 +48,8 @@ module _ (o : ℕ) (r : Rational) (p : Bool) (p-is : p ≡ isPositive r) where
 
 module _ (p : Progress) where
   pub contradicts-not :
-      (t : Bool) → t ≡ isTrueAtZero (p .operator) (p .acc .constant) → t ≡ true → Refused 30 ≡ contradicts p
+      (t : Bool) → t ≡ isTrueAtZero (p .operator) (p .acc .constant) → t ≡ true →
+      Refused (number disequalityIsNotContradiction) ≡ contradicts p
   contradicts-not t is h =
       let e : isTrueAtZero (p .operator) (p .acc .constant) ≡ true = cc in
       rw (e, and-false (eqb (p .acc .len) 0))
@@ -57,7 +61,7 @@ module _ (p : Progress) where
       let e : isTrueAtZero (p .operator) (p .acc .constant) ≡ false = cc in
       rw (e, eq-eqb (p .acc .len) 0 none)
 
-  pub contradicts-left : (p .acc .len ≡ 0 → ⊥) → Refused 30 ≡ contradicts p
+  pub contradicts-left : (p .acc .len ≡ 0 → ⊥) → Refused (number disequalityIsNotContradiction) ≡ contradicts p
   contradicts-left some = rw (ne-eqb (p .acc .len) 0 some)
 
 -- ---- a disequality without atoms that is always true
@@ -82,14 +86,14 @@ module _ (d : Disequality) (b w : Bytes) where
 
     module _ (h : p ≡ false) where
       pub tautology-greater :
-          d .operator ≡ 7 → (z : Bool) → z ≡ isZero (d .sum .constant) →
+          d .operator ≡ GreaterThan → (z : Bool) → z ≡ isZero (d .sum .constant) →
           z ≡ always d b w
       tautology-greater g z z-is =
           let e : isPositive (d .sum .constant) ≡ false = cc in
-          rw (empty-entries b w (d .sum .len), eq-eqb (d .sum .len) 0 none, e, eq-eqb (d .operator) 7 g) z-is
+          rw (empty-entries b w (d .sum .len), eq-eqb (d .sum .len) 0 none, e, eq-eqb (d .operator) GreaterThan g) z-is
 
       pub tautology-other :
-          (d .operator ≡ 7 → ⊥) → false ≡ always d b w
+          (d .operator ≡ GreaterThan → ⊥) → false ≡ always d b w
       tautology-other g =
           let e : isPositive (d .sum .constant) ≡ false = cc in
-          rw (empty-entries b w (d .sum .len), eq-eqb (d .sum .len) 0 none, e, ne-eqb (d .operator) 7 g)
+          rw (empty-entries b w (d .sum .len), eq-eqb (d .sum .len) 0 none, e, ne-eqb (d .operator) GreaterThan g)

@@ -5,6 +5,7 @@ pub mod LinearShapeSteps
 pub mod LiteralArguments
 pub mod LiteralAreas
 pub mod LiteralSums
+pub mod ProcessedLiterals
 pub mod ReadParts
 pub mod LastTests
 pub mod FoldedSteps

@@ -6,7 +6,7 @@ use Prim.Native.Nat.{ℕ}
 use Rattle.numbers.specs.Rational.{Rational, Proper}
 use Rattle.numbers.specs.Bytes.{Bytes}
 use Rattle.terms.specs.Term.{Term}
-use Rattle.rules.specs.StoredMaps as maps
+use Rattle.rules.specs.memory.StoredMaps as maps
 use Rattle.rules.specs.Refusal.{Result, _>>=_}
 use Rattle.rules.specs.Refusal.Outcome.{ok, refused}
 use Rattle.rules.specs.Refusal.Refusal.{numberRange}
@@ -15,15 +15,15 @@ use Rattle.rules.specs.IndexMap.{Map}
 use Rattle.linear_comb.specs.LinearComb.{LinearComb, mul, allInt}
 use Rattle.linear_arithmetic.specs.LinearArithmetic.{strengthened, scalar, weakened}
 use Rattle.disequality.specs.Disequality.{strengthen}
-use Rattle.linear_comb.specs.WorkArea.{Sum, combOf, areaOf, withArea, OnlyArea, Area, Apart, KeptSum, SummedIs, Sums}
-use Rattle.linear_comb.specs.WorkArea.{SumHas, combWith}
-use Rattle.rules.specs.Entries.{slots, stored, entriesOf, blanked, Held, Kept}
-use Rattle.linear_arithmetic.specs.LinearSteps.{scaledOf, ScaledIs, ScaledLeft}
-use Rattle.disequality.specs.DisequalitySteps.{StrengthenedIs}
+use Rattle.linear_comb.specs.memory.WorkArea.{Sum, combOf, areaOf, withArea, OnlyArea, Area, Apart, KeptSum, CombinedIs}
+use Rattle.linear_comb.specs.memory.WorkArea.{Combines, SumHas, combWith}
+use Rattle.rules.specs.memory.Entries.{slots, stored, entriesOf, blanked, Held, Kept}
+use Rattle.linear_arithmetic.specs.memory.LinearSteps.{scaledOf, ScaledIs, ScaledLeft}
+use Rattle.disequality.specs.memory.DisequalitySteps.{StrengthenedIs}
 use Rattle.disequality.specs.declared.disequality.Strengthened.{Strengthened}
 use Rattle.disequality.specs.declared.disequality.Strengthened.the-variants as stronger
-use Rattle.linear_comb.specs.declared.linear_comb.Summed.{Summed}
-use Rattle.linear_comb.specs.declared.linear_comb.Summed.the-variants as summed
+use Rattle.linear_comb.specs.declared.linear_comb.Combined.{Combined}
+use Rattle.linear_comb.specs.declared.linear_comb.Combined.the-variants as combined
 use Rattle.rules.proofs.NumberedKeys.{length-blanked}
 use Rattle.rules.proofs.StoredEntries.{kept-entries}
 use Rattle.linear_comb.proofs.Areas.{empty-length, area-length}
@@ -114,33 +114,33 @@ module _ (b w : Bytes) (l o : ℕ) (s : Sum) (a : Rational) (k : KeptSum b (area
       }
 
   module _
-      {w′ : Bytes} {p : ℕ} {t : Sum} {q : Rational} {r : Summed}
+      {w′ : Bytes} {p : ℕ} {t : Sum} {q : Rational} {r : Combined}
       (h : (Before ≡ ok (p, combWith t (k .kept .map))) × SumHas t (k .kept .map)) (is-scalar : q ≡ scalar p a)
       (only : OnlyArea 1 w w′)
-      (sums : KeptSum b (areaOf 1 w) t → Sums b (areaOf 1 w′) r (mul (limited l) (combOf b (areaOf 1 w) t) q)) where
+      (sums : KeptSum b (areaOf 1 w) t → Combines b (areaOf 1 w′) r (mul (limited l) (combOf b (areaOf 1 w) t) q)) where
     abbrev Product : Result LinearComb
     Product = mul (limited l) (combWith t (k .kept .map)) (scalar p a)
 
-    multiplied : Sums b (areaOf 1 w′) r Product
+    multiplied : Combines b (areaOf 1 w′) r Product
     multiplied =
         rw (← sum-comb (k .kept .held) (h .1), ← is-scalar) (sums (kept-sum (k .kept .held) (h .1)))
 
     then : After ≡ (Product >>= λ u. ok (weakened p a, u))
     then = scaled-then (limited l) o (combOf b (areaOf 1 w) s) a (h .0)
 
-    pub unscaled : r ≡ summed.OutOfRange → ScaledLeft b w w′ stronger.OutOfRange After
+    pub unscaled : r ≡ combined.OutOfRange → ScaledLeft b w w′ stronger.OutOfRange After
     unfolding _>>=_
     unscaled e =
         let m = multiplied in
-        let is = subst (λ z. SummedIs z (m .map) Product) e (m .is) in
+        let is = subst (λ z. CombinedIs z (m .map) Product) e (m .is) in
         record { map = m .map; held = m .held; only = only; is = (then ∙ rw (is .0), is .1) }
 
     pub scaled-left :
-        {u : Sum} {v : ℕ} → r ≡ summed.Sum u → v ≡ weakened p a → ScaledLeft b w w′ (stronger.Is v u) After
+        {u : Sum} {v : ℕ} → r ≡ combined.Is u → v ≡ weakened p a → ScaledLeft b w w′ (stronger.Is v u) After
     unfolding _>>=_
     scaled-left e f =
         let m = multiplied in
-        let is = subst (λ z. SummedIs z (m .map) Product) e (m .is) in
+        let is = subst (λ z. CombinedIs z (m .map) Product) e (m .is) in
         record {
           map = m .map;
           held = m .held;

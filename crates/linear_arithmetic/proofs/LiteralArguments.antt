@@ -1,5 +1,5 @@
 -- The argument of a literal, given or inferred: the definition at what the code reads, test by test.
-use mathlib.Core.Path.{_≡_, refl, sym, subst, _∙_}
+use mathlib.Core.Path.{_≡_, refl, sym, ap, subst, _∙_}
 use mathlib.Core.Bool.{true, false}
 use mathlib.Core.List.{[], _∷_}
 use mathlib.Core.Option.{Option, some, none}
@@ -10,21 +10,22 @@ use Rattle.terms.specs.Term.{Term}
 use Rattle.terms.specs.Book.{tree}
 use Rattle.numbers.specs.declared.number.Checked.{Checked}
 use Rattle.numbers.specs.declared.number.Checked.the-variants as answer
-use Rattle.rules.specs.Refusal.{_>>=_, assert, orElse}
+use Rattle.rules.specs.Refusal.{_>>=_, assert, orElse, number}
 use Rattle.rules.specs.Refusal.Outcome.{ok}
 use Rattle.rules.specs.Refusal.Refusal.{numberRange, notUnit, coeffNotFound}
 use Rattle.rules.specs.Limits.{Limits, limited, over}
 use Rattle.rules.specs.IndexMap.{Map, get}
 use Rattle.linear_comb.specs.LinearComb.{LinearComb}
-use Rattle.rules.specs.Entries.{terms, entriesOf, Kept, CoefficientIs}
+use Rattle.rules.specs.memory.Entries.{terms, entriesOf, Kept, CoefficientIs}
 use Rattle.linear_arithmetic.specs.LinearArithmetic.{progress, inferred, argumentOf}
-use Rattle.rules.specs.Parts.{Refuses}
-use Rattle.linear_arithmetic.specs.LinearSteps.{InferredIs, argumentFrom, ArguedIs, givenOf, CoefficientProper}
+use Rattle.rules.specs.memory.Parts.{Refuses}
+use Rattle.linear_arithmetic.specs.memory.LinearSteps.{InferredIs, inferenceRefusal, argumentFrom, ArguedIs}
+use Rattle.linear_arithmetic.specs.memory.LinearSteps.{givenOf, CoefficientProper}
 use Rattle.rules.specs.declared.index_map.Coefficient.{Coefficient}
 use Rattle.rules.specs.declared.index_map.Coefficient.the-variants.{Of, Missing}
-use Rattle.linear_arithmetic.specs.declared.linear_arithmetic.Inference.{Inference}
-use Rattle.linear_arithmetic.specs.declared.linear_arithmetic.Inference.the-variants as inference
-use Rattle.linear_arithmetic.specs.declared.linear_arithmetic.Argued.the-variants as argued
+use Rattle.linear_arithmetic.specs.declared.process_disequality.Inference.{Inference}
+use Rattle.linear_arithmetic.specs.declared.process_disequality.Inference.the-variants as inference
+use Rattle.linear_arithmetic.specs.declared.process_disequality.Argued.the-variants as argued
 use Rattle.rules.proofs.Results.{refuses, refused-then}
 use Rattle.rules.proofs.CheckedNumbers.{over-value, over-out}
 
@@ -32,7 +33,8 @@ use Rattle.rules.proofs.CheckedNumbers.{over-value, over-out}
 
 -- the literal has no atom or several
 pub not-alone :
-    (l : Limits) (acc : Map Term) (b w : Bytes) (m : ℕ) → (m ≡ 1 → ⊥) → Refuses 28 (inferred l acc (entriesOf b w m))
+    (l : Limits) (acc : Map Term) (b w : Bytes) (m : ℕ) → (m ≡ 1 → ⊥) →
+    Refuses (number notUnit) (inferred l acc (entriesOf b w m))
 unfolding inferred entriesOf
 not-alone l acc b w zero h = refuses notUnit refl
 not-alone l acc b w (suc zero) h = absurd (h refl)
@@ -71,12 +73,14 @@ module _ {w : Bytes} {m var : ℕ} {own : Rational} (a : Alone w m var own) (b :
   only-entry = rw (a .size, a .key, a .value)
 
   module _ (l : ℕ) (acc : Map Term) where
-    pub zero-own : isZero own ≡ true → Refuses 28 (inferred (limited l) acc (entriesOf b w m))
+    pub zero-own : isZero own ≡ true → Refuses (number notUnit) (inferred (limited l) acc (entriesOf b w m))
     unfolding inferred _>>=_ assert
     zero-own e = rw only-entry (refuses notUnit (rw e))
 
     module _ (nonzero : isZero own ≡ false) where
-      pub not-found : get terms acc (tree b var) ≡ none → Refuses 29 (inferred (limited l) acc (entriesOf b w m))
+      pub not-found :
+          get terms acc (tree b var) ≡ none →
+          Refuses (number coeffNotFound) (inferred (limited l) acc (entriesOf b w m))
       unfolding inferred _>>=_ assert orElse
       not-found e = rw only-entry (refuses coeffNotFound (rw (nonzero, e)))
 
@@ -87,7 +91,8 @@ module _ {w : Bytes} {m var : ℕ} {own : Rational} (a : Alone w m var own) (b :
         unfolding inferred _>>=_ assert orElse
         divided = rw only-entry (rw (nonzero, is, neg))
 
-        pub quotient-out : r ≡ answer.OutOfRange → Refuses 11 (inferred (limited l) acc (entriesOf b w m))
+        pub quotient-out :
+            r ≡ answer.OutOfRange → Refuses (number numberRange) (inferred (limited l) acc (entriesOf b w m))
         quotient-out e = refuses numberRange (divided ∙ over-out l q′ own cc)
 
         pub quotient-in : {p : Rational} → r ≡ answer.Value p → inferred (limited l) acc (entriesOf b w m) ≡ ok p
@@ -116,12 +121,15 @@ module _ (l : Limits) (acc own : Map Term) where
           let known = subst (λ z. InferredIs z (inferred l acc own)) f is in
           (none-given ∙ rw (known .0), (known .1, known .1))
 
+      -- n is the number of the refusal
       pub argument-refused :
-          {c : ℕ} → r ≡ inference.Refused c → Refuses c (argumentFrom l acc own (givenOf arg))
+          {c n : ℕ} → r ≡ inference.Refused c → n ≡ inferenceRefusal r →
+          Refuses n (argumentFrom l acc own (givenOf arg))
       unfolding argumentFrom
-      argument-refused {c} f =
-          subst (Refuses c) (sym none-given)
-          (refused-then (λ a. ok (a, a ∷ [])) (subst (λ z. InferredIs z (inferred l acc own)) f is))
+      argument-refused {n = n} f n-is =
+          let refused : r ≡ inference.Refused n = f ∙ ap inference.Refused (sym (n-is ∙ ap inferenceRefusal f)) in
+          subst (Refuses n) (sym none-given)
+          (refused-then (λ a. ok (a, a ∷ [])) (subst (λ z. InferredIs z (inferred l acc own)) refused is))
 
 -- the definition's argument is that of the two maps alone, where nothing was inferred before
 pub argument-of :

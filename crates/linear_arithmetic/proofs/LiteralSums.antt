@@ -1,51 +1,45 @@
--- `process_disequality` along its own steps: argument, scaled literal, sum; and what each way out leaves of the areas.
+-- `accumulate` along its own steps, argument, scaled literal, sum, and what each way out leaves of the areas; and that
+-- `process_disequality` is the literal's disequality with these steps behind it.
 use mathlib.Core.Path.{_≡_, refl, sym, subst, ap, ap₂, _∙_}
 use mathlib.Core.List.{List, []}
 use mathlib.Core.Option.{Option}
 use Prim.Native.Nat.{ℕ}
-use native.Mathlib.Omega.{arith}
 use Rattle.numbers.specs.Rational.{Rational, Proper}
 use Rattle.numbers.specs.Bytes.{Bytes}
 use Rattle.terms.specs.Term.{Term}
-use Rattle.terms.specs.Book.{count, SortsBelow}
-use Rattle.rules.proofs.StoredEntries.{held-length}
-use Rattle.rules.specs.StoredMaps as maps
-use Rattle.rules.specs.Refusal.{Result, _>>=_}
+use Rattle.rules.specs.memory.StoredMaps as maps
+use Rattle.rules.specs.Refusal.{Result, _>>=_, number}
 use Rattle.rules.specs.Refusal.Outcome.{ok}
 use Rattle.rules.specs.Refusal.Refusal.{numberRange}
 use Rattle.rules.specs.Limits.{Limits, limited}
 use Rattle.rules.specs.IndexMap.{add}
 use Rattle.linear_comb.specs.LinearComb.{LinearComb, mul}
-use Rattle.rules.specs.Entries.{terms, slots, stored, entriesOf, blanked, Held}
+use Rattle.rules.specs.memory.Entries.{terms, slots, stored, entriesOf, blanked, Held}
 use Rattle.disequality.specs.Disequality.{Disequality, disequality, disequalityOf}
 use Rattle.linear_arithmetic.specs.LinearArithmetic.{Progress, progress, argumentOf, strengthened, scalar}
 use Rattle.linear_arithmetic.specs.LinearArithmetic.{weakened, joinOperators, processDisequality}
-use Rattle.linear_comb.specs.WorkArea.{Sum, combOf, areaOf, withArea, OnlyArea, Apart, KeptSum, SummedIs, Sums, SumHas}
-use Rattle.linear_comb.specs.WorkArea.{combWith}
-use Rattle.rules.specs.Parts.{Refuses}
-use Rattle.linear_arithmetic.specs.LinearSteps.{argumentFrom, ArguedIs, givenOf, traceOf, progressOf, scaledOf}
-use Rattle.linear_arithmetic.specs.LinearSteps.{ScaledIs, ScaledLeft, accumulated, AccumulatedLeft, ProcessedIs}
-use Rattle.linear_arithmetic.specs.LinearSteps.{ProcessedLeft, Folding}
-use Rattle.disequality.specs.DisequalitySteps.{Between, LiteralIs, LiteralLeft}
+use Rattle.linear_comb.specs.memory.WorkArea.{Sum, combOf, areaOf, withArea, OnlyArea, Apart, KeptSum, CombinedIs}
+use Rattle.linear_comb.specs.memory.WorkArea.{Combines, SumHas, combWith}
+use Rattle.rules.specs.memory.Parts.{Refuses}
+use Rattle.linear_arithmetic.specs.memory.LinearSteps.{argumentFrom, ArguedIs, givenOf, traceOf, progressOf}
+use Rattle.linear_arithmetic.specs.memory.LinearSteps.{scaledOf, ScaledIs, ScaledLeft, accumulated}
+use Rattle.linear_arithmetic.specs.memory.LinearSteps.{AccumulatedLeft, ProcessedIs, arguedRefusal}
 use Rattle.rules.specs.declared.index_map.Coefficient.{Coefficient}
 use Rattle.disequality.specs.declared.disequality.Disequality as literal-value
-use Rattle.disequality.specs.declared.disequality.Literal.{Literal}
-use Rattle.disequality.specs.declared.disequality.Literal.the-variants as literal
 use Rattle.disequality.specs.declared.disequality.Strengthened.{Strengthened}
 use Rattle.disequality.specs.declared.disequality.Strengthened.the-variants as stronger
-use Rattle.linear_arithmetic.specs.declared.linear_arithmetic.Argued.{Argued}
-use Rattle.linear_arithmetic.specs.declared.linear_arithmetic.Argued.the-variants as argued
-use Rattle.linear_arithmetic.specs.declared.linear_arithmetic.Processed.{Processed}
-use Rattle.linear_arithmetic.specs.declared.linear_arithmetic.Processed.the-variants as processed
-use Rattle.linear_arithmetic.specs.declared.linear_arithmetic.Progress as by-value
-use Rattle.linear_comb.specs.declared.linear_comb.Summed.{Summed}
-use Rattle.linear_comb.specs.declared.linear_comb.Summed.the-variants as summed
-use Rattle.linear_comb.proofs.Areas.{empty-length, empty-held, only-none, within-sorts}
+use Rattle.linear_arithmetic.specs.declared.process_disequality.Argued.{Argued}
+use Rattle.linear_arithmetic.specs.declared.process_disequality.Argued.the-variants as argued
+use Rattle.linear_arithmetic.specs.declared.process_disequality.Processed.{Processed}
+use Rattle.linear_arithmetic.specs.declared.process_disequality.Processed.the-variants as processed
+use Rattle.linear_arithmetic.specs.declared.process_disequality.Progress as by-value
+use Rattle.linear_comb.specs.declared.linear_comb.Combined.{Combined}
+use Rattle.linear_comb.specs.declared.linear_comb.Combined.the-variants as combined
+use Rattle.linear_comb.proofs.Areas.{empty-length, empty-held, only-none}
 use Rattle.rules.proofs.Results.{next, ends, bind-same, bind-assoc, refuses, refused-then}
 use Rattle.linear_arithmetic.proofs.LiteralArguments.{argument-of}
-use Rattle.linear_comb.proofs.AreaSteps.{blanked-empty, kept-sum, sum-comb, answer-has, two-areas, Both, both-then}
-use Rattle.linear_comb.proofs.AreaSteps.{both-apart, then-first, second-emptied, in-second, both-read, both-first}
-use Rattle.linear_comb.proofs.AreaSteps.{both-written}
+use Rattle.linear_comb.proofs.AreaSteps.{blanked-empty, sum-comb, answer-has, Both, both-apart, then-first}
+use Rattle.linear_comb.proofs.AreaSteps.{second-emptied, in-second, both-read, both-written}
 use Rattle.linear_arithmetic.proofs.LiteralAreas.{scaled-kept, emptied-after}
 
 -- ---- the definition
@@ -121,18 +115,21 @@ module _
         is = subst (λ z. ProcessedIs z [] Sum-now) (sym f) (h, refl);
       }
 
+  -- n is the number of the refusal
   pub unargued-left :
-      {w′ : Bytes} {r : Argued} {r′ : Processed} {c : ℕ} → ArguedIs r Argument → r ≡ argued.Refused c →
+      {w′ : Bytes} {r : Argued} {r′ : Processed} {c n : ℕ} → ArguedIs r Argument → r ≡ argued.Refused c →
+      n ≡ arguedRefusal r →
       w′ ≡ withArea 1 (blanked (d .sum .len) (areaOf 1 w)) (withArea 0 (blanked (p .acc .len) (areaOf 0 w)) w) →
-      r′ ≡ processed.Refused c → AccumulatedLeft b w w′ r′ Sum-now
-  unargued-left {c = c} h e f g =
+      r′ ≡ processed.Refused n → AccumulatedLeft b w w′ r′ Sum-now
+  unargued-left {r = r} {n = n} h e n-is f g =
       let none = empty-length in
+      let refused : r ≡ argued.Refused n = e ∙ ap argued.Refused (sym (n-is ∙ ap arguedRefusal e)) in
       refused-left
       (both-read apart none none
       (f ∙ ap₂ (λ y x. withArea 1 y (withArea 0 x w)) (blanked-empty (k₁ .kept)) (blanked-empty (k₀ .kept))))
       g
       (unargued (limited l) So-far The-literal (givenOf arg)
-      (subst (Refuses c) (sym same-argument) (subst (λ z. ArguedIs z Argument) e h)))
+      (subst (Refuses n) (sym same-argument) (subst (λ z. ArguedIs z Argument) refused h)))
 
   module _
       {a : Rational} {found : Coefficient} {r : Argued} (h : ArguedIs r Argument) (is : r ≡ argued.Is a found) where
@@ -153,7 +150,7 @@ module _
       pub unscaled-left :
           {w′ : Bytes} {r′ : Processed} → r₁ ≡ stronger.OutOfRange →
           w′ ≡ withArea 1 (blanked 0 (areaOf 1 w₁)) (withArea 0 (blanked (p .acc .len) (areaOf 0 w₁)) w₁) →
-          r′ ≡ processed.Refused 11 → AccumulatedLeft b w w′ r′ Sum-now
+          r′ ≡ processed.Refused (number numberRange) → AccumulatedLeft b w w′ r′ Sum-now
       unscaled-left e f g =
           let out = subst (λ z. ScaledIs z (left .map) Scaled) e (left .is) in
           let empty = subst (Held b (areaOf 1 w₁)) (out .1) (left .held) in
@@ -166,10 +163,10 @@ module _
         scaled-as = subst (λ z. ScaledIs z (left .map) Scaled) scaled-is (left .is)
 
         module _
-            {w₂ : Bytes} {r₂ : Summed} (only : OnlyArea 0 w₁ w₂)
+            {w₂ : Bytes} {r₂ : Combined} (only : OnlyArea 0 w₁ w₂)
             (sums :
             KeptSum b (areaOf 0 w₁) (p .acc) → KeptSum b (areaOf 1 w₁) t →
-            Sums b (areaOf 0 w₂) r₂
+            Combines b (areaOf 0 w₂) r₂
             (add terms (limited l) (combOf b (areaOf 0 w₁) (p .acc)) (combOf b (areaOf 1 w₁) t))) where
           abbrev Total : Result LinearComb
           Total = add terms (limited l) (So-far .acc) (combWith t (left .map))
@@ -177,7 +174,7 @@ module _
           scaled-now : Both 0 1 w (areaOf 0 w) (areaOf 1 w₁) w₁
           scaled-now = in-second apart (left .only)
 
-          total : Sums b (areaOf 0 w₂) r₂ Total
+          total : Combines b (areaOf 0 w₂) r₂ Total
           total =
               rw (← scaled-now .first, ← sum-comb (left .held) (scaled-as .1))
               (sums (rw (scaled-now .first) k₀) (scaled-kept scaled-is left))
@@ -192,12 +189,12 @@ module _
           both-left e = second-emptied apart summed-now (scaled-kept scaled-is left .kept) e
 
           pub unadded-left :
-              {w′ : Bytes} {r′ : Processed} → r₂ ≡ summed.OutOfRange →
+              {w′ : Bytes} {r′ : Processed} → r₂ ≡ combined.OutOfRange →
               w′ ≡ withArea 1 (blanked (t .len) (areaOf 1 w₂)) (withArea 0 (blanked 0 (areaOf 0 w₂)) w₂) →
-              r′ ≡ processed.Refused 11 → AccumulatedLeft b w w′ r′ Sum-now
+              r′ ≡ processed.Refused (number numberRange) → AccumulatedLeft b w w′ r′ Sum-now
           unfolding maps.blanked
           unadded-left {w′} e f g =
-              let out = subst (λ z. SummedIs z (total .map) Total) e (total .is) in
+              let out = subst (λ z. CombinedIs z (total .map) Total) e (total .is) in
               let same = sym (only-none (both-apart apart summed-now .first)) in
               refused-left
               (subst (λ x. Both 0 1 w x (stored slots []) w′) (total .held .bytes ∙ ap (stored slots) (out .1))
@@ -206,12 +203,13 @@ module _
               (refuses numberRange (argued-as ∙ next _ (scaled-as .0) ∙ ends _ (out .0)))
 
           pub sum-left :
-              {w′ : Bytes} {u : Sum} {o : ℕ} → r₂ ≡ summed.Sum u → w′ ≡ withArea 1 (blanked (t .len) (areaOf 1 w₂)) w₂ →
+              {w′ : Bytes} {u : Sum} {o : ℕ} → r₂ ≡ combined.Is u →
+              w′ ≡ withArea 1 (blanked (t .len) (areaOf 1 w₂)) w₂ →
               o ≡ joinOperators (p .operator) q →
               AccumulatedLeft b w w′
               (processed.Accumulated (record { operator = o; acc = u; visits = d .visits }) found) Sum-now
           sum-left {u = u} e f g =
-              let out = subst (λ z. SummedIs z (total .map) Total) e (total .is) in
+              let out = subst (λ z. CombinedIs z (total .map) Total) e (total .is) in
               let there = both-left f in
               record {
                 map = total .map;
@@ -223,92 +221,3 @@ module _
                   (answer-has (out .1), argument .1 .1),
                 );
               }
-
--- ---- process_disequality
-
-pub both-areas : {b w : Bytes} → Between b w → Apart 0 1 w
-both-areas f = two-areas (f .size) (omega arith) (omega arith) (λ z. omega arith)
-
--- what `accumulate` takes over: the sum so far and the literal, kept in areas 0 and 1
-pub record Handed (b w : Bytes) (acc s : Sum) : Type 0 where
-  pub apart : Apart 0 1 w
-  pub sorts : SortsBelow (count b) b w
-  pub sum : KeptSum b (areaOf 0 w) acc
-  pub literal : KeptSum b (areaOf 1 w) s
-
-module _
-    (b w : Bytes) (l : ℕ) (p : by-value.Progress) (phi : Term) (arg : Coefficient) (folding : Folding b w p)
-    {w₁ : Bytes} {r₁ : Literal} (left : LiteralLeft b w w₁ r₁ (disequalityOf (limited l) phi (p .visits))) where
-  abbrev Next : Result Progress
-  Next = processDisequality (limited l) (progressOf b w p) phi (givenOf arg)
-
-  apart : Apart 0 1 w
-  apart = both-areas (folding .between)
-
-  literal-now : Both 0 1 w (areaOf 0 w) (areaOf 1 w₁) w₁
-  literal-now = in-second apart (left .only)
-
-  pub literal-refused :
-      {w′ : Bytes} {r : Processed} {c : ℕ} → r₁ ≡ literal.Refused c →
-      w′ ≡ withArea 1 (blanked 0 (areaOf 1 w₁)) (withArea 0 (blanked (p .acc .len) (areaOf 0 w₁)) w₁) →
-      r ≡ processed.Refused c → ProcessedLeft b w w′ r Next
-  literal-refused {c = c} e f g =
-      let out = subst (λ z. LiteralIs z (left .map) (disequalityOf (limited l) phi (p .visits))) e (left .is) in
-      let empty = subst (Held b (areaOf 1 w₁)) (out .1) (left .held) in
-      let there = emptied-after apart (left .only) empty (folding .acc .kept) f in
-      record {
-        map = [];
-        held = empty-held (there .first);
-        only = both-first apart there (sym (folding .between .left));
-        is =
-            subst (λ z. ProcessedIs z [] Next) (sym g) (
-              subst (Refuses c) (sym (processed-in-two (limited l) (progressOf b w p) phi (givenOf arg)))
-                  (refused-then _ (out .0)),
-              refl,
-            );
-      }
-
-  module _ {q : literal-value.Disequality} (e : r₁ ≡ literal.Is q) where
-    literal-as :
-        (disequalityOf (limited l) phi (p .visits)
-        ≡ ok (disequality (q .operator) (combWith (q .sum) (left .map)) (q .visits)))
-        × SumHas (q .sum) (left .map)
-    literal-as = subst (λ z. LiteralIs z (left .map) (disequalityOf (limited l) phi (p .visits))) e (left .is)
-
-    pub handed : Handed b w₁ (p .acc) (q .sum)
-    handed =
-        record {
-          apart = both-apart apart literal-now;
-          sorts = within-sorts (literal-now .within) (folding .between .sorts);
-          sum = subst (λ x. KeptSum b x (p .acc)) (sym (literal-now .first)) (folding .acc);
-          literal = kept-sum (left .held) (literal-as .1);
-        }
-
-    abbrev Rest : Result Progress
-    Rest =
-        accumulated (limited l) (progressOf b w₁ p)
-        (disequality (q .operator) (combOf b (areaOf 1 w₁) (q .sum)) (q .visits)) (givenOf arg)
-
-    next-is : Next ≡ Rest
-    unfolding _>>=_
-    next-is =
-        processed-in-two (limited l) (progressOf b w p) phi (givenOf arg)
-        ∙ (ap (λ z. z >>= λ x. accumulated (limited l) (progressOf b w p) x (givenOf arg)) (literal-as .0)
-        ∙ ap₂
-        (λ x s. accumulated (limited l) (progress (p .operator) (combOf b x (p .acc)) [] (p .visits))
-        (disequality (q .operator) s (q .visits)) (givenOf arg))
-        (sym (literal-now .first)) (sym (sum-comb (left .held) (literal-as .1))))
-
-    pub literal-accumulated :
-        {w′ : Bytes} {r : Processed} → AccumulatedLeft b w₁ w′ r Rest → ProcessedLeft b w w′ r Next
-    literal-accumulated {w′} {r} h =
-        record {
-          map = h .map;
-          held = h .held;
-          only =
-              both-first apart
-              (both-then literal-now
-              (both-read (both-apart apart literal-now) (held-length (h .held)) empty-length (h .only)))
-              (sym (folding .between .left));
-          is = subst (ProcessedIs r (h .map)) (sym next-is) (h .is);
-        }

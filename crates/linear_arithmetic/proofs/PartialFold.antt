@@ -20,30 +20,34 @@ use lib.ListN.{length, drop, length-drop, drop-of-length-le}
 use lib.Seq.{drop-drop}
 use Rattle.numbers.specs.Rational.{Rational, Proper, whole}
 use Rattle.numbers.specs.Bytes.{Bytes}
+use Rattle.terms.specs.Operator.{Equals}
 use Rattle.terms.specs.Term.{Term}
-use Rattle.rules.specs.Refusal.{Refusal, Result, _>>=_, assert}
+use Rattle.rules.specs.Refusal.{Refusal, Result, _>>=_, assert, number}
 use Rattle.rules.specs.Refusal.Outcome.{ok, refused}
-use Rattle.rules.specs.Refusal.Refusal.{disequalityIsNotContradiction}
+use Rattle.rules.specs.Refusal.Refusal.{wrongNumberOfArgs, disequalityIsNotContradiction}
 use Rattle.rules.specs.Limits.{Limits, limited}
 use Rattle.rules.specs.IndexMap.{Map, isEmpty, new}
 use Rattle.linear_arithmetic.specs.LinearArithmetic.{Progress, progress, readArgs, isTrueAtZero, laGenericPartial}
 use Rattle.linear_arithmetic.specs.LinearArithmetic.{laGeneric}
 use Rattle.rules.specs.Shapes.{Clause}
-use Rattle.linear_comb.specs.WorkArea.{areaOf, withArea, Area, SumHas}
-use Rattle.rules.specs.Entries.{slots, stored, entriesOf, blanked}
-use Rattle.rules.specs.Parts.{Ready, numbersIn, termsIn, Inside, codeOf, verdictOf}
-use Rattle.linear_arithmetic.specs.LinearSteps.{visitsOf, progressOf, progressWith, foldSome, AllNumbers}
-use Rattle.linear_arithmetic.specs.LinearSteps.{foldRead, FoldedIs, FoldedLeft, contradicts, Folding}
+use Rattle.linear_comb.specs.memory.WorkArea.{areaOf, withArea, Area, SumHas}
+use Rattle.rules.specs.memory.Entries.{slots, stored, entriesOf, blanked}
+use Rattle.rules.specs.memory.Parts.{Ready, numbersIn, termsIn, Inside, assertedOf, verdictOf}
+use Rattle.linear_arithmetic.specs.memory.LinearSteps.{maxRunBytes, visitsOf, progressOf, progressWith, foldSome}
+use Rattle.linear_arithmetic.specs.memory.LinearSteps.{AllNumbers, foldRead, FoldedIs, FoldedLeft, contradicts}
+use Rattle.linear_arithmetic.specs.memory.LinearSteps.{Folding}
 use Rattle.linear_arithmetic.specs.declared.linear_arithmetic.Folded.{Folded}
 use Rattle.linear_arithmetic.specs.declared.linear_arithmetic.Folded.the-variants as folded
-use Rattle.linear_arithmetic.specs.declared.linear_arithmetic.Progress as by-value
+use Rattle.linear_arithmetic.specs.declared.process_disequality.Progress as by-value
+use Rattle.rules.specs.declared.verdict.Asserted.{Asserted}
+use Rattle.rules.specs.declared.verdict.Asserted.the-variants as asserted
 use Rattle.rules.specs.declared.verdict.Verdict.{Verdict}
 use Rattle.rules.specs.declared.verdict.Verdict.the-variants as verdict
 use Rattle.rules.proofs.CheckedNumbers.{whole-proper}
 use Rattle.rules.proofs.StoredEntries.{kept-small}
 use Rattle.rules.proofs.Yields.{Yields, gives, refuses, and-then, past}
-use Rattle.rules.proofs.Results.{next, ends, bind-same, bind-assoc, refuses-as, refused-then, code-some}
-use Rattle.rules.proofs.Results.{refused-verdict}
+use Rattle.rules.proofs.Results.{next, ends, bind-same, bind-assoc, refuses-as, refused-then}
+use Rattle.rules.proofs.Results.{asserted-refuses, refused-verdict}
 use Rattle.linear_comb.proofs.AreaSteps.{kept-sum}
 use Rattle.rules.proofs.RunParts.{length-numbersIn, length-termsIn, termsIn-drop, inside-drop}
 use Rattle.linear_arithmetic.proofs.ReadParts.{readArgs-drop}
@@ -57,7 +61,7 @@ use Rattle.linear_arithmetic.proofs.Emptied.{ready-folding, emptied, cl
 
 -- all arguments are read before the first literal
 abbrev pub partialEnd : Limits → Clause → List Term → ℕ → Result (Progress × Option Refusal)
-partialEnd l clause args n = readArgs l args >>= λ qs. ok (foldEnd l clause qs (progress 4 new [] n))
+partialEnd l clause args n = readArgs l args >>= λ qs. ok (foldEnd l clause qs (progress Equals new [] n))
 
 -- the last line
 abbrev isContradiction : Progress → Result Progress
@@ -71,7 +75,8 @@ partial-ended :
     laGenericPartial l clause args n ≡ (partialEnd l clause args n >>= λ e. resultOf e >>= isContradiction)
 unfolding laGenericPartial _>>=_
 partial-ended l clause args n =
-    bind-same (readArgs l args) (λ qs. ap (λ z. z >>= isContradiction) (fold-ended l clause qs (progress 4 new [] n)))
+    bind-same (readArgs l args)
+    (λ qs. ap (λ z. z >>= isContradiction) (fold-ended l clause qs (progress Equals new [] n)))
     ∙ sym (bind-assoc (readArgs l args) _ _)
 
 empty-map : (m : Map Term) → isEmpty m ≡ eqb (length m) 0
@@ -87,7 +92,7 @@ last-line q m t has =
   where
     go :
         (s : Bool) →
-        cond s (verdict.Accepted (q .visits)) (verdict.Refused 30) ≡
+        cond s (verdict.Accepted (q .visits)) (verdict.Refused (number disequalityIsNotContradiction)) ≡
         verdictOf (visitsOf (assert s disequalityIsNotContradiction >>= λ u. ok (later t (progressWith q m []))))
     go true = refl
     go false = refl
@@ -104,7 +109,7 @@ onwardWith g t clause qs p k = ok (foldEnd (limitsOf g) clause qs (later t p))
 -- so many literals are done, from the empty sum to p with the bytes w, and t was inferred
 pub record PartSoFar
     (g : Given) (v : ℕ) (t : List Rational) (w : Bytes) (p : by-value.Progress) (done : ℕ) : Type 0 where
-  pub small : length (g .literals) ≤ 16384
+  pub small : length (g .literals) ≤ maxRunBytes
   pub ready : Ready (g .book) (g .work)
   pub reached : Reached g (endOf g v) (onwardWith g t) w p done
 
@@ -152,18 +157,19 @@ ended-trace {g} {v} {t} e =
     reached (some c) = refuses
     reached none = gives (e .trace)
 
--- c is the number of what is read
+-- an argument is no number
 pub part-unread :
-    (g : Given) (v c : ℕ) → ((n : ℕ) → c ≡ codeOf (readArgs (limited n) (termsIn (g .book) (g .args)))) →
-    (c ≡ 0 → ⊥) → Judged g v (g .work) (verdict.Refused c)
-part-unread g v c c-is other =
-    let stopped = code-some _ c (c-is (g .limit)) other in
+    (g : Given) (v : ℕ) {c : ℕ} {r : Asserted} →
+    ((n : ℕ) → r ≡ assertedOf (readArgs (limited n) (termsIn (g .book) (g .args)))) → r ≡ asserted.Refused c →
+    Judged g v (g .work) (verdict.Refused c)
+part-unread g v r-is e =
+    let stopped = asserted-refuses _ (sym e ∙ r-is (g .limit)) in
     (refused-verdict (refused-then _ (refuses-as stopped λ d f. partial-ended _ _ _ v ∙ ends _ (ends _ f))), refl)
 
 pub part-begin :
     (g : Given) (v : ℕ) → AllNumbers (g .limit) (g .book) (g .args) → Ready (g .book) (g .work) →
-    Inside (g .book) (g .literals) → length (g .literals) ≤ 16384 → (q : Rational) → q ≡ whole (pos 0) →
-    PartSoFar g v [] (g .work) (record { operator = 4; acc = record { len = 0; constant = q }; visits = v }) 0
+    Inside (g .book) (g .literals) → length (g .literals) ≤ maxRunBytes → (q : Rational) → q ≡ whole (pos 0) →
+    PartSoFar g v [] (g .work) (record { operator = Equals; acc = record { len = 0; constant = q }; visits = v }) 0
 unfolding entriesOf
 part-begin g v numbers ready named small q q-is =
     record {
@@ -201,7 +207,7 @@ module _
       (Folding (g .book) w p × Inside (g .book) part) × AllNumbers (g .limit) (g .book) given
   rest-folds part-is given-is = (
     (far .reached .folding, rw part-is (inside-drop (g .book) (g .literals) done (far .reached .named))),
-    ap codeOf (read-on given-is),
+    sym (ap assertedOf (read-on given-is)),
   )
 
   pub part-less :
@@ -370,7 +376,8 @@ module _
 module _ (b literals args : Bytes) (v l : ℕ) where
   pub generic-unequal :
       (length args / 4 ≡ length literals / 4 → ⊥) →
-      verdict.Refused 20 ≡ verdictOf (visitsOf (laGeneric (limited l) (termsIn b literals) (termsIn b args) v))
+      verdict.Refused (number wrongNumberOfArgs) ≡
+      verdictOf (visitsOf (laGeneric (limited l) (termsIn b literals) (termsIn b args) v))
   unfolding laGeneric assert _>>=_
   generic-unequal h = rw (length-termsIn b args, length-termsIn b literals, ne-eqb _ _ h, laGeneric)
 

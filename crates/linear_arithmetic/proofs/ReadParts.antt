@@ -1,7 +1,6 @@
 -- The arguments that a part names, read as numbers, and the functions `read_args` and `argument_at`: by place, and from
 -- a place on.
 use mathlib.Core.Path.{_≡_, refl, sym, ap, _∙_}
-use mathlib.Core.Logic.{_⊎_}
 use mathlib.Core.List.{List, [], _∷_}
 use mathlib.Core.Option.{Option, some, none}
 use Prim.Native.Nat.{ℕ, zero, suc, _+_, _-_, _/_, _≤_, _<_}
@@ -12,61 +11,46 @@ use Rattle.numbers.specs.Rational.{Rational}
 use Rattle.numbers.specs.Bytes.{Bytes}
 use Rattle.terms.specs.Term.{Term}
 use Rattle.terms.specs.Book.{tree}
-use Rattle.terms.specs.Readers.{asFraction, ranged, Finds, readingRefusal}
-use Rattle.terms.specs.declared.term.Reading.{Reading}
-use Rattle.terms.specs.declared.term.Reading.the-variants.{Value, NotNumber, OutOfRange}
-use Rattle.terms.proofs.Findings.{tag, no-value}
 use Rattle.rules.proofs.Yields.{through}
-use Rattle.rules.specs.Refusal.{Result, _>>=_, orElse}
+use Rattle.rules.specs.Refusal.{Result, _>>=_}
 use Rattle.rules.specs.Refusal.Outcome.{ok, refused}
-use Rattle.rules.specs.Refusal.Refusal.{expectedAnyNumber}
-use Rattle.rules.specs.Limits.{Limits, limited, numberOr, fractionOf, fractionErr}
+use Rattle.rules.specs.Limits.{Limits, limited, fractionErr}
 use Rattle.linear_arithmetic.specs.LinearArithmetic.{readArgs}
-use Rattle.rules.specs.Entries.{CoefficientIs}
+use Rattle.rules.specs.memory.Entries.{CoefficientIs}
 use Rattle.rules.specs.declared.index_map.Coefficient.the-variants.{Of}
-use Rattle.linear_arithmetic.specs.LinearSteps.{at}
-use Rattle.rules.specs.Parts.{numbersIn, named, termsIn, codeOf}
-use Rattle.rules.proofs.RunParts.{length-numbersIn, named-cons, named-past, readOf, fraction-read}
-
-read-ok : (r : Reading) (q : Rational) → readOf r ≡ ok q → r ≡ Value q
-read-ok (Value p) q h = cc
-read-ok NotNumber q h = cc
-read-ok OutOfRange q h = cc
+use Rattle.linear_arithmetic.specs.memory.LinearSteps.{at}
+use Rattle.rules.specs.memory.Parts.{Refuses, Expects, numbersIn, named, termsIn, assertedOf}
+use Rattle.rules.specs.declared.readers.Expected.{Expected}
+use Rattle.rules.specs.declared.readers.Expected.the-variants as expected
+use Rattle.rules.specs.declared.verdict.Asserted.the-variants as asserted
+use Rattle.rules.proofs.Results.{refused-then, refused-assertion}
+use Rattle.rules.proofs.RunParts.{length-numbersIn, named-cons, named-past}
+use Rattle.rules.proofs.ExpectedTerms.{number-found, no-number}
 
 module _ (l : Limits) where
-  read-with :
-      (t : Term) (ts : List Term) (r : Reading) → asFraction (l .numbers) t ≡ r →
-      readArgs l (t ∷ ts) ≡ (readOf r >>= λ q. readArgs l ts >>= λ qs. ok (q ∷ qs))
-  unfolding readArgs
-  read-with t ts r h = ap (λ x. x >>= λ q. readArgs l ts >>= λ qs. ok (q ∷ qs)) (fraction-read l t ∙ ap readOf h)
-
   -- the first is a number, and the others are left; or it is none
   pub read-first :
-      (t : Term) (ts : List Term) (q : Rational) → asFraction (l .numbers) t ≡ Value q →
-      codeOf (readArgs l (t ∷ ts)) ≡ codeOf (readArgs l ts)
-  unfolding _>>=_
-  read-first t ts q h = ap codeOf (read-with t ts (Value q) h) ∙ go (readArgs l ts)
+      (t : Term) (ts : List Term) (q : Rational) → fractionErr l t ≡ ok q →
+      assertedOf (readArgs l (t ∷ ts)) ≡ assertedOf (readArgs l ts)
+  unfolding readArgs _>>=_
+  read-first t ts q h =
+      ap (λ x. assertedOf (x >>= λ q. readArgs l ts >>= λ qs. ok (q ∷ qs))) h ∙ go (readArgs l ts)
     where
-      go : (r : Result (List Rational)) → codeOf (r >>= λ qs. ok (q ∷ qs)) ≡ codeOf r
+      go : (r : Result (List Rational)) → assertedOf (r >>= λ qs. ok (q ∷ qs)) ≡ assertedOf r
       go (ok qs) = refl
       go (refused c) = refl
 
-  pub read-no-number :
-      (t : Term) (ts : List Term) → asFraction (l .numbers) t ≡ NotNumber → codeOf (readArgs l (t ∷ ts)) ≡ 25
-  unfolding _>>=_
-  read-no-number t ts h = ap codeOf (read-with t ts NotNumber h)
-
-  pub read-out-of-range :
-      (t : Term) (ts : List Term) → asFraction (l .numbers) t ≡ OutOfRange → codeOf (readArgs l (t ∷ ts)) ≡ 11
-  unfolding _>>=_
-  read-out-of-range t ts h = ap codeOf (read-with t ts OutOfRange h)
+  pub read-none-first :
+      (t : Term) (ts : List Term) {c : ℕ} → Refuses c (fractionErr l t) → Refuses c (readArgs l (t ∷ ts))
+  unfolding readArgs
+  read-none-first t ts r = refused-then _ r
 
   -- all are numbers
   record Headed (t : Term) (ts : List Term) (qs : List Rational) : Type 0 where
     first : Rational
     others : List Rational
     is : qs ≡ first ∷ others
-    reads : asFraction (l .numbers) t ≡ Value first
+    reads : fractionErr l t ≡ ok first
     then : readArgs l ts ≡ ok others
 
   read-headed : (t : Term) (ts : List Term) (qs : List Rational) → readArgs l (t ∷ ts) ≡ ok qs → Headed t ts qs
@@ -79,7 +63,7 @@ module _ (l : Limits) where
         first = read .middle;
         others = others .middle;
         is = cc;
-        reads = read-ok _ _ (sym (fraction-read l t) ∙ read .first);
+        reads = read .first;
         then = others .first;
       }
 
@@ -98,7 +82,7 @@ module _ (l : Limits) where
   -- argument k of them
   pub record ArgumentAt (t : Term) (a : Option Rational) : Type 0 where
     pub number : Rational
-    pub read : asFraction (l .numbers) t ≡ Value number
+    pub read : fractionErr l t ≡ ok number
     pub is : a ≡ some number
 
   module _ (b : Bytes) where
@@ -130,60 +114,58 @@ module _ (b p : Bytes) where
   pub record ReadSoFar (k : ℕ) : Type 0 where
     pub inside : k ≤ length p / 4
     pub left : (n : ℕ) →
-        codeOf (readArgs (limited n) (termsIn b p)) ≡ codeOf (readArgs (limited n) (drop k (termsIn b p)))
+        assertedOf (readArgs (limited n) (termsIn b p)) ≡ assertedOf (readArgs (limited n) (drop k (termsIn b p)))
 
   pub read-begin : ReadSoFar 0
   read-begin = record { inside = omega arith; left = λ n. refl }
 
-  pub read-end : (k : ℕ) → ReadSoFar k → length p / 4 ≤ k → (n : ℕ) → 0 ≡ codeOf (readArgs (limited n) (termsIn b p))
+  pub read-end :
+      (k : ℕ) → ReadSoFar k → length p / 4 ≤ k → (n : ℕ) →
+      asserted.Holds ≡ assertedOf (readArgs (limited n) (termsIn b p))
   unfolding readArgs
   read-end k far h n =
       sym
       (far .left n
-      ∙ ap (λ ts. codeOf (readArgs (limited n) ts)) (named-past b (numbersIn p) k (rw (length-numbersIn p) h)))
+      ∙ ap (λ ts. assertedOf (readArgs (limited n) ts)) (named-past b (numbersIn p) k (rw (length-numbersIn p) h)))
 
   -- argument k is in record i
-  module _ (k i : ℕ) (h : k < length p / 4) (i-is : i ≡ getD (numbersIn p) k 0) where
-    module _ (r : Reading) (found : Finds r (asFraction ranged (tree b i))) where
-      next : drop k (termsIn b p) ≡ tree b i ∷ drop (suc k) (termsIn b p)
-      next = rw i-is (named-cons b (numbersIn p) k (rw (length-numbersIn p) h))
+  module _
+      (k i : ℕ) (h : k < length p / 4) (i-is : i ≡ getD (numbersIn p) k 0) {x : Expected}
+      (found : (n : ℕ) → Expects x (fractionErr (limited n) (tree b i))) where
+    next : drop k (termsIn b p) ≡ tree b i ∷ drop (suc k) (termsIn b p)
+    next = rw i-is (named-cons b (numbersIn p) k (rw (length-numbersIn p) h))
 
-      reads : (s : Reading) → r ≡ s → asFraction ranged (tree b i) ≡ s
-      reads s e = sym (found .is) ∙ e
+    module _ (far : ReadSoFar k) where
+      left-next : (n : ℕ) →
+          assertedOf (readArgs (limited n) (termsIn b p)) ≡
+          assertedOf (readArgs (limited n) (tree b i ∷ drop (suc k) (termsIn b p)))
+      left-next n = far .left n ∙ ap (λ ts. assertedOf (readArgs (limited n) ts)) next
 
-      module _ (far : ReadSoFar k) where
-        left-next : (n : ℕ) →
-            codeOf (readArgs (limited n) (termsIn b p)) ≡
-            codeOf (readArgs (limited n) (tree b i ∷ drop (suc k) (termsIn b p)))
-        left-next n = far .left n ∙ ap (λ ts. codeOf (readArgs (limited n) ts)) next
+      pub read-again : {q : Rational} → x ≡ expected.Value q → ReadSoFar (k + 1)
+      read-again {q} e =
+          record {
+            inside = omega arith;
+            left = λ n. rw add-one (left-next n ∙ read-first (limited n) (tree b i) _ q (number-found (found n) e));
+          }
 
-        pub read-again : (q : Rational) → r ≡ Value q → ReadSoFar (k + 1)
-        read-again q e =
-            record {
-              inside = omega arith;
-              left = λ n. rw add-one (left-next n ∙ read-first (limited n) (tree b i) _ q (reads (Value q) e));
-            }
+      pub read-refused :
+          {c : ℕ} → x ≡ expected.Refused c → (n : ℕ) →
+          asserted.Refused c ≡ assertedOf (readArgs (limited n) (termsIn b p))
+      read-refused e n =
+          refused-assertion (read-none-first (limited n) (tree b i) _ (no-number (found n) e)) ∙ sym (left-next n)
 
-        pub read-nothing : r ≡ NotNumber → (n : ℕ) → 25 ≡ codeOf (readArgs (limited n) (termsIn b p))
-        read-nothing e n = sym (left-next n ∙ read-no-number (limited n) (tree b i) _ (reads NotNumber e))
+    -- among arguments that are all numbers
+    module _ (n : ℕ) (qs : List Rational) (all : readArgs (limited n) (termsIn b p) ≡ ok qs) where
+      here : ArgumentAt (limited n) (tree b i) (at qs k)
+      here = rw i-is (argument-at (limited n) b (numbersIn p) qs k all (rw (length-numbersIn p) h))
 
-        pub read-outside : r ≡ OutOfRange → (n : ℕ) → 11 ≡ codeOf (readArgs (limited n) (termsIn b p))
-        read-outside e n = sym (left-next n ∙ read-out-of-range (limited n) (tree b i) _ (reads OutOfRange e))
+      pub argument-of : {q : Rational} → x ≡ expected.Value q → CoefficientIs (Of q) (at qs k)
+      argument-of {q} e =
+          let read : fractionErr (limited n) (tree b i) ≡ ok q = number-found (found n) e in
+          (cc (here .read, here .is), found n .proper q e)
 
-      -- among arguments that are all numbers
-      module _ (n : ℕ) (qs : List Rational) (all : readArgs (limited n) (termsIn b p) ≡ ok qs) where
-        here : ArgumentAt (limited n) (tree b i) (at qs k)
-        here = rw i-is (argument-at (limited n) b (numbersIn p) qs k all (rw (length-numbersIn p) h))
-
-        pub argument-of : (q : Rational) → r ≡ Value q → CoefficientIs (Of q) (at qs k)
-        argument-of q e =
-            let read : asFraction ranged (tree b i) ≡ Value q = reads (Value q) e in
-            (cc (here .read, here .is), found .proper q e)
-
-        pub argument-none : (tag r ≡ 1) ⊎ (tag r ≡ 2) → at qs k ≡ none
-        argument-none e =
-            let value : r ≡ Value (here .number) = found .is ∙ here .read in
-            no-value (λ s. s ≡ Value (here .number) → at qs k ≡ none) (λ f. cc) (λ f. cc) r e value
+      pub argument-none : {c : ℕ} → x ≡ expected.Refused c → at qs k ≡ none
+      argument-none e = let why = no-number (found n) e in cc (why .is, here .read)
 
   pub argument-beyond :
       (k : ℕ) → length p / 4 ≤ k → (n : ℕ) (qs : List Rational) → readArgs (limited n) (termsIn b p) ≡ ok qs →

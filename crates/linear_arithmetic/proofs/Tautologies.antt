@@ -1,40 +1,42 @@
 -- `la_tautology`: a literal whose disequality has no atoms and always holds (`tautologyOf`), or a disjunction of two
 -- bounds.
 --     tautology-refused, tautology-clear, tautology-holds, tautology-fails       the first form, in area 1
---     many-literals, phi-inside, two-pass, two-refused, first-form       the rule by its forms
+--     phi-inside, no-only-literal, two-judged, first-form       the rule by its forms
 use mathlib.Core.Path.{_≡_, sym, ap, subst, _∙_}
 use mathlib.Core.Bool.{Bool, true, false}
+use mathlib.Core.List.{List, [], _∷_}
 use mathlib.Core.Option.{some, none}
-use Prim.Native.Nat.{ℕ, _/_, _≤_, _<_}
+use Prim.Native.Nat.{ℕ, _<_}
 use native.Mathlib.Omega.{arith}
-use lib.ListN.{length, getD}
 use Rattle.numbers.specs.Bytes.{Bytes}
-use Rattle.terms.specs.Term.{binary}
-use Rattle.terms.specs.Book.{count, tree}
+use Rattle.terms.specs.Operator.{Or}
+use Rattle.terms.specs.Term.{recordNumber, binary}
+use Rattle.terms.specs.Book.{count, tree, allBelow}
 use Rattle.terms.specs.Readers.{Children, foundTwo}
 use Rattle.terms.specs.declared.term.Two.{Two}
 use Rattle.terms.specs.declared.term.Two.the-variants.{Both, NotTwo}
-use Rattle.rules.specs.Refusal.{Result, _>>=_, assert}
-use Rattle.rules.specs.Refusal.Outcome.{ok}
-use Rattle.rules.specs.Refusal.Refusal.{disequalityIsNotTautology}
+use Rattle.rules.specs.Refusal.{Result, _>>=_, assert, number}
+use Rattle.rules.specs.Refusal.Outcome.{ok, refused}
+use Rattle.rules.specs.Refusal.Refusal.{wrongLengthOfClause, disequalityIsNotTautology}
 use Rattle.rules.specs.Limits.{limited}
 use Rattle.linear_arithmetic.specs.LinearArithmetic.{isTautology, tautologyCase, laTautology}
 use Rattle.disequality.specs.Disequality.{Disequality, disequality, disequalityOf}
 use Rattle.rules.specs.Shapes.{onlyLiteral}
-use Rattle.linear_comb.specs.WorkArea.{areaOf, withArea, combOf, Area, combWith}
-use Rattle.rules.specs.Entries.{slots, stored, Kept, blanked}
-use Rattle.rules.specs.Parts.{Ready, numbersIn, termsIn, Inside, codeOf, verdictOf}
-use Rattle.linear_arithmetic.specs.LinearSteps.{tautologyOf}
-use Rattle.disequality.specs.DisequalitySteps.{LiteralIs, LiteralLeft}
+use Rattle.linear_comb.specs.memory.WorkArea.{areaOf, withArea, combOf, Area, AreaCount, combWith}
+use Rattle.rules.specs.memory.Entries.{slots, stored, Kept, blanked}
+use Rattle.rules.specs.memory.Parts.{Ready, numbersIn, named, termsIn, Inside, assertedOf, after, verdictOf}
+use Rattle.linear_arithmetic.specs.memory.LinearSteps.{tautologyOf}
+use Rattle.disequality.specs.memory.DisequalitySteps.{literalRefusal, LiteralIs, LiteralLeft}
 use Rattle.disequality.specs.declared.disequality.Disequality as by-value
 use Rattle.disequality.specs.declared.disequality.Literal.{Literal}
 use Rattle.disequality.specs.declared.disequality.Literal.the-variants as literal
+use Rattle.rules.specs.declared.verdict.Asserted.{Asserted}
 use Rattle.rules.specs.declared.verdict.Verdict.{Verdict}
 use Rattle.rules.specs.declared.verdict.Verdict.the-variants as verdict
+use Rattle.terms.proofs.BookTerms.{recordNumber-tree}
 use Rattle.rules.proofs.StoredEntries.{held-length, kept-small}
-use Rattle.rules.proofs.RunParts.{length-numbersIn, below-at}
-use Rattle.rules.proofs.ShapeSteps.{one-named, more-named}
-use Rattle.rules.proofs.Results.{next, ends, refused-then, refused-verdict, refused-with, accepted-with}
+use Rattle.rules.proofs.RunParts.{below-at}
+use Rattle.rules.proofs.Results.{next, ends, refused-then, refused-verdict}
 use Rattle.linear_comb.proofs.AreaSteps.{kept-sum, sum-entries, only-area}
 use Rattle.linear_arithmetic.proofs.Emptied.{emptied, cleared}
 
@@ -61,12 +63,13 @@ module _ {b w w′ : Bytes} (phi v l : ℕ) (ready : Ready b w) (r : Literal) (l
   said : (s : Literal) → r ≡ s → LiteralIs s (left .map) (literalOf b l phi v)
   said s e = subst (λ z. LiteralIs z (left .map) (literalOf b l phi v)) e (left .is)
 
+  -- n is the number of the refusal
   pub tautology-refused :
-      (c : ℕ) → r ≡ literal.Refused c →
-      (verdict.Refused c ≡ verdictOf (tautologyOf (limited l) (tree b phi) v)) × (w′ ≡ w)
+      {c n : ℕ} → r ≡ literal.Refused c → n ≡ literalRefusal r →
+      (verdict.Refused n ≡ verdictOf (tautologyOf (limited l) (tree b phi) v)) × (w′ ≡ w)
   unfolding tautologyOf
-  tautology-refused c e =
-      let is = said (literal.Refused c) e in (
+  tautology-refused {n = n} e n-is =
+      let is = said (literal.Refused n) (e ∙ ap literal.Refused (sym (n-is ∙ ap literalRefusal e))) in (
         refused-verdict (refused-then _ (is .0)),
         emptied ready {j = 1} (omega arith) (left .only) (left .held .bytes ∙ ap (stored slots) (is .1)),
       )
@@ -75,7 +78,7 @@ module _ {b w w′ : Bytes} (phi v l : ℕ) (ready : Ready b w) (r : Literal) (l
     kept : Kept b (areaOf 1 w′) (d .sum .len)
     kept = kept-sum (left .held) (said (literal.Is d) e .1) .kept
 
-    pub tautology-clear : Area 1 w′ × (d .sum .len ≤ 4096)
+    pub tautology-clear : AreaCount 1 (d .sum .len) w′
     tautology-clear =
         let area : Area 1 w = record { size = ready .size; among = omega arith } in
         (only-area area (held-length (left .held)) (left .only), omega (arith, kept-small kept))
@@ -105,59 +108,62 @@ module _ {b w w′ : Bytes} (phi v l : ℕ) (ready : Ready b w) (r : Literal) (l
       tautology-holds h = (sym (ap verdictOf (asked true h)), same)
 
       pub tautology-fails :
-          t ≡ false → (verdict.Refused 32 ≡ verdictOf (tautologyOf (limited l) (tree b phi) v)) × (w″ ≡ w)
+          t ≡ false →
+          (verdict.Refused (number disequalityIsNotTautology) ≡ verdictOf (tautologyOf (limited l) (tree b phi) v))
+          × (w″ ≡ w)
       unfolding assert _>>=_
       tautology-fails h = (sym (ap verdictOf (asked false h)), same)
 
 -- ---- the rule
 
+-- the only literal is in record phi of the book
 pub phi-inside :
-    (b literals : Bytes) → length literals / 4 ≡ 1 → {phi : ℕ} → phi ≡ getD (numbersIn literals) 0 0 →
-    Inside b literals → phi < count b
-phi-inside b literals one phi-is h =
-    rw phi-is (below-at (count b) (numbersIn literals) 0 0 h (omega (arith, length-numbersIn literals)))
+    (b literals : Bytes) (phi : ℕ) → onlyLiteral (termsIn b literals) ≡ ok (tree b phi) → Inside b literals →
+    phi < count b
+unfolding onlyLiteral named
+phi-inside b literals phi = go (numbersIn literals)
+  where
+    go :
+        (l : List ℕ) → onlyLiteral (named b l) ≡ ok (tree b phi) → allBelow (count b) l ≡ true → phi < count b
+    go [] e h = let z : _≡_ {A = ℕ} 0 1 = cc in omega arith
+    go (i ∷ []) e h =
+        let one : tree b i ≡ tree b phi = cc in
+        let here : i ≡ phi = sym (recordNumber-tree b i) ∙ ap recordNumber one ∙ recordNumber-tree b phi in
+        rw (← here) (below-at (count b) (i ∷ []) 0 0 h (omega arith))
+    go (i ∷ j ∷ l) e h = let z : _≡_ {A = ℕ} 0 1 = cc in omega arith
 
 module _ (b literals : Bytes) (v l : ℕ) where
-  pub many-literals :
-      (length literals / 4 ≡ 1 → ⊥) →
-      verdict.Refused 22 ≡ verdictOf (laTautology (limited l) (termsIn b literals) v)
+  pub no-only-literal :
+      onlyLiteral (termsIn b literals) ≡ refused wrongLengthOfClause →
+      verdict.Refused (number wrongLengthOfClause) ≡ verdictOf (laTautology (limited l) (termsIn b literals) v)
   unfolding laTautology
-  many-literals h =
-      sym
-      (ap verdictOf (ends _ (sym (more-named b (numbersIn literals) (λ e. h (sym (length-numbersIn literals) ∙ e))))))
+  no-only-literal e = sym (ap verdictOf (ends _ e))
 
   -- there is one, in record phi
-  module _ (one : length literals / 4 ≡ 1) (phi : ℕ) (phi-is : phi ≡ getD (numbersIn literals) 0 0) where
-    literal-is : onlyLiteral (termsIn b literals) ≡ ok (tree b phi)
-    literal-is = rw phi-is (sym (one-named b (numbersIn literals) (length-numbersIn literals ∙ one)))
-
+  module _ (phi : ℕ) (literal-is : onlyLiteral (termsIn b literals) ≡ ok (tree b phi)) where
     -- r says whether it is a disjunction of two
-    module _ (r : Two) (two : Children b phi r (binary 3 (tree b phi))) where
+    module _ (r : Two) (two : Children b phi r (binary Or (tree b phi))) where
       with-two :
           (x y : ℕ) → r ≡ Both x y →
-          laTautology (limited l) (termsIn b literals) v ≡ (tautologyCase (tree b x) (tree b y) >>= λ u. ok v)
+          laTautology (limited l) (termsIn b literals) v ≡ after v (tautologyCase (tree b x) (tree b y))
       unfolding laTautology
       with-two x y e =
-          let found : binary 3 (tree b phi) ≡ some (tree b x, tree b y) = sym (two .is) ∙ ap (foundTwo b) e in
+          let found : binary Or (tree b phi) ≡ some (tree b x, tree b y) = sym (two .is) ∙ ap (foundTwo b) e in
           next _ literal-is ∙ rw found
 
-      pub two-pass :
-          (x y : ℕ) → r ≡ Both x y → (c : ℕ) → c ≡ codeOf (tautologyCase (tree b x) (tree b y)) → c ≡ 0 →
-          verdict.Accepted v ≡ verdictOf (laTautology (limited l) (termsIn b literals) v)
-      two-pass x y e c c-is zero-is = accepted-with v _ c-is zero-is ∙ sym (ap verdictOf (with-two x y e))
-
-      pub two-refused :
-          (x y : ℕ) → r ≡ Both x y → (c : ℕ) → c ≡ codeOf (tautologyCase (tree b x) (tree b y)) → (c ≡ 0 → ⊥) →
-          verdict.Refused c ≡ verdictOf (laTautology (limited l) (termsIn b literals) v)
-      two-refused x y e c c-is other = refused-with v _ c-is other ∙ sym (ap verdictOf (with-two x y e))
+      pub two-judged :
+          {x y : ℕ} → r ≡ Both x y → {s : Asserted} → s ≡ assertedOf (tautologyCase (tree b x) (tree b y)) →
+          {a : Verdict} → ((d : Result (Unit {0})) → s ≡ assertedOf d → a ≡ verdictOf (after v d)) →
+          a ≡ verdictOf (laTautology (limited l) (termsIn b literals) v)
+      two-judged e s-is a-is = a-is _ s-is ∙ sym (ap verdictOf (with-two _ _ e))
 
       without-two : r ≡ NotTwo → laTautology (limited l) (termsIn b literals) v ≡ tautologyOf (limited l) (tree b phi) v
       unfolding laTautology tautologyOf
       without-two e =
-          let found : binary 3 (tree b phi) ≡ none = sym (two .is) ∙ ap (foundTwo b) e in
+          let found : binary Or (tree b phi) ≡ none = sym (two .is) ∙ ap (foundTwo b) e in
           next _ literal-is ∙ rw found
 
       pub first-form :
-          r ≡ NotTwo → (a : Verdict) → a ≡ verdictOf (tautologyOf (limited l) (tree b phi) v) →
+          r ≡ NotTwo → {a : Verdict} → a ≡ verdictOf (tautologyOf (limited l) (tree b phi) v) →
           a ≡ verdictOf (laTautology (limited l) (termsIn b literals) v)
-      first-form e a a-is = a-is ∙ sym (ap verdictOf (without-two e))
+      first-form e a-is = a-is ∙ sym (ap verdictOf (without-two e))

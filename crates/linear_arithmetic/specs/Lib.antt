@@ -1,2 +1,2 @@
 pub mod LinearArithmetic
-pub mod LinearSteps
+pub mod memory

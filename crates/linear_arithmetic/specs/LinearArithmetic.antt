@@ -1,5 +1,6 @@
--- src/checker/rules/linear_arithmetic.rs, and the assertions of src/checker/rules/mod.rs that it uses: rules 1 to 6 on one step, line
--- by line in the Rust's order. A conclusion is the list of a step's literals.
+-- src/checker/rules/linear_arithmetic.rs, and the assertions of src/checker/rules/mod.rs that it uses: rules 1 to 6 on
+-- one step, line by line in the Rust's order. A conclusion is the list of a step's literals. `negate_disequality` and
+-- `strengthen` are among the definitions of the crate `disequality`.
 use mathlib.Core.Bool.{Bool, true, false, _&&_, _||_, not}
 use mathlib.Core.Option.{Option, some, none}
 use mathlib.Core.List.{List, [], _∷_, _++_}
@@ -17,7 +18,7 @@ use Rattle.rules.specs.Refusal.Refusal.{disequalityIsNotContradiction, notValid
 use Rattle.rules.specs.Limits.{Limits, over, fractionErr, signedNumberErr}
 use Rattle.rules.specs.IndexMap.{Map, isEmpty, get, add, new}
 use Rattle.linear_comb.specs.LinearComb.{LinearComb, mul, allInt}
-use Rattle.rules.specs.Entries.{terms}
+use Rattle.rules.specs.memory.Entries.{terms}
 use Rattle.rules.specs.Shapes.{Clause, onlyLiteral, Form, _≔_of_, hasForm, assertEq, negatedBinary, both, boundsCase}
 use Rattle.disequality.specs.Disequality.{Disequality, disequalityOf, strengthen}
 
@@ -61,10 +62,6 @@ totalityForm =
 unfoldable pub laTotality : Clause → Result (Unit {0})
 laTotality = hasForm totalityForm
 
--- ---- negate_disequality
-
--- ---- strengthen
-
 -- ---- process_disequality
 
 -- what the fold over the literals carries: operator, sum, the numbers inferred, the visits
@@ -77,8 +74,8 @@ pub record Progress : Type 0 where
 abbrev pub progress : ℕ → LinearComb → List Rational → ℕ → Progress
 progress o s t n = record { operator = o; acc = s; trace = t; visits = n }
 
--- minus the sum's coefficient of the literal's only atom, divided by the literal's own; where the Rust would divide by zero,
--- refusal 28
+-- minus the sum's coefficient of the literal's only atom, divided by the literal's own; where the Rust would divide by
+-- zero, it is refused as a literal with no atom or several is
 unfoldable pub inferred : Limits → Map Term → Map Term → Result Rational
 inferred l acc [] = refused notUnit
 inferred l acc ((var, coeff1) ∷ []) = do
@@ -151,7 +148,8 @@ unfoldable pub laGenericPartial : Limits → Clause → List Term → ℕ → Re
 laGenericPartial l conclusion args n = do
   qs ← readArgs l args
   p ← foldLiterals l conclusion qs (progress Equals new [] n)
-  _ ← assert (isEmpty (p .acc .entries) && not (isTrueAtZero (p .operator) (p .acc .constant))) disequalityIsNotContradiction
+  _ ← assert (isEmpty (p .acc .entries) && not (isTrueAtZero (p .operator) (p .acc .constant)))
+      disequalityIsNotContradiction
   ok p
 
 unfoldable pub laGeneric : Limits → Clause → List Term → ℕ → Result Progress

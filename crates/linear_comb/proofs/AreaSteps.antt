@@ -16,9 +16,9 @@ use Rattle.numbers.specs.Rational.{Proper}
 use Rattle.numbers.specs.Bytes.{Bytes}
 use Rattle.terms.specs.Term.{Term}
 use Rattle.rules.specs.IndexMap.{Map, combination}
-use Rattle.linear_comb.specs.WorkArea.{Sum, combOf, KeptSum, Area, Apart, areaOf, withArea, OnlyArea, SumHas}
-use Rattle.linear_comb.specs.WorkArea.{combWith}
-use Rattle.rules.specs.Entries.{slots, stored, entriesOf, blanked, Held, Kept}
+use Rattle.linear_comb.specs.memory.WorkArea.{workBytes, sumBytes, Sum, combOf, combWith, KeptSum, SumHas}
+use Rattle.linear_comb.specs.memory.WorkArea.{Area, Apart, areaOf, withArea, OnlyArea}
+use Rattle.rules.specs.memory.Entries.{slots, stored, entriesOf, blanked, Held, Kept}
 use Rattle.rules.proofs.StoredEntries.{held-length, kept-entries, clear-all}
 use Rattle.linear_comb.proofs.Areas.{empty-length, empty-held, area-length, with-length, area-with, Within}
 use Rattle.linear_comb.proofs.Areas.{within-none, within-turned, within-then, within-first, same-within}
@@ -58,13 +58,13 @@ answer-kept held told = kept-sum held (answer-has told)
 -- ---- area j alone has changed
 
 pub only-area :
-    {j : ℕ} {w w′ : Bytes} → Area j w → length (areaOf j w′) ≡ 20480 → OnlyArea j w w′ → Area j w′
+    {j : ℕ} {w w′ : Bytes} → Area j w → length (areaOf j w′) ≡ sumBytes → OnlyArea j w w′ → Area j w′
 only-area {j} {w} {w′} a long only =
     record { size = ap length only ∙ with-length a (areaOf j w′) long; among = a .among }
 
 -- it is given bytes
 module _
-    {j : ℕ} {w w′ : Bytes} (a : Area j w) (x : Bytes) (long : length x ≡ 20480) (is : w′ ≡ withArea j x w) where
+    {j : ℕ} {w w′ : Bytes} (a : Area j w) (x : Bytes) (long : length x ≡ sumBytes) (is : w′ ≡ withArea j x w) where
   pub given-area : areaOf j w′ ≡ x
   given-area = ap (areaOf j) is ∙ area-with a x long
 
@@ -86,7 +86,7 @@ module _
 
 -- ---- areas i and j have changed
 
-pub two-areas : {i j : ℕ} {w : Bytes} → length w ≡ 65536 → i < 3 → j < 3 → i ≢ j → Apart i j w
+pub two-areas : {i j : ℕ} {w : Bytes} → length w ≡ workBytes → i < 3 → j < 3 → i ≢ j → Apart i j w
 two-areas size first second apart =
     record {
       first = record { size = size; among = first };
@@ -154,7 +154,8 @@ module _ {i j : ℕ} {w : Bytes} (a : Apart i j w) where
   in-second only = then-second both-none only
 
   pub both-read :
-      {x y w′ : Bytes} → length x ≡ 20480 → length y ≡ 20480 → w′ ≡ withArea j y (withArea i x w) → Both i j w x y w′
+      {x y w′ : Bytes} → length x ≡ sumBytes → length y ≡ sumBytes → w′ ≡ withArea j y (withArea i x w) →
+      Both i j w x y w′
   both-read {x} {y} long-x long-y is =
       let one = in-first (given-only (a .first) x long-x refl) in
       let u = both-apart one .second in

@@ -18,11 +18,12 @@ use lib.Seq.{take-at, drop-at, length-take-le, drop-drop, getD-take, getD-drop, 
 use Rattle.numbers.specs.Bytes.{Bytes, bytesOf}
 use Rattle.terms.specs.Term.{Term}
 use Rattle.terms.specs.Book.{count, SortsBelow}
-use Rattle.rules.specs.StoredMaps as maps
+use Rattle.rules.specs.memory.StoredMaps as maps
 use Rattle.rules.specs.IndexMap.{Map}
-use Rattle.linear_comb.specs.WorkArea.{Area, areaStart, areaOf, withArea, OnlyArea}
-use Rattle.rules.specs.Entries.{slots, stored, Good, Held}
-use Rattle.rules.specs.Parts.{Ready}
+use Rattle.linear_comb.specs.memory.WorkArea.{workBytes, stepAt, sumBytes}
+use Rattle.linear_comb.specs.memory.WorkArea.{Area, areaStart, areaOf, withArea, OnlyArea}
+use Rattle.rules.specs.memory.Entries.{slots, stored, Good, Held}
+use Rattle.rules.specs.memory.Parts.{Ready}
 use Rattle.rules.proofs.Zeros.{zeros, zeros-join}
 
 -- ---- a part of k bytes at a
@@ -77,9 +78,9 @@ part-zeros s a k n w are room =
 
 -- ---- what an area's places are
 
-pub empty-length : length (stored slots []) ≡ 20480
+pub empty-length : length (stored slots []) ≡ sumBytes
 unfolding maps.stored
-empty-length = length-replicate {A = ℕ} 20480 0
+empty-length = length-replicate {A = ℕ} sumBytes 0
 
 pub empty-held : {b w : Bytes} → w ≡ stored slots [] → Held b w []
 unfolding Good
@@ -88,31 +89,31 @@ empty-held e = record { bytes = e; good = tt }
 -- ---- an area that is given bytes
 
 module _ {j : ℕ} {w : Bytes} (a : Area j w) where
-  area-room : areaStart j + 20480 ≤ length w
+  area-room : areaStart j + sumBytes ≤ length w
   area-room = omega (arith, a .size, a .among)
 
-  pub area-length : length (areaOf j w) ≡ 20480
+  pub area-length : length (areaOf j w) ≡ sumBytes
   unfolding areaOf
-  area-length = part-length (areaStart j) 20480 w area-room
+  area-length = part-length (areaStart j) sumBytes w area-room
 
-  module _ (x : Bytes) (long : length x ≡ 20480) where
-    pub with-length : length (withArea j x w) ≡ 65536
+  module _ (x : Bytes) (long : length x ≡ sumBytes) where
+    pub with-length : length (withArea j x w) ≡ workBytes
     unfolding withArea
-    with-length = spliced-length (areaStart j) 20480 w area-room x long ∙ a .size
+    with-length = spliced-length (areaStart j) sumBytes w area-room x long ∙ a .size
 
     pub area-with : areaOf j (withArea j x w) ≡ x
     unfolding areaOf withArea
-    area-with = part-spliced (areaStart j) 20480 w area-room x long
+    area-with = part-spliced (areaStart j) sumBytes w area-room x long
 
 -- ---- what stays
 
 -- byte n is not one of area j
 abbrev Outside : ℕ → ℕ → Type 0
-Outside j n = (n < areaStart j) ⊎ (areaStart j + 20480 ≤ n)
+Outside j n = (n < areaStart j) ⊎ (areaStart j + sumBytes ≤ n)
 
 -- w′ is a work area that has the bytes of w outside areas i and j
 pub record Within (i j : ℕ) (w w′ : Bytes) : Type 0 where
-  pub size : length w′ ≡ 65536
+  pub size : length w′ ≡ workBytes
   pub outside : (n : ℕ) → Outside i n → Outside j n → getD w′ n 0 ≡ getD w n 0
 
 before-or-not : (n m : ℕ) → (n < m) ⊎ (m ≤ n)
@@ -120,9 +121,9 @@ before-or-not n zero = inr (omega arith)
 before-or-not zero (suc m) = inl (omega arith)
 before-or-not (suc n) (suc m) = ⊎-elim (λ h. inl (omega arith)) (λ h. inr (omega arith)) (before-or-not n m)
 
-area-byte : (j : ℕ) (w : Bytes) (m : ℕ) → m < 20480 → getD (areaOf j w) m 0 ≡ getD w (areaStart j + m) 0
+area-byte : (j : ℕ) (w : Bytes) (m : ℕ) → m < sumBytes → getD (areaOf j w) m 0 ≡ getD w (areaStart j + m) 0
 unfolding areaOf
-area-byte j w m h = getD-take 20480 (drop (areaStart j) w) m 0 h ∙ getD-drop (areaStart j) w m 0
+area-byte j w m h = getD-take sumBytes (drop (areaStart j) w) m 0 h ∙ getD-drop (areaStart j) w m 0
 
 -- a byte is one of area j, which is the same, or it lies outside
 by-area :
@@ -135,15 +136,15 @@ by-area j n w v same other =
     (λ within.
     let m : ℕ = n - areaStart j in
     let here : areaStart j + m ≡ n = omega arith in
-    let inside : m < 20480 = omega arith in
+    let inside : m < sumBytes = omega arith in
     ap (λ z. getD w z 0) (sym here) ∙ sym (area-byte j w m inside) ∙ ap (λ z. getD z m 0) same
     ∙ area-byte j v m inside ∙ ap (λ z. getD v z 0) here)
     (λ behind. other (inr behind))
-    (before-or-not n (areaStart j + 20480)))
+    (before-or-not n (areaStart j + sumBytes)))
     (before-or-not n (areaStart j))
 
 -- the bytes of area k are outside area j
-apart-outside : {j k : ℕ} → k ≢ j → (m : ℕ) → m < 20480 → Outside j (areaStart k + m)
+apart-outside : {j k : ℕ} → k ≢ j → (m : ℕ) → m < sumBytes → Outside j (areaStart k + m)
 apart-outside {j} {k} apart m inside =
     ⊎-elim (λ before. inl (omega arith))
     (λ from. ⊎-elim (λ behind. inr (omega arith)) (λ upto. absurd (apart (omega arith))) (before-or-not j k))
@@ -151,18 +152,18 @@ apart-outside {j} {k} apart m inside =
 
 -- given bytes
 pub within-with :
-    {j : ℕ} {w : Bytes} → Area j w → (x : Bytes) → length x ≡ 20480 → {i : ℕ} → Within j i w (withArea j x w)
+    {j : ℕ} {w : Bytes} → Area j w → (x : Bytes) → length x ≡ sumBytes → {i : ℕ} → Within j i w (withArea j x w)
 unfolding withArea
 within-with {j} {w} a x long =
     record {
       size = with-length a x long;
       outside =
           λ n apart _.
-          ⊎-elim (before-spliced (areaStart j) 20480 w (area-room a) x long n)
-          (behind-spliced (areaStart j) 20480 w (area-room a) x long n) apart;
+          ⊎-elim (before-spliced (areaStart j) sumBytes w (area-room a) x long n)
+          (behind-spliced (areaStart j) sumBytes w (area-room a) x long n) apart;
     }
 
-pub within-none : {i j : ℕ} {w : Bytes} → length w ≡ 65536 → Within i j w w
+pub within-none : {i j : ℕ} {w : Bytes} → length w ≡ workBytes → Within i j w w
 within-none size = record { size = size; outside = λ _ _ _. refl }
 
 module _ {i j : ℕ} {w w′ : Bytes} (p : Within i j w w′) where
@@ -181,7 +182,9 @@ module _ {i j : ℕ} {w w′ : Bytes} (p : Within i j w w′) where
   within-sorts s =
       record {
         laid = s .laid;
-        held = λ n inside. p .outside n (inl (omega (arith, s .laid))) (inl (omega (arith, s .laid))) ∙ s .held n inside;
+        held =
+            λ n inside.
+            p .outside n (inl (omega (arith, s .laid))) (inl (omega (arith, s .laid))) ∙ s .held n inside;
       }
 
   -- the two areas tell the rest
@@ -198,7 +201,7 @@ module _ {i j : ℕ} {w w′ : Bytes} (p : Within i j w w′) where
       let now = area-length (record { size = p .size; among = a .among }) in
       ext-getD 0 (areaOf k w′) (areaOf k w) (now ∙ sym long)
       (λ m inside.
-      let early : m < 20480 = omega (arith, now) in
+      let early : m < sumBytes = omega (arith, now) in
       area-byte k w′ m early ∙ p .outside _ (apart-outside first m early) (apart-outside second m early)
       ∙ sym (area-byte k w m early))
 
@@ -206,12 +209,12 @@ module _ {i j : ℕ} {w w′ : Bytes} (p : Within i j w w′) where
 
 module _ {j : ℕ} {w w′ : Bytes} (a : Area j w) (only : OnlyArea j w w′) where
   -- it has the right length, since there are bytes behind it
-  only-long : length (areaOf j w′) ≡ 20480
+  only-long : length (areaOf j w′) ≡ sumBytes
   unfolding areaOf withArea
   only-long =
-      let most = length-take 20480 (drop (areaStart j) w′) in
-      let start = front-length (areaStart j) 20480 w (area-room a) in
-      let all : length w′ ≡ areaStart j + (length (areaOf j w′) + (65536 - areaStart j - 20480)) =
+      let most = length-take sumBytes (drop (areaStart j) w′) in
+      let start = front-length (areaStart j) sumBytes w (area-room a) in
+      let all : length w′ ≡ areaStart j + (length (areaOf j w′) + (workBytes - areaStart j - sumBytes)) =
       ap length only ∙ simp (length-append, length-drop) (omega (arith, start, a .size)) in
       omega (arith, most, all, length-drop (areaStart j) w′, a .among)
 
@@ -239,14 +242,14 @@ only-then {j} {w} {w′} a p q =
 -- before a step every area is empty
 pub ready-area : {b w : Bytes} → Ready b w → (j : ℕ) → j < 3 → areaOf j w ≡ stored slots []
 unfolding areaOf maps.stored
-ready-area {w = w} r j among = part-zeros 2048 (20480 * j) 20480 63488 w (r .zeros) (omega arith)
+ready-area {w = w} r j among = part-zeros stepAt (sumBytes * j) sumBytes (workBytes - stepAt) w (r .zeros) (omega arith)
 
 -- ---- an area that is lent as the part between its two ends
 
 abbrev lentSize : ℕ → ℕ
-lentSize j = areaStart j + 20480 - areaStart j
+lentSize j = areaStart j + sumBytes - areaStart j
 
-lent-size : (j : ℕ) → lentSize j ≡ 20480
+lent-size : (j : ℕ) → lentSize j ≡ sumBytes
 lent-size j = omega arith
 
 pub lent-is : (j : ℕ) (w : Bytes) → part (areaStart j) (lentSize j) w ≡ areaOf j w
@@ -266,5 +269,5 @@ pub record Back (j : ℕ) (w y : Bytes) : Type 0 where
 pub lent-back :
     {j : ℕ} {w : Bytes} → Area j w → (y : Bytes) → length y ≡ length (part (areaStart j) (lentSize j) w) → Back j w y
 lent-back {j} {w} a y kept =
-    let long : length y ≡ 20480 = kept ∙ ap length (lent-is j w) ∙ area-length a in
+    let long : length y ≡ sumBytes = kept ∙ ap length (lent-is j w) ∙ area-length a in
     record { was = lent-is j w; put = lent-put j w y; is = area-with a y long }

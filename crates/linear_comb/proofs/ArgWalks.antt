@@ -18,11 +18,11 @@ use Rattle.rules.specs.Refusal.Outcome.{ok, refused}
 use Rattle.rules.specs.Limits.{Limits, limited}
 use Rattle.rules.specs.IndexMap.{Walked, walked}
 use Rattle.linear_comb.specs.LinearComb.{addTerm}
-use Rattle.linear_comb.specs.WorkArea.{Sum, combOf, KeptSum}
-use Rattle.rules.specs.Entries.{entriesOf}
-use Rattle.linear_comb.specs.LinearNodes.{WalkPre, ArgsPre, Noted, Fills, addEach}
-use Rattle.linear_comb.specs.declared.linear_comb.Walk.{Walk}
-use Rattle.linear_comb.specs.declared.linear_comb.Walk.the-variants.{Done, Refused}
+use Rattle.linear_comb.specs.memory.WorkArea.{Sum, combOf, KeptSum}
+use Rattle.rules.specs.memory.Entries.{entriesOf}
+use Rattle.linear_comb.specs.memory.LinearNodes.{WalkPre, ArgsPre, Noted, Fills, addEach}
+use Rattle.linear_comb.specs.declared.linear_walk.Walk.{Walk}
+use Rattle.linear_comb.specs.declared.linear_walk.Walk.the-variants.{Done, Refused}
 use Rattle.rules.proofs.ArgumentsLeft.{left-none, left-next, next-below}
 use Rattle.rules.proofs.Results.{refuses-as}
 use Rattle.linear_comb.proofs.NodeWalks.{args-each}

@@ -23,8 +23,8 @@ use Rattle.numbers.proofs.Divisors.{gcd-zero, gcd-dvd-right}
 use Rattle.numbers.proofs.Machine.{R, eqb-ofZ}
 use Rattle.rules.specs.IndexMap.{Map}
 use Rattle.linear_comb.specs.LinearComb.{gcdFrom, coefficientsGcd}
-use Rattle.linear_comb.specs.WorkArea.{Sum, combOf}
-use Rattle.rules.specs.Entries.{entriesOf, Kept}
+use Rattle.linear_comb.specs.memory.WorkArea.{Sum, combOf}
+use Rattle.rules.specs.memory.Entries.{entriesOf, Kept}
 use Rattle.linear_comb.proofs.EntryPlaces.{kept-at, all-behind}
 use Rattle.rules.proofs.CheckedNumbers.{whole-proper, small-back, small-fits}
 

@@ -12,7 +12,7 @@ use Rattle.rules.specs.Refusal.{Result, _>>=_}
 use Rattle.rules.specs.Refusal.Outcome.{ok, refused}
 use Rattle.rules.specs.Limits.{limited}
 use Rattle.rules.specs.IndexMap.{Map, negAll, scaleAll}
-use Rattle.rules.specs.Entries.{Held, Inserts}
+use Rattle.rules.specs.memory.Entries.{Held, Inserts}
 use Rattle.rules.specs.declared.index_map.Inserted.the-variants.{Length, OutOfRange}
 use Rattle.linear_comb.proofs.EntryLoops.{Over}
 use Rattle.rules.proofs.CheckedNumbers.{times-value, times-out}

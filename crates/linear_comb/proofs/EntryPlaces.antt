@@ -12,8 +12,8 @@ use Rattle.numbers.specs.Bytes.{Bytes, le, numberAt}
 use Rattle.terms.specs.Term.{Term, recordNumber}
 use Rattle.terms.specs.Book.{count, tree}
 use Rattle.rules.specs.IndexMap.{Map}
-use Rattle.rules.specs.Entries.{entriesOf, Entry, Held, Kept}
-use Rattle.rules.specs.Parts.{blank}
+use Rattle.rules.specs.memory.Entries.{entriesOf, Entry, Held, Kept}
+use Rattle.rules.specs.memory.Parts.{blank}
 use Rattle.rules.proofs.MapKeys.{taken-out}
 use Rattle.rules.proofs.StoredEntries.{kept-entries, read-key, read-value}
 

@@ -1,4 +1,4 @@
--- numbers, entries and maps in bytes
+-- records that are noted
 pub mod NotedAtoms
 -- the areas of the work area
 pub mod Areas

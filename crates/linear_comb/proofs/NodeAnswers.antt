@@ -30,10 +30,10 @@ use Rattle.terms.proofs.Findings.{tag}
 use Rattle.linear_comb.specs.LinearComb.{armOf}
 use Rattle.rules.specs.Shapes.{size}
 use Rattle.linear_comb.specs.LinearComb.Arm.{leaf}
-use Rattle.linear_comb.specs.LinearNodes.{NodeIs, NodeProper, constantNode, readNode, leafNode, scaledNode}
-use Rattle.linear_comb.specs.LinearNodes.{factorNode, factorsNode, productNode, operationNode, nodeOf}
-use Rattle.linear_comb.specs.declared.linear_comb.Node.{Node}
-use Rattle.linear_comb.specs.declared.linear_comb.Node.the-variants as node
+use Rattle.linear_comb.specs.memory.LinearNodes.{NodeIs, NodeProper, constantNode, readNode, leafNode, scaledNode}
+use Rattle.linear_comb.specs.memory.LinearNodes.{factorNode, factorsNode, productNode, operationNode, nodeOf}
+use Rattle.linear_comb.specs.declared.linear_walk.Node.{Node}
+use Rattle.linear_comb.specs.declared.linear_walk.Node.the-variants as node
 use Rattle.rules.proofs.ArgumentsLeft.{by-operator}
 
 node-is : {r d : Node} → NodeProper r → r ≡ d → NodeIs r d
@@ -53,19 +53,27 @@ module _ (q coeff : Rational) {a : Checked} (g : Gives a (checked (mulQ q coeff)
   unfolding factorNode
   scaled-outside x e = node-is tt (ap (scaledNode x) (sym e ∙ g .is))
 
--- ---- leaf
+-- ---- a number, and a leaf that is read as one
 
--- the term is read as q, a is what the code finds for its product with the coefficient
-module _
-    (coeff : Rational) {r : Reading} {q : Rational} {a : Checked} (r-is : r ≡ Value q)
-    (g : Gives a (checked (mulQ q coeff))) where
-  pub constant : {c : Rational} → a ≡ checked.Value c → NodeIs (node.Constant c) (readNode coeff r)
-  constant e = node-is (g .proper _ e) (rw r-is (ap constantNode (sym e ∙ g .is)))
+module _ (q coeff : Rational) {a : Checked} (g : Gives a (checked (mulQ q coeff))) where
+  pub constant : {c : Rational} → a ≡ checked.Value c → NodeIs (node.Constant c) (constantNode (checked (mulQ q coeff)))
+  constant e = node-is (g .proper _ e) (ap constantNode (sym e ∙ g .is))
 
-  pub constant-outside : a ≡ checked.OutOfRange → NodeIs node.OutOfRange (readNode coeff r)
-  constant-outside e = node-is tt (rw r-is (ap constantNode (sym e ∙ g .is)))
+  pub constant-outside : a ≡ checked.OutOfRange → NodeIs node.OutOfRange (constantNode (checked (mulQ q coeff)))
+  constant-outside e = node-is tt (ap constantNode (sym e ∙ g .is))
+
+pub read-constant :
+    (coeff : Rational) {r : Reading} {q : Rational} {n : Node} → r ≡ Value q →
+    NodeIs n (constantNode (checked (mulQ q coeff))) → NodeIs n (readNode coeff r)
+read-constant coeff e n = node-of n (sym (rw e))
 
 -- ---- product
+
+-- a reading that is neither out of range nor a number
+not-number : (r : Reading) → (tag r ≡ 0) ⊎ (tag r ≡ 1) → (tag r ≡ 1) ⊎ (tag r ≡ 2) → r ≡ NotNumber
+not-number (Value q) h k = absurd (⊎-elim (λ e. omega arith) (λ e. omega arith) k)
+not-number NotNumber h k = refl
+not-number OutOfRange h k = absurd (⊎-elim (λ e. omega arith) (λ e. omega arith) h)
 
 module _ (b : Bytes) (x y : ℕ) (coeff : Rational) {p q : Reading}
     (first : Finds p (asFraction ranged (tree b x))) (second : Finds q (asFraction ranged (tree b y))) where
@@ -95,14 +103,20 @@ module _ (b : Bytes) (x y : ℕ) (coeff : Rational) {p q : Reading}
       go NotNumber h = refl
       go OutOfRange h = absurd (⊎-elim (λ e. omega arith) (λ e. omega arith) h)
 
-  module _ (p-is : p ≡ NotNumber) where
+  -- the first is neither out of range nor a number
+  module _ (inside : (tag p ≡ 0) ⊎ (tag p ≡ 1)) (none-first : (tag p ≡ 1) ⊎ (tag p ≡ 2)) where
+    p-is : p ≡ NotNumber
+    p-is = not-number p inside none-first
+
     pub second-number :
         {v : Rational} {r : Node} → q ≡ Value v → NodeIs r (factorNode x v coeff) →
         NodeIs r (productNode (tree b x) (tree b y) coeff)
     second-number e n = node-of n (sym (rw (p-is, e)) ∙ read-node)
 
-    pub no-number : q ≡ NotNumber → NodeIs node.Atom (productNode (tree b x) (tree b y) coeff)
-    no-number e = node-is tt (sym (rw (p-is, e)) ∙ read-node)
+    pub no-number :
+        (tag q ≡ 0) ⊎ (tag q ≡ 1) → (tag q ≡ 1) ⊎ (tag q ≡ 2) →
+        NodeIs node.Atom (productNode (tree b x) (tree b y) coeff)
+    no-number h k = node-is tt (sym (rw (p-is, not-number q h k)) ∙ read-node)
 
 module _ (t : Term) (coeff : Rational) where
   at-operator : (o : ℕ) → operatorOf t ≡ suc o → nodeOf t coeff ≡ operationNode t (suc o) (argumentsOf t) coeff

@@ -30,15 +30,16 @@ use Rattle.rules.specs.Limits.{Limits, limited, numberOr, times, fractionOf}
 use Rattle.rules.specs.IndexMap.{Walked, visit, addEntry, addConstant}
 use Rattle.linear_comb.specs.LinearComb.{Arm, armOf, chosen, factorsOf, addLeaf, addTerm, addArgs, addDifference}
 use Rattle.linear_comb.specs.LinearComb.{addFirst, addSecond}
-use Rattle.rules.specs.Entries.{terms}
+use Rattle.rules.specs.memory.Entries.{terms}
 use Rattle.rules.specs.Shapes.{size}
 use Rattle.linear_comb.specs.LinearComb.Arm.{sum, negation, difference, product, leaf}
 use Rattle.linear_comb.specs.LinearComb.Factors.{firstIs, secondIs, neitherIs}
-use Rattle.linear_comb.specs.LinearNodes.{constantNode, readNode, leafNode, scaledNode, factorNode, factorsNode}
-use Rattle.linear_comb.specs.LinearNodes.{productNode, operationNode, nodeOf, addEach}
+use Rattle.linear_comb.specs.memory.LinearNodes.{constantNode, readNode, leafNode, scaledNode}
+use Rattle.linear_comb.specs.memory.LinearNodes.{factorNode, factorsNode}
+use Rattle.linear_comb.specs.memory.LinearNodes.{productNode, operationNode, nodeOf, addEach}
 use Rattle.rules.proofs.Results.{bind-same}
-use Rattle.linear_comb.specs.declared.linear_comb.Node.{Node}
-use Rattle.linear_comb.specs.declared.linear_comb.Node.the-variants as node
+use Rattle.linear_comb.specs.declared.linear_walk.Node.{Node}
+use Rattle.linear_comb.specs.declared.linear_walk.Node.the-variants as node
 use Rattle.rules.proofs.ArgumentsBelow.{Below, Own, arguments-below, forest-own}
 use Rattle.rules.proofs.CheckedNumbers.{on-product}
 

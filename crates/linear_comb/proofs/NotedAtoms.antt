@@ -1,8 +1,9 @@
 -- Records that are noted, and maps of terms whose keys all are: a record that is not noted is no key, and an insertion
 -- of a term that is noted leaves them so.
 --     one-bit       a bit of 64 that is made by a shift
---     note-here, note-keeps       a note is there, with all that were there before
---     noted-keeps, noted-long, noted-absent       a note more; how many bits there are; a record that is not noted
+--     note-here, note-keeps, noted-keeps       a note is there, with all that were there before
+--     noting-known, noting-other, noting-here, noting-keeps       the same where one that is noted is left as it is
+--     noted-absent       a record that is not noted is no key
 --     constant-noted, entry-noted       the sums that a number or a term is added to
 use mathlib.Core.Path.{_≡_, refl, ap, _∙_}
 use mathlib.Core.Logic.{_≢_}
@@ -20,8 +21,10 @@ use lib.Pow.{pow-pos, pow-lt}
 use lib.Seq.{getD-set-same, getD-set-other}
 use Rattle.numbers.specs.Rational.{Rational, isZero}
 use Rattle.numbers.specs.Bytes.{Bytes}
+use Rattle.numbers.specs.Choice.{if_then_else_}
 use Rattle.terms.specs.Term.{Term, recordNumber, same}
 use Rattle.terms.specs.Book.{tree}
+use Rattle.terms.specs.Format.{maxRecords}
 use Rattle.terms.specs.Readers.{unbounded, within}
 use Rattle.numbers.proofs.Truths.{if-either}
 use Rattle.terms.proofs.BookTerms.{recordNumber-tree}
@@ -29,8 +32,8 @@ use Rattle.rules.specs.Refusal.{assert}
 use Rattle.rules.specs.Refusal.Refusal.{polynomialSize}
 use Rattle.rules.specs.Limits.{Limits, plus}
 use Rattle.rules.specs.IndexMap.{Map, Walked, swapRemove, enter, insert, addEntry, addConstant}
-use Rattle.rules.specs.Entries.{terms, absent}
-use Rattle.linear_comb.specs.LinearNodes.{isNoted, withNote, Noted}
+use Rattle.rules.specs.memory.Entries.{terms, absent}
+use Rattle.linear_comb.specs.memory.LinearNodes.{wordBits, noteWords, isNoted, withNote, noting, KeysNoted, Noted}
 use Rattle.rules.proofs.Yields.{Yields, and-then, past, by-test}
 use Rattle.rules.proofs.Yields.Yields.{gives}
 use Rattle.rules.proofs.MapEnds.{Ends, nothing, last, ends, swapRemove-last}
@@ -69,95 +72,116 @@ own-bit k = rw (div-self (pow-pos k))
 
 -- the bit of record y
 abbrev bitAt : List ℕ → ℕ → ℕ
-bitAt ns y = getD ns (y / 64) 0 / 2 ^ (y % 64) % 2
+bitAt ns y = getD ns (y / wordBits) 0 / 2 ^ (y % wordBits) % 2
 
-module _ (ns : List ℕ) (long : length ns ≡ 32) (x : ℕ) (small : x < 2048) where
-  note-long : length (withNote ns x) ≡ 32
+module _ (ns : List ℕ) (long : length ns ≡ noteWords) (x : ℕ) (small : x < maxRecords) where
+  note-long : length (withNote ns x) ≡ noteWords
   unfolding withNote
-  note-long = length-set ns (x / 64) _ ∙ long
+  note-long = length-set ns (x / wordBits) _ ∙ long
 
-  note-word : getD (withNote ns x) (x / 64) 0 ≡ bitOr (getD ns (x / 64) 0) (2 ^ (x % 64))
+  note-word : getD (withNote ns x) (x / wordBits) 0 ≡ bitOr (getD ns (x / wordBits) 0) (2 ^ (x % wordBits))
   unfolding withNote
-  note-word = getD-set-same ns (x / 64) _ 0 (omega (arith, long, small))
+  note-word = getD-set-same ns (x / wordBits) _ 0 (omega (arith, long, small))
 
   pub note-here : isNoted (withNote ns x) x ≡ true
   unfolding isNoted
   note-here =
       eq-eqb (bitAt (withNote ns x) x) 1
-      (rw note-word (or-right (getD ns (x / 64) 0) (2 ^ (x % 64)) (x % 64) (own-bit (x % 64))))
+      (rw note-word (or-right (getD ns (x / wordBits) 0) (2 ^ (x % wordBits)) (x % wordBits) (own-bit (x % wordBits))))
 
   -- in the same number, and in another
-  keeps-same : (y : ℕ) → y / 64 ≡ x / 64 → isNoted ns y ≡ true → isNoted (withNote ns x) y ≡ true
+  keeps-same : (y : ℕ) → y / wordBits ≡ x / wordBits → isNoted ns y ≡ true → isNoted (withNote ns x) y ≡ true
   unfolding isNoted
   keeps-same y e h =
-      let was : getD ns (x / 64) 0 / 2 ^ (y % 64) % 2 ≡ 1 = rw e at (eqb-true (bitAt ns y) 1 h) in
+      let was : getD ns (x / wordBits) 0 / 2 ^ (y % wordBits) % 2 ≡ 1 = rw e at (eqb-true (bitAt ns y) 1 h) in
       eq-eqb (bitAt (withNote ns x) y) 1
-      (rw (e, note-word) (or-left (getD ns (x / 64) 0) (2 ^ (x % 64)) (y % 64) was))
+      (rw (e, note-word) (or-left (getD ns (x / wordBits) 0) (2 ^ (x % wordBits)) (y % wordBits) was))
 
-  keeps-other : (y : ℕ) → y / 64 ≢ x / 64 → isNoted ns y ≡ true → isNoted (withNote ns x) y ≡ true
+  keeps-other : (y : ℕ) → y / wordBits ≢ x / wordBits → isNoted ns y ≡ true → isNoted (withNote ns x) y ≡ true
   unfolding isNoted withNote
-  keeps-other y apart h = rw (getD-set-other ns (x / 64) (y / 64) _ 0 apart) h
+  keeps-other y apart h = rw (getD-set-other ns (x / wordBits) (y / wordBits) _ 0 apart) h
 
   pub note-keeps : (y : ℕ) → isNoted ns y ≡ true → isNoted (withNote ns x) y ≡ true
-  note-keeps y h = go (eqb (y / 64) (x / 64)) refl
+  note-keeps y h = go (eqb (y / wordBits) (x / wordBits)) refl
     where
-      go : (t : Bool) → eqb (y / 64) (x / 64) ≡ t → isNoted (withNote ns x) y ≡ true
-      go true e = keeps-same y (eqb-true (y / 64) (x / 64) e) h
-      go false e = keeps-other y (eqb-false (y / 64) (x / 64) e) h
+      go : (t : Bool) → eqb (y / wordBits) (x / wordBits) ≡ t → isNoted (withNote ns x) y ≡ true
+      go true e = keeps-same y (eqb-true (y / wordBits) (x / wordBits) e) h
+      go false e = keeps-other y (eqb-false (y / wordBits) (x / wordBits) e) h
+
+  keys-keep : (m : Map Term) → KeysNoted ns m → KeysNoted (withNote ns x) m
+  unfolding KeysNoted
+  keys-keep [] noted = tt
+  keys-keep (e ∷ m) noted = (note-keeps (keyOf e) (noted .0), keys-keep m (noted .1))
 
   pub noted-keeps : (m : Map Term) → Noted ns m → Noted (withNote ns x) m
-  unfolding Noted
-  noted-keeps [] noted = note-long
-  noted-keeps (e ∷ m) noted = (note-keeps (keyOf e) (noted .0), noted-keeps m (noted .1))
+  noted-keeps m noted = record { size = note-long; keys = keys-keep m (noted .keys) }
+
+-- ---- a record is noted where it is not
+
+module _ (ns : List ℕ) (x : ℕ) where
+  pub noting-known : isNoted ns x ≡ true → noting ns x ≡ ns
+  unfolding noting if_then_else_
+  noting-known known = rw (noting, known)
+
+  pub noting-other : isNoted ns x ≡ false → noting ns x ≡ withNote ns x
+  unfolding noting if_then_else_
+  noting-other other = rw (noting, other)
+
+module _ (ns : List ℕ) (long : length ns ≡ noteWords) (x : ℕ) (small : x < maxRecords) where
+  pub noting-here : isNoted (noting ns x) x ≡ true
+  unfolding noting
+  noting-here =
+      if-either (λ r. isNoted r x ≡ true) (isNoted ns x) (λ known. known) (λ new. note-here ns long x small)
+
+  pub noting-keeps : (m : Map Term) → Noted ns m → Noted (noting ns x) m
+  unfolding noting
+  noting-keeps m noted =
+      if-either (λ r. Noted r m) (isNoted ns x) (λ known. noted)
+      (λ new. noted-keeps ns long x small m noted)
 
 -- ---- keys that are noted
 
 module _ (ns : List ℕ) where
-  pub noted-long : (m : Map Term) → Noted ns m → length ns ≡ 32
-  unfolding Noted
-  noted-long [] noted = noted
-  noted-long (e ∷ m) noted = noted-long m (noted .1)
-
   other-key : (x y : ℕ) → isNoted ns x ≡ false → isNoted ns y ≡ true → y ≢ x
   other-key x y new noted e =
       let was : isNoted ns x ≡ true = rw e at noted in
       let z : _≡_ {A = ℕ} 0 1 = cc in
       absurd (omega arith)
 
-  pub noted-absent : (x : ℕ) → isNoted ns x ≡ false → (m : Map Term) → Noted ns m → absent x m ≡ true
-  unfolding Noted absent
+  pub noted-absent : (x : ℕ) → isNoted ns x ≡ false → (m : Map Term) → KeysNoted ns m → absent x m ≡ true
+  unfolding KeysNoted absent
   noted-absent x new [] noted = refl
   noted-absent x new (e ∷ m) noted =
       rw (ne-eqb (keyOf e) x (other-key x (keyOf e) new (noted .0)), noted-absent x new m (noted .1))
 
-  noted-last : (s : Map Term) (g : Term × Rational) → Noted ns (s ++ g ∷ []) → Noted ns (g ∷ s)
-  unfolding Noted
+  noted-last : (s : Map Term) (g : Term × Rational) → KeysNoted ns (s ++ g ∷ []) → KeysNoted ns (g ∷ s)
+  unfolding KeysNoted
   noted-last [] g noted = noted
   noted-last (e ∷ s) g noted = let rest = noted-last s g (noted .1) in (rest .0, (noted .0, rest .1))
 
-  noted-ends : {m : Map Term} → Ends m → Noted ns m → Noted ns (swapRemove m)
+  noted-ends : {m : Map Term} → Ends m → KeysNoted ns m → KeysNoted ns (swapRemove m)
   unfolding swapRemove
   noted-ends nothing noted = noted
   noted-ends (last s g) noted = rw (swapRemove-last s g) (noted-last s g noted)
 
   module _ (l : Limits) (t : Term) (value : Rational) (key : isNoted ns (recordNumber t) ≡ true) where
-    enter-noted : (n : ℕ) (m : Map Term) → Noted ns m → Yields (Noted ns) (enter terms l n m t value)
-    unfolding enter Noted
+    enter-noted : (n : ℕ) (m : Map Term) → KeysNoted ns m → Yields (KeysNoted ns) (enter terms l n m t value)
+    unfolding enter KeysNoted
     enter-noted n [] noted = past (assert (within unbounded (suc n)) polynomialSize) λ u. gives (key, noted)
     enter-noted n (e ∷ m) noted =
         by-test (same (e .0) t) _ _
         (λ s. past (plus l (e .1) value) λ q.
-        gives (if-either (Noted ns) (isZero q) (λ z. noted-ends (ends m) (noted .1)) (λ z. noted)))
+        gives (if-either (KeysNoted ns) (isZero q) (λ z. noted-ends (ends m) (noted .1)) (λ z. noted)))
         (λ s. and-then (enter-noted (suc n) m (noted .1)) λ r g. gives (noted .0, g))
 
-    insert-noted : (m : Map Term) → Noted ns m → Yields (Noted ns) (insert terms l m t value)
+    insert-noted : (m : Map Term) → KeysNoted ns m → Yields (KeysNoted ns) (insert terms l m t value)
     unfolding insert
     insert-noted m noted = by-test (isZero value) _ _ (λ z. gives noted) (λ z. enter-noted 0 m noted)
 
   -- ---- a sum whose atoms are noted
 
   abbrev pub NotedSum : Walked Term → Type 0
-  NotedSum w = Noted ns (w .sum .entries)
+  NotedSum w = KeysNoted ns (w .sum .entries)
 
   module _ (l : Limits) (w : Walked Term) (noted : NotedSum w) where
     pub constant-noted : (q : Rational) → Yields NotedSum (addConstant l q w)

@@ -17,11 +17,11 @@ use Rattle.rules.specs.Refusal.Refusal.{visitLimit, numberRange}
 use Rattle.rules.specs.Limits.{limited}
 use Rattle.rules.specs.IndexMap.{walked, visit}
 use Rattle.linear_comb.specs.LinearComb.{LinearComb, addTerm}
-use Rattle.rules.specs.Parts.{Laid}
-use Rattle.linear_comb.specs.LinearNodes.{NodeIs, PlaceIs, nodeOf}
-use Rattle.linear_comb.specs.declared.linear_comb.Node.{Node}
-use Rattle.linear_comb.specs.declared.linear_comb.Node.the-variants as node
-use Rattle.linear_comb.specs.declared.linear_comb.Place.the-variants.{Args, Constant, Atom, Refused}
+use Rattle.rules.specs.memory.Parts.{Laid}
+use Rattle.linear_comb.specs.memory.LinearNodes.{NodeIs, PlaceIs, nodeOf}
+use Rattle.linear_comb.specs.declared.linear_walk.Node.{Node}
+use Rattle.linear_comb.specs.declared.linear_walk.Node.the-variants as node
+use Rattle.linear_comb.specs.declared.linear_walk.Place.the-variants.{Args, Constant, Atom, Refused}
 use Rattle.rules.proofs.Results.{refuses}
 use Rattle.linear_comb.proofs.NodeWalks.{act, walk-node, factor-below}
 

@@ -15,10 +15,10 @@ use Rattle.rules.specs.Refusal.{_>>=_}
 use Rattle.rules.specs.Limits.{Limits, limited, times}
 use Rattle.rules.specs.IndexMap.{Map, scaleAll}
 use Rattle.linear_comb.specs.LinearComb.{mul}
-use Rattle.linear_comb.specs.WorkArea.{Sum, combOf, KeptSum, Sums}
-use Rattle.rules.specs.Entries.{entriesOf, blanked, Kept, Inserts}
+use Rattle.linear_comb.specs.memory.WorkArea.{Sum, combOf, KeptSum, Combines}
+use Rattle.rules.specs.memory.Entries.{entriesOf, blanked, Kept, Inserts}
 use Rattle.rules.specs.declared.index_map.Inserted.the-variants.{Length, OutOfRange}
-use Rattle.linear_comb.specs.declared.linear_comb.Summed.the-variants as summed
+use Rattle.linear_comb.specs.declared.linear_comb.Combined.the-variants as combined
 use Rattle.rules.proofs.CheckedNumbers.{times-value, times-out, whole-proper}
 use Rattle.rules.proofs.StoredEntries.{kept-entries, clear-all}
 use Rattle.linear_comb.proofs.AreaSteps.{kept-cleared}
@@ -38,7 +38,7 @@ kept-length kept = rw (kept-entries kept, kept .size)
 module _ {b w : Bytes} {s : Sum} (kept : KeptSum b w s) (q : Rational) (l : ℕ) where
   pub times-zero :
       {w′ : Bytes} {z : Rational} → isZero q ≡ true → w′ ≡ blanked (s .len) w → z ≡ whole (pos 0) →
-      Sums b w′ (summed.Sum (record { len = 0; constant = z })) (mul (limited l) (combOf b w s) q)
+      Combines b w′ (combined.Is (record { len = 0; constant = z })) (mul (limited l) (combOf b w s) q)
   unfolding mul
   times-zero zero clear z-is =
       record {
@@ -48,7 +48,7 @@ module _ {b w : Bytes} {s : Sum} (kept : KeptSum b w s) (q : Rational) (l : ℕ)
       }
 
   module _ (nonzero : isZero q ≡ false) where
-    pub times-one : eqQ q (whole (pos 1)) ≡ true → Sums b w (summed.Sum s) (mul (limited l) (combOf b w s) q)
+    pub times-one : eqQ q (whole (pos 1)) ≡ true → Combines b w (combined.Is s) (mul (limited l) (combOf b w s) q)
     unfolding mul
     times-one one =
         record {
@@ -60,7 +60,7 @@ module _ {b w : Bytes} {s : Sum} (kept : KeptSum b w s) (q : Rational) (l : ℕ)
     module _ (other : eqQ q (whole (pos 1)) ≡ false) {w′ : Bytes} where
       pub entry-out :
           Inserts b w′ OutOfRange (scaleAll (limited l) q (entriesOf b w (s .len))) →
-          Sums b w′ summed.OutOfRange (mul (limited l) (combOf b w s) q)
+          Combines b w′ combined.OutOfRange (mul (limited l) (combOf b w s) q)
       unfolding mul _>>=_
       entry-out out =
           record { map = out .map; held = out .held; is = (rw (nonzero, other, mul, out .is .0), out .is .1) }
@@ -72,7 +72,7 @@ module _ {b w : Bytes} {s : Sum} (kept : KeptSum b w s) (q : Rational) (l : ℕ)
 
         pub constant-out :
             {w″ : Bytes} → checked (mulQ (s .constant) q) ≡ answer.OutOfRange → w″ ≡ blanked (s .len) w′ →
-            Sums b w″ summed.OutOfRange (mul (limited l) (combOf b w s) q)
+            Combines b w″ combined.OutOfRange (mul (limited l) (combOf b w s) q)
         unfolding mul _>>=_
         constant-out out clear =
             record {
@@ -83,7 +83,7 @@ module _ {b w : Bytes} {s : Sum} (kept : KeptSum b w s) (q : Rational) (l : ℕ)
 
         pub scaled :
             {c : Rational} → checked (mulQ (s .constant) q) ≡ answer.Value c → Proper c →
-            Sums b w′ (summed.Sum (record { len = s .len; constant = c })) (mul (limited l) (combOf b w s) q)
+            Combines b w′ (combined.Is (record { len = s .len; constant = c })) (mul (limited l) (combOf b w s) q)
         unfolding mul _>>=_
         scaled {c} is proper =
             record {

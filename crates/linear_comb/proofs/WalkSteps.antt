@@ -3,11 +3,10 @@
 --     cleared, done, done-kept, done-is       a refusal; a step without one leaves the sum in the bytes
 --     filled-at, filled-noted, filled-walks       the same where all atoms are noted
 --     constant-out, constant-added, entry-out, entry-added       the leaves
---     sum-small, constant-pre, insert-pre, entry-pre, args-lower, args-pre       what the steps at a place ask
---     atom-inside, atom-small, atom-new       an atom, and one that is not noted
---     at-refusal, at-constant, at-known, at-note, at-args       the walk of a term is what is done at its place
+--     sum-small, constant-pre, atom-inside, enter-pre, args-lower, args-pre       what the steps at a place ask
+--     at-refusal, at-constant, at-note, at-atom, at-args       the walk of a term is what is done at its place
 use mathlib.Core.Path.{_≡_, refl, sym, _∙_}
-use mathlib.Core.Bool.{true, false}
+use mathlib.Core.Bool.{true}
 use mathlib.Core.List.{List, []}
 use Prim.Native.Nat.{ℕ, _≤_, _<_}
 use native.Mathlib.Omega.{arith}
@@ -16,6 +15,7 @@ use Rattle.numbers.specs.Rational.{Rational, Proper, Gives, addQ, checked}
 use Rattle.numbers.specs.Bytes.{Bytes}
 use Rattle.terms.specs.Term.{Term}
 use Rattle.terms.specs.Book.{count, tree, forest, numbers, arguments}
+use Rattle.terms.specs.Format.{maxRecords}
 use Rattle.terms.specs.Readers.{argumentsOf}
 use Rattle.numbers.specs.declared.number.Checked.{Checked}
 use Rattle.numbers.specs.declared.number.Checked.the-variants as checked
@@ -25,21 +25,22 @@ use Rattle.rules.specs.Refusal.Refusal.{numberRange}
 use Rattle.rules.specs.Limits.{limited, plus}
 use Rattle.rules.specs.IndexMap.{Walked, walked, insert, addEntry, addConstant}
 use Rattle.linear_comb.specs.LinearComb.{addTerm}
-use Rattle.rules.specs.Entries.{terms, entriesOf, blanked, absent, Inserts}
-use Rattle.linear_comb.specs.WorkArea.{Sum, combOf, KeptSum, Walks}
-use Rattle.rules.specs.Parts.{Refuses}
-use Rattle.linear_comb.specs.LinearNodes.{WalkPre, ArgsPre, PlaceIs, isNoted, withNote, Noted, Fills, addEach}
+use Rattle.rules.specs.memory.Entries.{terms, entriesOf, blanked, Inserts, NewEntry}
+use Rattle.linear_comb.specs.memory.WorkArea.{Sum, combOf, KeptSum, Walks}
+use Rattle.rules.specs.memory.Parts.{Refuses}
+use Rattle.linear_comb.specs.memory.LinearNodes.{WalkPre, ArgsPre, PlaceIs, Fills, addEach}
+use Rattle.linear_comb.specs.memory.LinearNodes.{noteWords, isNoted, withNote, noting, KeysNoted, Noted}
 use Rattle.rules.specs.declared.index_map.Inserted.{Inserted}
 use Rattle.rules.specs.declared.index_map.Inserted.the-variants as inserted
-use Rattle.linear_comb.specs.declared.linear_comb.Walk.{Walk}
-use Rattle.linear_comb.specs.declared.linear_comb.Walk.the-variants.{Done, Refused}
-use Rattle.linear_comb.specs.declared.linear_comb.Place.{Place}
-use Rattle.linear_comb.specs.declared.linear_comb.Place.the-variants as place
+use Rattle.linear_comb.specs.declared.linear_walk.Walk.{Walk}
+use Rattle.linear_comb.specs.declared.linear_walk.Walk.the-variants.{Done, Refused}
+use Rattle.linear_comb.specs.declared.linear_walk.Place.{Place}
+use Rattle.linear_comb.specs.declared.linear_walk.Place.the-variants as place
 use Rattle.rules.proofs.Results.{refuses}
 use Rattle.rules.proofs.CheckedNumbers.{plus-value, plus-out}
 use Rattle.rules.proofs.StoredEntries.{held-entries, kept-entries, kept-small}
 use Rattle.rules.proofs.Yields.{Yields, at-ok}
-use Rattle.linear_comb.proofs.NotedAtoms.{NotedSum, note-here, noted-keeps, noted-long, noted-absent}
+use Rattle.linear_comb.proofs.NotedAtoms.{NotedSum, note-here, noted-keeps, noting-here, noting-keeps}
 use Rattle.linear_comb.proofs.NotedAtoms.{constant-noted, entry-noted}
 use Rattle.linear_comb.proofs.AreaSteps.{kept-cleared, sum-entries, answer-has, answer-kept}
 use Rattle.rules.proofs.ArgumentsBelow.{args-below}
@@ -67,14 +68,24 @@ module _ {b w : Bytes} {s : Sum} {v : ℕ} {d : Result (Walked Term)} (walks : W
 -- ---- the same where all atoms are noted
 
 module _ {b w : Bytes} {ns : List ℕ} {d : Result (Walked Term)} where
-  refused-filled : {c : ℕ} → length ns ≡ 32 → Walks b w (Refused c) d → Fills b w ns (Refused c) d
-  unfolding Noted
+  refused-filled : {c : ℕ} → length ns ≡ noteWords → Walks b w (Refused c) d → Fills b w ns (Refused c) d
+  unfolding KeysNoted
   refused-filled long walks =
-      record { map = walks .map; held = walks .held; is = walks .is; atoms = rw (walks .is .1) long }
+      record {
+        map = walks .map;
+        held = walks .held;
+        is = walks .is;
+        atoms = record { size = long; keys = rw (walks .is .1) tt };
+      }
 
-  filled : {r : Walk} → length ns ≡ 32 → Yields (NotedSum ns) d → Walks b w r d → Fills b w ns r d
+  filled : {r : Walk} → length ns ≡ noteWords → Yields (NotedSum ns) d → Walks b w r d → Fills b w ns r d
   filled {r = Done s v} long noted walks =
-      record { map = walks .map; held = walks .held; is = walks .is; atoms = at-ok noted (walks .is .0) }
+      record {
+        map = walks .map;
+        held = walks .held;
+        is = walks .is;
+        atoms = record { size = long; keys = at-ok noted (walks .is .0) };
+      }
   filled {r = Refused c} long noted walks = refused-filled long walks
 
   module _ {s : Sum} {v : ℕ} where
@@ -143,15 +154,12 @@ module _
   pub sum-small : s .len ≤ 4096
   sum-small = omega (arith, kept-small (pre .sum .kept))
 
-  bits : length ns ≡ 32
-  bits = noted-long ns (entriesOf b w (s .len)) (pre .atoms)
-
   module _ {limit v : ℕ} {r : Place} (leads : PlaceIs b limit id coeff v r) where
     pub at-refusal :
         {c : ℕ} → r ≡ place.Refused c → {w′ : Bytes} → w′ ≡ blanked (s .len) w →
         Fills b w′ ns (Refused c) (addTerm (tree b id) (limited limit) coeff (walked (combOf b w s) v))
     at-refusal e blank =
-        refused-filled bits (cleared (pre .sum) blank (rw e at (leads .is (combOf b w s))))
+        refused-filled (pre .atoms .size) (cleared (pre .sum) blank (rw e at (leads .is (combOf b w s))))
 
     module _ {q : Rational} {seen : ℕ} (e : r ≡ place.Constant q seen) where
       pub constant-pre : (s .len ≤ 4096) × (Proper (s .constant) × Proper q)
@@ -163,23 +171,17 @@ module _
           Fills b w′ ns answer (addTerm (tree b id) (limited limit) coeff (walked (combOf b w s) v))
       at-constant walks =
           rw (rw e at (leads .is (combOf b w s)))
-          (filled bits (constant-noted ns (limited limit) (walked (combOf b w s) seen) (pre .atoms) q) walks)
+          (filled (pre .atoms .size)
+          (constant-noted ns (limited limit) (walked (combOf b w s) seen) (pre .atoms .keys) q) walks)
 
     module _ {x : ℕ} {c : Rational} {seen : ℕ} (e : r ≡ place.Atom x c seen) where
       pub atom-inside : x < count b
       atom-inside = let h = rw e at (leads .proper) in omega (arith, h .0, pre .inside)
 
-      pub atom-small : x < 2048
-      atom-small = omega (arith, atom-inside)
-
-      pub atom-new : isNoted ns x ≡ false → absent x (entriesOf b w (s .len)) ≡ true
-      atom-new new = noted-absent ns x new (entriesOf b w (s .len)) (pre .atoms)
-
-      pub insert-pre : (s .len ≤ 4096) × ((x < 65536) × Proper c)
-      insert-pre = let h = rw e at (leads .proper) in (sum-small, (omega (arith, atom-inside), h .1))
-
-      pub entry-pre : (s .len ≤ 4096) × (Proper (s .constant) × ((x < 65536) × Proper c))
-      entry-pre = (sum-small, (pre .sum .proper, insert-pre .1))
+      pub enter-pre : NewEntry (s .len) x c × (x < maxRecords)
+      enter-pre =
+          let h = rw e at (leads .proper) in
+          ((sum-small, (omega (arith, atom-inside), h .1)), omega (arith, atom-inside))
 
       module _
           {w′ : Bytes} {answer : Walk}
@@ -189,22 +191,29 @@ module _
             Fills b w′ ns′ answer (addTerm (tree b id) (limited limit) coeff (walked (combOf b w s) v))
         at-noted ns′ key noted =
             rw (rw e at (leads .is (combOf b w s)))
-            (filled (noted-long ns′ (entriesOf b w (s .len)) noted)
-            (entry-noted ns′ (limited limit) (walked (combOf b w s) seen) noted b x c key) walks)
+            (filled (noted .size)
+            (entry-noted ns′ (limited limit) (walked (combOf b w s) seen) (noted .keys) b x c key) walks)
 
-        pub at-known :
-            isNoted ns x ≡ true →
-            Fills b w′ ns answer (addTerm (tree b id) (limited limit) coeff (walked (combOf b w s) v))
-        at-known key = at-noted ns key (pre .atoms)
-
-        -- the atom is noted now
+        -- the atom is noted, and noted where it is not
         pub at-note :
             {ns′ : List ℕ} → ns′ ≡ withNote ns x →
             Fills b w′ ns′ answer (addTerm (tree b id) (limited limit) coeff (walked (combOf b w s) v))
         at-note is =
+            let long = pre .atoms .size in
+            let small = enter-pre .1 in
             rw is
-            (at-noted (withNote ns x) (note-here ns bits x atom-small)
-            (noted-keeps ns bits x atom-small (entriesOf b w (s .len)) (pre .atoms)))
+            (at-noted (withNote ns x) (note-here ns long x small)
+            (noted-keeps ns long x small (entriesOf b w (s .len)) (pre .atoms)))
+
+        pub at-atom :
+            {ns′ : List ℕ} → ns′ ≡ noting ns x →
+            Fills b w′ ns′ answer (addTerm (tree b id) (limited limit) coeff (walked (combOf b w s) v))
+        at-atom is =
+            let long = pre .atoms .size in
+            let small = enter-pre .1 in
+            rw is
+            (at-noted (noting ns x) (noting-here ns long x small)
+            (noting-keeps ns long x small (entriesOf b w (s .len)) (pre .atoms)))
 
     module _ {x : ℕ} {p q : Rational} {seen : ℕ} (e : r ≡ place.Args x p q seen) where
       pub args-lower : x ≤ id

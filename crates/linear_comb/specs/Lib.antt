@@ -1,3 +1,2 @@
 pub mod LinearComb
-pub mod WorkArea
-pub mod LinearNodes
+pub mod memory

@@ -1,5 +1,5 @@
--- `impl LinearComb` of src/checker/rules/linear_arithmetic.rs: a combination of terms, filled by a walk of a term and of the lists
--- of its arguments, which call each other.
+-- `impl LinearComb` of src/checker/rules/linear_arithmetic.rs: a combination of terms, filled by a walk of a term and
+-- of the lists of its arguments, which call each other.
 use mathlib.Core.Bool.{true, false, _&&_, Bool}
 use mathlib.Core.Option.{Option, some, none}
 use mathlib.Core.List.{[], _∷_}
@@ -20,7 +20,7 @@ use Rattle.rules.specs.IndexMap.{Map, Combination, combination, scaleAll, new, 
 use Rattle.rules.specs.IndexMap.{addConstant}
 use Rattle.terms.specs.Term.Sort.{int}
 use Rattle.rules.specs.Shapes.{size}
-use Rattle.rules.specs.Entries.{terms}
+use Rattle.rules.specs.memory.Entries.{terms}
 
 abbrev pub LinearComb : Type 0
 LinearComb = Combination Term

@@ -21,7 +21,7 @@ use Rattle.numbers.proofs.Quotient.{ℚ, ℚring, sum, product}
 use Rattle.rules.specs.Limits.{Limits}
 use Rattle.rules.specs.IndexMap.{add}
 use Rattle.linear_comb.specs.LinearComb.{LinearComb, mul}
-use Rattle.rules.specs.Entries.{terms}
+use Rattle.rules.specs.memory.Entries.{terms}
 use Rattle.linear_arithmetic.specs.LinearArithmetic.{joinOperators, scalar, weakened, isTrueAtZero}
 use Rattle.alethe.specs.AletheTerms.{Departure, Departures, carcara}
 use Rattle.alethe.specs.Alethe.{Relation, factor, ScaledRelation, stays, argumentZero, stronger, contradicts}

@@ -23,7 +23,7 @@ use Rattle.rules.specs.Refusal.Outcome.{ok}
 use Rattle.rules.specs.Limits.{Limits, theRust}
 use Rattle.rules.specs.IndexMap.{combination, sub}
 use Rattle.linear_comb.specs.LinearComb.{LinearComb, fromTerm}
-use Rattle.rules.specs.Entries.{terms}
+use Rattle.rules.specs.memory.Entries.{terms}
 use Rattle.disequality.specs.Disequality as Literal
 use Rattle.disequality.specs.Disequality.{Disequality, disequalityOf, inner, twoSides, negateDisequality}
 use Rattle.alethe.specs.AletheTerms.{Departures, carcara, Sum, Linear}

@@ -21,7 +21,7 @@ use Rattle.rules.specs.Refusal.{Refusal}
 use Rattle.rules.specs.Refusal.Outcome.{ok, refused}
 use Rattle.rules.specs.Limits.{Limits, theRust}
 use Rattle.rules.specs.IndexMap.{isEmpty, new}
-use Rattle.rules.specs.Entries as Entry
+use Rattle.rules.specs.memory.Entries as Entry
 use Rattle.linear_arithmetic.specs.LinearArithmetic.{Progress, foldLiterals, isTrueAtZero, laGenericPartial, laGeneric}
 use Rattle.alethe.specs.AletheTerms.{Departure, Departures, Cancels, nought}
 use Rattle.alethe.specs.Alethe.{Clause, Constraint, Relation, Lines, LaGeneric, Arguments, allTerms, sumBound, weaker}

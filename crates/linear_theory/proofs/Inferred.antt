@@ -24,7 +24,7 @@ use Rattle.rules.specs.Refusal.Outcome.{ok}
 use Rattle.rules.specs.Limits.{Limits, fractionOf, fractionErr}
 use Rattle.rules.specs.IndexMap.{add, new, isEmpty}
 use Rattle.linear_comb.specs.LinearComb.{LinearComb, mul}
-use Rattle.rules.specs.Entries.{terms}
+use Rattle.rules.specs.memory.Entries.{terms}
 use Rattle.linear_arithmetic.specs.LinearArithmetic.{Progress, progress, inferred, argumentOf, strengthened, scalar}
 use Rattle.linear_arithmetic.specs.LinearArithmetic.{processDisequality, foldLiterals, isTrueAtZero, readArgs}
 use Rattle.linear_arithmetic.specs.LinearArithmetic.{laGenericPartial, laGeneric}

@@ -16,7 +16,7 @@ use Rattle.rules.specs.Refusal.{orElse}
 use Rattle.rules.specs.Limits.{limited, inLimit, ranged, over}
 use Rattle.rules.specs.IndexMap.{Map, get}
 use Rattle.linear_comb.specs.LinearComb.{LinearComb}
-use Rattle.rules.specs.Entries.{terms}
+use Rattle.rules.specs.memory.Entries.{terms}
 use Rattle.linear_arithmetic.specs.LinearArithmetic.{Progress, inferred, argumentOf, processDisequality, foldLiterals}
 use Rattle.linear_arithmetic.specs.LinearArithmetic.{laGenericPartial, readArgs}
 use Rattle.rules.specs.Shapes.{Clause}

@@ -14,7 +14,7 @@ use Rattle.rules.specs.Refusal.{assert}
 use Rattle.rules.specs.Refusal.Refusal.{polynomialSize}
 use Rattle.rules.specs.Limits.{Limits, times, plus}
 use Rattle.rules.specs.IndexMap.{Map, Keys, lastFirst, swapRemove, negAll, scaleAll, enter}
-use Rattle.rules.specs.Entries.{terms}
+use Rattle.rules.specs.memory.Entries.{terms}
 use Rattle.rules.proofs.KeyedMaps.{Lacks, nothing, another}
 use Rattle.rules.proofs.Yields.{Yields, gives, and-then, past, by-test}
 

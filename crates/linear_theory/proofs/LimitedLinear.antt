@@ -16,7 +16,7 @@ use Rattle.rules.specs.Limits.{Limits, theRust}
 use Rattle.rules.specs.IndexMap.{Map, Walked, walked, new, addEntry}
 use Rattle.linear_comb.specs.LinearComb.{LinearComb, mul, coefficientsGcd, armOf, addLeaf, factorsOf, addTerm, addArgs}
 use Rattle.linear_comb.specs.LinearComb.{addDifference, addFirst, addSecond, fromTerm, allInt}
-use Rattle.rules.specs.Entries.{terms}
+use Rattle.rules.specs.memory.Entries.{terms}
 use Rattle.linear_comb.specs.LinearComb.Arm.{sum}
 use Rattle.linear_arithmetic.specs.LinearArithmetic.{Progress, progress, inferred, argumentOf, strengthened, scalar}
 use Rattle.linear_arithmetic.specs.LinearArithmetic.{processDisequality, readArgs, foldLiterals, laGenericPartial}

@@ -19,7 +19,7 @@ use Rattle.rules.specs.Refusal.{Result, _>>=_}
 use Rattle.rules.specs.Limits.{theRust}
 use Rattle.rules.specs.IndexMap.{add}
 use Rattle.linear_comb.specs.LinearComb.{LinearComb, mul}
-use Rattle.rules.specs.Entries.{terms}
+use Rattle.rules.specs.memory.Entries.{terms}
 use Rattle.linear_arithmetic.specs.LinearArithmetic.{Progress, progress, argumentOf, joinOperators, scalar, weakened}
 use Rattle.linear_arithmetic.specs.LinearArithmetic.{processDisequality}
 use Rattle.disequality.specs.Disequality.{Disequality}

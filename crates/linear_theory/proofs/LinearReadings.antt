@@ -31,7 +31,7 @@ use Rattle.terms.proofs.Fractions.{fraction-means}
 use Rattle.terms.proofs.Readings.{not-number, out-of-range}
 use Rattle.terms.proofs.BookTerms.{Closed}
 use Rattle.linear_comb.specs.LinearComb.{Arm, armOf}
-use Rattle.rules.specs.Entries.{terms}
+use Rattle.rules.specs.memory.Entries.{terms}
 use Rattle.rules.specs.Shapes.{size}
 use Rattle.alethe.specs.AletheTerms.{Is, Is2, is, Atom, Written}
 use Rattle.rules.proofs.Valuations.{numberℚ, rationals}

@@ -22,7 +22,7 @@ use Rattle.rules.specs.Limits.{Limits, times}
 use Rattle.rules.specs.IndexMap.{Walked, addEntry, addConstant}
 use Rattle.linear_comb.specs.LinearComb.{Arm, armOf, addLeaf, Factors, chosen, factorsOf, addTerm, addArgs}
 use Rattle.linear_comb.specs.LinearComb.{addDifference, addFirst, addSecond}
-use Rattle.rules.specs.Entries.{terms}
+use Rattle.rules.specs.memory.Entries.{terms}
 use Rattle.rules.specs.Shapes.{size}
 use Rattle.linear_comb.specs.LinearComb.Factors.{firstIs, secondIs, neitherIs}
 use Rattle.alethe.specs.AletheTerms.{Atom, Written}

@@ -16,7 +16,7 @@ use Rattle.rules.specs.Refusal.Outcome.{ok, refused}
 use Rattle.rules.specs.Limits.{Limits}
 use Rattle.rules.specs.IndexMap.{Map, get, add}
 use Rattle.linear_comb.specs.LinearComb.{LinearComb, mul, allInt}
-use Rattle.rules.specs.Entries.{terms}
+use Rattle.rules.specs.memory.Entries.{terms}
 use Rattle.linear_arithmetic.specs.LinearArithmetic.{strengthened, Progress, progress, inferred, argumentOf}
 use Rattle.linear_arithmetic.specs.LinearArithmetic.{joinOperators, scalar, weakened, processDisequality}
 use Rattle.disequality.specs.Disequality.{Disequality, disequalityOf}

@@ -18,7 +18,7 @@ use Rattle.numbers.proofs.Quotient.{ℚ, ℚring}
 use Rattle.numbers.proofs.Truths.{both, never}
 use Rattle.rules.specs.IndexMap.{Map, isEmpty}
 use Rattle.linear_comb.specs.LinearComb.{allInt}
-use Rattle.rules.specs.Entries.{terms}
+use Rattle.rules.specs.memory.Entries.{terms}
 use Rattle.linear_theory.specs.Premises.{wholeCoefficients}
 use Rattle.alethe.specs.AletheTerms.{nought}
 use Rattle.rules.proofs.KeyedMaps.{Lacks, nothing, another, sameKey}

@@ -25,7 +25,7 @@ use Rattle.rules.specs.IndexMap.{negAll, scaleAll, get, enter, insert, insertAl
 use Rattle.rules.specs.IndexMap.{addConstant}
 use Rattle.linear_comb.specs.LinearComb.{LinearComb, mul, coefficientsGcd, armOf, addLeaf, factorsOf, addTerm, addArgs}
 use Rattle.linear_comb.specs.LinearComb.{addDifference, addFirst, addSecond, fromTerm}
-use Rattle.rules.specs.Entries.{terms}
+use Rattle.rules.specs.memory.Entries.{terms}
 use Rattle.linear_arithmetic.specs.LinearArithmetic.{Progress, inferred, argumentOf, strengthened, scalar}
 use Rattle.linear_arithmetic.specs.LinearArithmetic.{processDisequality, foldLiterals}
 use Rattle.disequality.specs.Disequality.{Disequality, inner, twoSides, negateDisequality, turned, disequalityOf}

@@ -18,7 +18,7 @@ use Rattle.numbers.proofs.Quotient.{ℚ, ℚring, sum, product}
 use Rattle.rules.specs.Refusal.Outcome.{ok}
 use Rattle.rules.specs.Limits.{Limits, theRust}
 use Rattle.rules.specs.IndexMap.{Map, insert}
-use Rattle.rules.specs.Entries.{terms}
+use Rattle.rules.specs.memory.Entries.{terms}
 use Rattle.alethe.specs.AletheTerms.{Entries, coefficientOf}
 use Rattle.linear_theory.proofs.KeyNames.{term-names}
 use Rattle.linear_theory.proofs.NoZero.{NoZero, empty, insert-nonzero}

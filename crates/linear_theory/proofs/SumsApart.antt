@@ -16,7 +16,7 @@ use Rattle.rules.specs.Limits.{Limits, plus}
 use Rattle.rules.specs.IndexMap as IndexMap
 use Rattle.rules.specs.IndexMap.{combination, negAll, insertAll, add, sub}
 use Rattle.linear_comb.specs.LinearComb.{LinearComb}
-use Rattle.rules.specs.Entries.{terms}
+use Rattle.rules.specs.memory.Entries.{terms}
 use Rattle.alethe.specs.AletheTerms.{Entries, Sum, timesEach, minusOne}
 use Rattle.rules.proofs.Yields.{Yields, gives, past, and-then, at-ok, plus-yields}
 use Rattle.rules.proofs.Valuations.{numberℚ, rationals, number-unique}

@@ -23,7 +23,7 @@ use Rattle.rules.specs.Limits.{theRust, numberOr, fractionOf}
 use Rattle.rules.specs.IndexMap.{Walked, walked, combination, new}
 use Rattle.linear_comb.specs.LinearComb.{LinearComb, mul, armOf, addLeaf, factorsOf, addTerm, addArgs, addDifference}
 use Rattle.linear_comb.specs.LinearComb.{addFirst, addSecond, fromTerm}
-use Rattle.rules.specs.Entries.{terms}
+use Rattle.rules.specs.memory.Entries.{terms}
 use Rattle.disequality.specs.Disequality.{raised}
 use Rattle.linear_theory.proofs.LinearCases.{by-arm, by-factors}
 use Rattle.rules_theory.proofs.Unlimited.{Free, answers, freely, free-of, either-free, option-free, times-free}

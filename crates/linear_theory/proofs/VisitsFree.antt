@@ -20,7 +20,7 @@ use Rattle.rules.specs.IndexMap as IndexMap
 use Rattle.rules.specs.IndexMap.{combination, Walked, walked, new, visit, addEntry, addConstant}
 use Rattle.linear_comb.specs.LinearComb.{LinearComb, armOf, addLeaf, addTerm, addArgs, addDifference, addFirst}
 use Rattle.linear_comb.specs.LinearComb.{addSecond, fromTerm}
-use Rattle.rules.specs.Entries.{terms}
+use Rattle.rules.specs.memory.Entries.{terms}
 use Rattle.linear_comb.specs.LinearComb.Arm.{sum}
 use Rattle.disequality.specs.Disequality.{Disequality, disequality, negateDisequality, turned, disequalityOf}
 use Rattle.rules_theory.proofs.Limited.{_≼_, sub-limited, Unbounded}

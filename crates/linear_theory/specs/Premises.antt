@@ -1,5 +1,5 @@
--- Demand 3's premises on a step's terms: what must hold for an accepted step to be true. Documents say it of the accepted steps; these are
--- the tests on one step's literals and arguments.
+-- Demand 3's premises on a step's terms: what must hold for an accepted step to be true. Documents say it of the
+-- accepted steps; these are the tests on one step's literals and arguments.
 use mathlib.Core.Bool.{Bool, true, _&&_, _||_, not}
 use mathlib.Core.List.{List, [], _∷_}
 use Rattle.numbers.specs.Rational.{Rational, isInteger}

@@ -1,9 +1,10 @@
-// The files that the arguments name: read whole, and written whole or not at all.
+// Files: read whole, and made where there are none. A file that is there is never written to.
 ghost use Prim.Native.Nat.{_≤_};
 ghost use lib.ListN.{length};
 ghost use Rattle.io.specs.Counts.{Counts};
-use libc::STDERR_FILENO;
-use numbers::bytes::room;
+use crate::arguments::path_of;
+use crate::printing::complain;
+use libc::EEXIST;
 
 pub(crate) struct FileRead {
     // Whether nothing failed.
@@ -66,13 +67,12 @@ fn read_path(path: &[u8], space: &mut [u8]) -> FileRead
 }
 
 // Reads the file that argument i names.
-pub(crate) fn read_arg(i: usize, name: &[u8], space: &mut [u8]) -> FileRead
+pub(crate) fn read_arg(i: usize, what: &[u8], space: &mut [u8]) -> FileRead
     ensures { λ r. ⌜ Counts (r .bytes) (now (space .exit)) ⌝ }
 {
     let mut path = io::buffer();
-    let n = os::arg(i, &mut path);
-    if os::errno() != 0 {
-        os::fail(name);
+    let n = path_of(i, what, &mut path);
+    if n == 0 {
         return FileRead {
             ok: false,
             bytes: 0,
@@ -83,70 +83,47 @@ pub(crate) fn read_arg(i: usize, name: &[u8], space: &mut [u8]) -> FileRead
 
 // ---- writing
 
-// The suffix that `create_temp` replaces.
-fn put_suffix(s: &mut [u8])
-    requires { ⌜ 7 ≤ length (now s) ⌝ }
-{
-    s[0] = b'.';
-    s[1] = b'X';
-    s[2] = b'X';
-    s[3] = b'X';
-    s[4] = b'X';
-    s[5] = b'X';
-    s[6] = b'X';
+// Complains that a file cannot be made.
+fn fail_to_create(path: &[u8]) {
+    if os::errno() == EEXIST {
+        complain(path);
+        complain(b": the name is taken, and nothing is written over\n");
+    } else {
+        os::fail(path);
+    }
 }
 
-// Puts argument i and that suffix at the start of a buffer, and answers their length; 0 where that fails.
-fn temporary_name(i: usize, name: &mut [u8]) -> usize
-    ensures { λ r. ⌜ Counts r (now (name .exit)) ⌝ }
-{
-    let n = os::arg(i, name);
-    if os::errno() != 0 {
-        return 0;
+// Removes a file that the program made.
+pub(crate) fn remove(path: &[u8]) {
+    if os::unlink(path) != 0 {
+        os::fail(path);
     }
-    if room(name, n, 7) {
-        put_suffix(&mut name[n..]);
-        return n + 7;
-    }
-    0
 }
 
-// Makes a new file of the bytes beside the one that argument i names, and puts its name at the start of a buffer.
-// Answers the name's length; 0 where that fails, and then no file is left.
-pub(crate) fn write_beside(i: usize, what: &[u8], text: &[u8], name: &mut [u8]) -> usize
-    ensures { λ r. ⌜ Counts r (now (name .exit)) ⌝ }
-{
-    let n = temporary_name(i, name);
-    if n == 0 {
-        io::write_all(STDERR_FILENO, what);
-        io::write_all(STDERR_FILENO, b": the name is missing or too long\n");
-        return 0;
-    }
-    let fd = os::create_temp(&mut name[..n]);
-    if fd < 0 {
-        os::fail(&name[..n]);
-        return 0;
-    }
-    let written = io::write_all(fd, text);
-    libc::fchmod(fd, 0o644);
-    libc::close(fd);
-    if written {
-        return n;
-    }
-    os::fail(&name[..n]);
-    os::unlink(&name[..n]);
-    0
-}
-
-// Gives a file that `write_beside` made its name without the suffix; where that fails, it is removed.
-pub(crate) fn put_in_place(name: &[u8]) -> bool {
-    if 7 <= name.len() {
-        let n = name.len() - 7;
-        if os::rename(name, &name[..n]) == 0 {
+// Writes to a file that was just made, and closes it. Whether both went well; a complaint where they did not.
+fn fill(fd: i32, path: &[u8], text: &[u8]) -> bool {
+    if io::write_all(fd, text) {
+        if libc::close(fd) == 0 {
             return true;
         }
-        os::fail(&name[..n]);
-        os::unlink(name);
+        os::fail(path);
+        return false;
     }
+    os::fail(path);
+    libc::close(fd);
+    false
+}
+
+// Makes a file of the bytes at a path that names nothing. Whether it is there; where it is not, nothing is left of it.
+pub(crate) fn write_new(path: &[u8], text: &[u8]) -> bool {
+    let fd = os::create(path);
+    if fd < 0 {
+        fail_to_create(path);
+        return false;
+    }
+    if fill(fd, path, text) {
+        return true;
+    }
+    remove(path);
     false
 }

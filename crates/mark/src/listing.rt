@@ -1,12 +1,22 @@
 // The records of a book in words, one a line: number, sort and the record.
+use crate::format::ARGUMENT_BYTES;
 use crate::printing::print;
 use crate::printing::print_number;
 use crate::printing::print_signed;
+use crate::refusals::print_book_refusal;
+use crate::words::print_operator;
+use numbers::bytes::byte;
 use numbers::bytes::read_u64;
 use numbers::number::Number;
-use terms::book::argument;
-use terms::book::byte;
-use terms::book::record;
+use rules::prepare::prepare;
+use terms::areas::INDEX_END;
+use terms::book::BookRead;
+use terms::format::BOOL_SORT;
+use terms::format::FIRST_AT;
+use terms::format::INT_SORT;
+use terms::format::REAL_SORT;
+use terms::records::argument;
+use terms::records::record;
 use terms::term::BitVector;
 use terms::term::Reading;
 use terms::term::args;
@@ -16,42 +26,22 @@ use terms::term::operator;
 
 fn print_sort(s: u8) {
     match s {
-        1 => print(b"Bool"),
-        2 => print(b"Int"),
-        3 => print(b"Real"),
+        BOOL_SORT => print(b"Bool"),
+        INT_SORT => print(b"Int"),
+        REAL_SORT => print(b"Real"),
         _ => print_width(s),
     }
 }
 
-// The sort of a bit-vector of w bits is 3 + w.
+// The sort of a bit-vector of w bits is w above that of reals.
 fn print_width(s: u8) {
     print(b"BitVec(");
-    print_number(if 3 < s { s as u64 - 3 } else { 0 });
+    print_number(if REAL_SORT < s {
+        (s - REAL_SORT) as u64
+    } else {
+        0
+    });
     print(b")");
-}
-
-// The operator's name in SMT-LIB.
-fn print_operator(o: u8) {
-    match o {
-        1 => print(b"not"),
-        2 => print(b"and"),
-        3 => print(b"or"),
-        4 => print(b"="),
-        5 => print(b"<"),
-        6 => print(b"<="),
-        7 => print(b">"),
-        8 => print(b">="),
-        9 => print(b"+"),
-        10 => print(b"-"),
-        11 => print(b"*"),
-        12 => print(b"div"),
-        13 => print(b"/"),
-        14 => print(b"to_real"),
-        15 => print(b"bvadd"),
-        16 => print(b"bvsub"),
-        17 => print(b"bvneg"),
-        _ => print(b"bvmul"),
-    }
 }
 
 fn print_argument(a: usize) {
@@ -62,7 +52,7 @@ fn print_argument(a: usize) {
 // The arguments of record `id`, from the part of it that holds them.
 fn print_arguments(args: &[u8], id: usize) {
     let mut k = 0;
-    while k < args.len() / 2 {
+    while k < args.len() / ARGUMENT_BYTES {
         print_argument(argument(args, k, id));
         k += 1;
     }
@@ -77,7 +67,7 @@ fn print_operation(book: &[u8], id: usize, o: u8) {
 
 // An integer or a real, by its sort.
 fn print_constant(q: Number, s: u8) {
-    if s == 2 {
+    if s == INT_SORT {
         print(b"integer ");
         print_signed(q.num);
     } else {
@@ -95,7 +85,7 @@ fn print_bits(v: u64) {
 
 fn print_atom(book: &[u8], id: usize) {
     print(b"atom a");
-    print_number(read_u64(record(book, id), 4));
+    print_number(read_u64(record(book, id), FIRST_AT));
 }
 
 fn print_bits_or_atom(book: &[u8], id: usize) {
@@ -114,7 +104,7 @@ fn print_leaf(book: &[u8], id: usize, s: u8) {
 }
 
 // Record `id`, of sort s.
-fn print_record(book: &[u8], id: usize, s: u8) {
+pub(crate) fn print_record(book: &[u8], id: usize, s: u8) {
     print_number(id as u64);
     print(b" ");
     print_sort(s);
@@ -126,10 +116,22 @@ fn print_record(book: &[u8], id: usize, s: u8) {
     print(b"\n");
 }
 
-pub(crate) fn print_records(book: &[u8], sorts: &[u8], n: usize) {
+fn print_records(book: &[u8], sorts: &[u8], n: usize) {
     let mut id = 0;
     while id < n {
         print_record(book, id, byte(sorts, id));
         id += 1;
+    }
+}
+
+// Lists the records of a book, or says why it is refused.
+pub(crate) fn list_book(book: &[u8]) {
+    let mut work = [0u8; INDEX_END];
+    match prepare(book, &mut work) {
+        BookRead::Records(n) => print_records(book, &work, n),
+        BookRead::RefusedAt(c, id) => {
+            print(b"refused: ");
+            print_book_refusal(book, c, id);
+        }
     }
 }

@@ -1,142 +1,156 @@
-// `mark BOOK` lists the records of a book file. `mark BOOK RUN [LIMIT]` marks a run over it. `mark --elaborate BOOK RUN
-// LIMIT OUT_RUN OUT_TAIL` writes the elaboration of its accepted steps and marks it again.
+// `mark BOOK` lists the records of a book file. `mark BOOK RUN [LIMIT]` marks a run over it, and `mark BOOK RUN --list`
+// lists its steps. `mark --elaborate BOOK RUN LIMIT OUT_RUN OUT_TAIL` writes the elaboration of its accepted steps and
+// marks it again.
+mod arguments;
 mod elaboration;
+mod faults;
 mod files;
+mod format;
+mod help;
 mod listing;
 mod marking;
 mod printing;
+mod refusals;
+mod steps;
 mod words;
 
 ghost use Prim.Native.Nat.{_≤_};
+use arguments::ELABORATED_BOOK;
+use arguments::ELABORATED_LIMIT;
+use arguments::FIRST;
+use arguments::LIMIT;
+use arguments::OUT_TAIL;
+use arguments::RUN;
+use arguments::Word;
+use arguments::all_plain;
+use arguments::has_unknown;
+use arguments::limit_of;
+use arguments::word_at;
 use elaboration::elaborate_files;
 use files::read_arg;
-use libc::STDERR_FILENO;
-use marking::list;
+use format::RUN_RECORDS;
+use help::help;
+use help::usage;
+use help::version;
+use listing::list_book;
 use marking::mark;
-use terms::book::byte;
-use terms::book::same_bytes;
+use runs::check::MAX_LIMIT;
+use steps::list_run;
+use terms::format::MAX_RECORDS;
+use terms::format::RECORD_BYTES;
+use terms::format::RUN_RECORD_BYTES;
 
-// One byte more than a book of 2,048 records and a run of 4,096 have, so that a longer file shows.
-const BOOK: usize = 65537;
+// One record more than a book and a run may have, so that a longer file shows.
+const BOOK_SPACE: usize = RECORD_BYTES * MAX_RECORDS + RECORD_BYTES;
 
-const RUN: usize = 16385;
+const RUN_SPACE: usize = RUN_RECORD_BYTES * RUN_RECORDS + RUN_RECORD_BYTES;
 
-fn complain(text: &[u8]) {
-    io::write_all(STDERR_FILENO, text);
-}
-
-fn usage() {
-    complain(b"usage: mark BOOK\n");
-    complain(b"       mark BOOK RUN [LIMIT]\n");
-    complain(b"       mark --elaborate BOOK RUN LIMIT OUT_RUN OUT_TAIL\n");
-}
-
-// ---- the arguments
-
-// A decimal number of at most seven digits; 0 where the text is no such number.
-fn decimal(text: &[u8]) -> u32 {
-    let n = text.len();
-    if 7 < n {
-        return 0;
-    }
-    let mut value = 0;
-    let mut k = 0;
-    while k < n {
-        let d = text[k];
-        if d < b'0' {
-            return 0;
-        }
-        if b'9' < d {
-            return 0;
-        }
-        value = 10 * value + (d - b'0') as u32;
-        k += 1;
-    }
-    value
-}
-
-// The limit that argument i gives; 0, after a complaint, where it is none.
-fn limit_of(i: usize) -> u32 {
-    let mut text = io::buffer();
-    let n = os::arg(i, &mut text);
-    let limit = decimal(&text[..n]);
-    if 1 <= limit {
-        if limit <= 1000000 {
-            return limit;
-        }
-    }
-    complain(b"mark: LIMIT is not a number from 1 to 1000000\n");
-    0
+// What is done with a book and a run.
+enum Task {
+    Mark,
+    List,
+    Elaborate,
 }
 
 // ---- the commands
 
-fn list_file() {
-    let mut book = [0u8; BOOK];
-    let b = read_arg(1, b"BOOK", &mut book);
+fn with_book() {
+    let mut book = [0u8; BOOK_SPACE];
+    let b = read_arg(FIRST, b"BOOK", &mut book);
     if b.ok {
         let n = b.bytes;
-        list(&book[..n]);
+        list_book(&book[..n]);
     }
 }
 
-// Reads the files that arguments i and i + 1 name, and marks or elaborates.
-fn with_files(i: usize, limit: u32, elaborating: bool)
+fn perform(task: Task, book: &[u8], run: &[u8], limit: u32) {
+    match task {
+        Task::Mark => mark(book, run, limit),
+        Task::List => list_run(book, run),
+        Task::Elaborate => elaborate_files(book, run, limit),
+    }
+}
+
+// Reads the files that arguments i and i + 1 name, and performs a task on them.
+fn with_files(task: Task, i: usize, limit: u32)
     requires { ⌜ i ≤ 2 ⌝ }
 {
-    let mut book = [0u8; BOOK];
-    let mut run = [0u8; RUN];
+    let mut book = [0u8; BOOK_SPACE];
+    let mut run = [0u8; RUN_SPACE];
     let b = read_arg(i, b"BOOK", &mut book);
     if b.ok {
         let r = read_arg(i + 1, b"RUN", &mut run);
         if r.ok {
             let n = b.bytes;
             let m = r.bytes;
-            if elaborating {
-                elaborate_files(&book[..n], &run[..m], limit);
-            } else {
-                mark(&book[..n], &run[..m], limit);
-            }
+            perform(task, &book[..n], &run[..m], limit);
         }
     }
 }
 
 fn mark_with_limit() {
-    let limit = limit_of(3);
+    let limit = limit_of(LIMIT);
     if limit != 0 {
-        with_files(1, limit, false);
+        with_files(Task::Mark, FIRST, limit);
     }
 }
 
 fn elaborate_with_limit() {
-    let limit = limit_of(4);
+    let limit = limit_of(ELABORATED_LIMIT);
     if limit != 0 {
-        with_files(2, limit, true);
+        with_files(Task::Elaborate, ELABORATED_BOOK, limit);
     }
 }
 
-// Without an option.
-fn mark_or_list() {
-    match os::arg_count() {
-        2 => list_file(),
-        3 => with_files(1, 1000000, false),
-        4 => mark_with_limit(),
+// ---- the command line
+
+// `mark BOOK RUN` and a third argument.
+fn limit_or_list() {
+    match word_at(LIMIT) {
+        Word::Plain => mark_with_limit(),
+        Word::List => with_files(Task::List, FIRST, MAX_LIMIT),
         _ => usage(),
     }
 }
 
-fn main() {
-    let mut option = io::buffer();
-    let n = os::arg(1, &mut option);
-    if same_bytes(&option[..n], b"--elaborate") {
-        if os::arg_count() == 7 {
+// No option stands first.
+fn without_option(last: usize) {
+    if all_plain(FIRST, LIMIT) {
+        match last {
+            FIRST => with_book(),
+            RUN => with_files(Task::Mark, FIRST, MAX_LIMIT),
+            LIMIT => limit_or_list(),
+            _ => usage(),
+        }
+    } else {
+        usage();
+    }
+}
+
+// `--elaborate` stands first.
+fn with_elaborate(last: usize) {
+    if last == OUT_TAIL {
+        if all_plain(ELABORATED_BOOK, OUT_TAIL + 1) {
             elaborate_with_limit();
             return;
         }
     }
-    if byte(&option, 0) == b'-' {
+    usage();
+}
+
+fn main() {
+    let n = os::arg_count();
+    if has_unknown(n) {
         usage();
         return;
     }
-    mark_or_list();
+    // The program's own name is argument 0.
+    let last = if 0 < n { n - 1 } else { 0 };
+    match word_at(FIRST) {
+        Word::Plain => without_option(last),
+        Word::Elaborate => with_elaborate(last),
+        Word::Help => help(),
+        Word::Version => version(),
+        _ => usage(),
+    }
 }

@@ -1,9 +1,14 @@
-// Bytes and numbers to standard output.
+// Bytes and numbers to standard output, and complaints to standard error.
+use libc::STDERR_FILENO;
 use libc::STDOUT_FILENO;
 use numbers::number::magnitude;
 
 pub(crate) fn print(text: &[u8]) {
     io::write_all(STDOUT_FILENO, text);
+}
+
+pub(crate) fn complain(text: &[u8]) {
+    io::write_all(STDERR_FILENO, text);
 }
 
 pub(crate) fn print_number(n: u64) {
@@ -15,4 +20,21 @@ pub(crate) fn print_signed(n: i64) {
         print(b"-");
     }
     print_number(magnitude(n));
+}
+
+// Two hexadecimal digits.
+fn print_byte(b: u8) {
+    io::print_hex(STDOUT_FILENO, b as u64, 2);
+}
+
+// The bytes from `at` on, n at most, in hexadecimal.
+pub(crate) fn print_bytes(s: &[u8], at: usize, n: usize) {
+    let mut k = at;
+    while k < s.len() {
+        if n <= k - at {
+            return;
+        }
+        print_byte(s[k]);
+        k += 1;
+    }
 }

@@ -5,7 +5,7 @@ use mathlib.Core.List.{List, [], _∷_, _++_}
 use Prim.Native.Nat.{ℕ, _/_, _%_}
 use lib.Dec.{eqb}
 use Rattle.numbers.specs.Bytes.{Bytes, bytesOf}
-use Rattle.terms.specs.Book.{sameBytes}
+use Rattle.numbers.specs.Bytes.{sameBytes}
 use Rattle.terms.specs.BookExamples.{joined}
 use Rattle.alethe_examples.specs.Computes.{rules}
 use Rattle.runs.specs.Verdict.{verdictNumber}
@@ -65,5 +65,8 @@ allMarked (c ∷ cs) = elim (isMarked c) [ true ↦ allMarked cs | false ↦ fal
 -- ---- computing
 
 unfoldable pub marks : Unit {0}
-unfolding rules recs leading after allRight numbersOf termsOf withNumber ruleOf headRule readStep readSteps readRun clausesOf checkRule checkStep turn turns checkSteps markRun mark check bytesOf Elaborate.realRecord findReal placeIn addReal addReals premiseBytes termBytes stepBytes addSteps tailBytes fits elaborated elaborateUnder elaborate runRecord runRecords stepRecords allMarked
+unfolding rules recs leading after allRight numbersOf termsOf withNumber ruleOf headRule readStep readSteps readRun
+    clausesOf checkRule checkStep turn turns checkSteps markRun mark check bytesOf Elaborate.realRecord findReal placeIn
+    addReal addReals premiseBytes termBytes stepBytes addSteps tailBytes fits elaborated elaborateUnder elaborate
+    runRecord runRecords stepRecords allMarked
 marks = tt

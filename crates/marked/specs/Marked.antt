@@ -326,8 +326,8 @@ cases =
     ∷ operationRecord Not (2 ∷ []) ∷ integerRecord (pos 2) ∷ operationRecord GreaterThan (0 ∷ 4 ∷ [])
     ∷ operationRecord Not (5 ∷ []) ∷ integerRecord (pos 1) ∷ [])
     (stepRecords 5 [] (3 ∷ 6 ∷ []) (7 ∷ 7 ∷ []) ∷ stepRecords 5 [] (6 ∷ 3 ∷ []) (7 ∷ 7 ∷ []) ∷ [])
-    (8, 65536, 1000, 1000)
-    (answers 0 2 8 (stepRecords 5 [] (3 ∷ 6 ∷ []) (7 ∷ 7 ∷ []) ∷ stepRecords 5 [] (6 ∷ 3 ∷ []) (7 ∷ 7 ∷ []) ∷ []) [])
+    (8, 65536, 1000, 1000) (answers 0 2 8 (stepRecords 5 [] (3 ∷ 6 ∷ []) (7 ∷ 7 ∷ [])
+    ∷ stepRecords 5 [] (6 ∷ 3 ∷ []) (7 ∷ 7 ∷ []) ∷ []) [])
     -- both factors are read before either is used: rule 4, (< (* 2 (/ 1/2147483647 2)) 0); limit 1
     ∷ marked
     (integerRecord (pos 2) ∷ realRecord (pos 1) (pos 2147483647) ∷ operationRecord RealDiv (1 ∷ 0 ∷ [])
@@ -960,9 +960,12 @@ cases =
     ∷ operationRecord Not (5 ∷ []) ∷ integerRecord (pos 1) ∷ integerRecord (pos 2)
     ∷ operationRecord Mult (8 ∷ 0 ∷ []) ∷ integerRecord (pos 8) ∷ operationRecord GreaterEq (9 ∷ 10 ∷ [])
     ∷ operationRecord Not (11 ∷ []) ∷ atomRecord 1 8 0 ∷ [])
-    (stepRecords 6 [] (3 ∷ 6 ∷ []) (7 ∷ []) ∷ stepRecords 6 [] (3 ∷ 12 ∷ []) (7 ∷ []) ∷ stepRecords 0 [] (13 ∷ []) [] ∷ stepRecords 6 [] (3 ∷ 6 ∷ []) (7 ∷ []) ∷ [])
-    usual
-    (answers 0 4 13 (stepRecords 5 [] (3 ∷ 6 ∷ []) (7 ∷ 14 ∷ []) ∷ stepRecords 5 [] (3 ∷ 12 ∷ []) (7 ∷ 15 ∷ []) ∷ stepRecords 0 [] (13 ∷ []) [] ∷ stepRecords 5 [] (3 ∷ 6 ∷ []) (7 ∷ 14 ∷ []) ∷ []) (realRecord (pos 1) (pos 1) ∷ realRecord (pos 1) (pos 2) ∷ []))
+    (stepRecords 6 [] (3 ∷ 6 ∷ []) (7 ∷ []) ∷ stepRecords 6 [] (3 ∷ 12 ∷ []) (7 ∷ [])
+    ∷ stepRecords 0 [] (13 ∷ []) [] ∷ stepRecords 6 [] (3 ∷ 6 ∷ []) (7 ∷ []) ∷ []) usual
+    (answers 0 4 13 (stepRecords 5 [] (3 ∷ 6 ∷ []) (7 ∷ 14 ∷ [])
+    ∷ stepRecords 5 [] (3 ∷ 12 ∷ []) (7 ∷ 15 ∷ []) ∷ stepRecords 0 [] (13 ∷ []) []
+    ∷ stepRecords 5 [] (3 ∷ 6 ∷ []) (7 ∷ 14 ∷ []) ∷ []) (realRecord (pos 1) (pos 1)
+    ∷ realRecord (pos 1) (pos 2) ∷ []))
     -- ---- Rules 7 and 8
     -- rule 7: rule 7, (= (* (+ x y) (- x y)) (- (* x x) (* y y)))
     ∷ marked

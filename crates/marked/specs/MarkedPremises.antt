@@ -1,6 +1,7 @@
 -- Written by tools/marked.py from tools/marked.txt: do not edit.
--- Which of demand 3's premises each accepted step of K1 to K12 meets, one accepted step of each rule, and others that tell a stronger or
--- a weaker premise from the right one: even divs, whole numbers, no surplus arguments. Worked out by hand.
+-- Which of demand 3's premises each accepted step of K1 to K12 meets, one accepted step of each rule, and others that
+-- tell a stronger or a weaker premise from the right one: even divs, whole numbers, no surplus arguments. Worked out by
+-- hand.
 use mathlib.Core.Path.{_≡_, refl}
 use mathlib.Core.Bool.{true, false}
 use mathlib.Core.List.{List, [], _∷_}

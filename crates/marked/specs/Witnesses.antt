@@ -19,7 +19,7 @@ use Rattle.runs.specs.Verdict.{Verdict}
 use Rattle.runs.specs.Run.{stepsOf}
 use Rattle.runs.specs.Check.{mark}
 use Rattle.marked.specs.Cases.{stepRecords, marks}
-use Rattle.elaborate.specs.Demands.{clauses}
+use Rattle.elaborate.specs.Statements.{clauses}
 
 -- ---- K10: rule 5, (not (>= x 1)) (not (<= x 1)), arguments 1/2 1/2
 

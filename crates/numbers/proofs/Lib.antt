@@ -23,3 +23,7 @@ pub mod Ranges
 pub mod LittleEndian
 pub mod TwosComplement
 pub mod StoredNumbers
+-- bytes: the same, copied, cleared
+pub mod SameBytes
+pub mod CopiedBytes
+pub mod ClearedBytes

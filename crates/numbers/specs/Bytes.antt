@@ -1,17 +1,30 @@
--- Little-endian numbers in a list of bytes, at any width, and a rational number as two numbers of four bytes. Nothing is
--- asked of the place: a number that does not lie wholly in the bytes reads as 0 and is not written.
+-- Lists of bytes: whether two are the same, zeros, little-endian numbers at any width, and a rational number as two
+-- numbers of four bytes. Nothing is asked of the place: a number that does not lie wholly in the bytes reads as 0 and
+-- is not written.
 use mathlib.Core.Path.{_≡_, refl}
-use mathlib.Core.Bool.{Bool, _&&_, cond}
-use mathlib.Core.List.{List, [], _∷_}
+use mathlib.Core.Bool.{Bool, true, false, _&&_, cond}
+use mathlib.Core.List.{List, [], _∷_, _++_}
 use Prim.Native.Nat.{ℕ, zero, suc, _+_, _*_, _-_, _/_, _%_, _^_}
-use lib.Dec.{leb, ltb}
+use lib.Dec.{eqb, leb, ltb}
 use lib.IntN.{ℤ, pos, negsuc}
-use lib.ListN.{length, getD, set}
+use lib.ListN.{length, getD, set, take, replicate}
 use lib.Signed.{ltZ}
 use Rattle.numbers.specs.Rational.{Rational, frac, whole, inRange, modulo}
 
 abbrev pub Bytes : Type 0
 Bytes = List ℕ
+
+unfoldable pub sameBytes : Bytes → Bytes → Bool
+sameBytes [] [] = true
+sameBytes [] (y ∷ s) = false
+sameBytes (x ∷ r) [] = false
+sameBytes (x ∷ r) (y ∷ s) = elim (eqb x y) [ true ↦ sameBytes r s | false ↦ false ]
+
+-- the first n bytes stay, the others are 0
+unfoldable pub zeroedFrom : ℕ → Bytes → Bytes
+zeroedFrom n w = take n w ++ replicate (length w - n) 0
+
+-- ---- numbers
 
 -- whether n bytes stand at i
 abbrev pub room : ℕ → Bytes → ℕ → Bool

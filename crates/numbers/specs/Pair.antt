@@ -1,5 +1,5 @@
--- Values of numbers, as document 01's 'Meaning' has them: a whole number over a positive one, of any size, not in lowest
--- terms. They are added and multiplied as such pairs, and compared by their cross products.
+-- Values of numbers, as document 01's 'Meaning' has them: a whole number over a positive one, of any size, not in
+-- lowest terms. They are added and multiplied as such pairs, and compared by their cross products.
 use mathlib.Core.Path.{_≡_, refl}
 use mathlib.Core.Bool.{Bool, true, false}
 use Prim.Native.Nat.{ℕ, zero, suc, _*_, _<_}

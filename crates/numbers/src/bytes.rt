@@ -1,12 +1,65 @@
-// Little-endian numbers in lent bytes. Every function takes any bytes and any place: what does not lie wholly in the
-// bytes reads as 0, and is not written.
+// Lent bytes: one of them, whether two parts are the same, copies and zeros, and little-endian numbers. A reader or
+// writer of numbers takes any bytes and any place: what does not lie wholly in the bytes reads as 0, and is not
+// written.
 ghost use mathlib.Core.Path.{_≡_};
-ghost use Prim.Native.Nat.{_+_, _<_};
+ghost use Prim.Native.Nat.{_+_, _≤_, _<_};
 ghost use lib.Dec.{leb};
-ghost use lib.ListN.{length};
-ghost use Rattle.numbers.specs.Bytes.{le, put, signed, complement};
+ghost use lib.ListN.{length, getD};
+ghost use lib.Seq.{paste};
+ghost use Rattle.numbers.specs.Bytes.{le, put, signed, complement, sameBytes, zeroedFrom};
 
-// Whether n bytes stand at `at`. Of the two tests the first is the same for all places: a loop over places makes it once.
+// Byte k; 0 past the end.
+pub fn byte(s: &[u8], k: usize) -> u8
+    ensures { λ r. ⌜ r ≡ getD (now (s .entry)) k 0 ⌝ }
+{
+    if k < s.len() { s[k] } else { 0 }
+}
+
+// Whether two parts have the same bytes.
+pub fn same_bytes(a: &[u8], b: &[u8]) -> bool
+    ensures { λ r. ⌜ r ≡ sameBytes (now (a .entry)) (now (b .entry)) ⌝ }
+{
+    if a.len() != b.len() {
+        return false;
+    }
+    let mut k = 0;
+    while k < a.len() {
+        if a[k] != b[k] {
+            return false;
+        }
+        k += 1;
+    }
+    true
+}
+
+// Puts bytes at `at`, where there is room for them.
+pub fn paste(area: &mut [u8], at: usize, part: &[u8])
+    requires { ⌜ at + length (now part) ≤ length (now area) ⌝ }
+    ensures { λ _. ⌜ now (area .exit) ≡ paste (now (area .entry)) at (now (part .entry))
+        (length (now (part .entry))) ⌝ }
+{
+    let mut k = 0;
+    while k < part.len() {
+        area[at + k] = part[k];
+        k += 1;
+    }
+}
+
+// Zeros from byte n on.
+pub fn clear_from(area: &mut [u8], n: usize)
+    ensures { λ _. ⌜ now (area .exit) ≡ zeroedFrom n (now (area .entry)) ⌝ }
+{
+    let mut k = n;
+    while k < area.len() {
+        area[k] = 0;
+        k += 1;
+    }
+}
+
+// ---- numbers
+
+// Whether n bytes stand at `at`. Of the two tests the first is the same for all places: a loop over places makes it
+// once.
 pub fn room(s: &[u8], at: usize, n: usize) -> bool
     ensures { λ r. ⌜ r ≡ leb (at + n) (length (now (s .entry))) ⌝ }
 {
@@ -16,7 +69,8 @@ pub fn room(s: &[u8], at: usize, n: usize) -> bool
     at <= s.len() - n
 }
 
-fn wide(x: u8) -> u32
+// A byte as a wider number.
+pub fn wide(x: u8) -> u32
     ensures { λ r. ⌜ (r ≡ x) × (r < 256) ⌝ }
 {
     x as u32

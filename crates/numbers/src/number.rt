@@ -1,5 +1,5 @@
-// Rational numbers: rug's `Rational` as two machine numbers. A number is n/d in lowest terms, d at least 1, |n| and d at
-// most 2147483647. An operation that can leave this range answers `Checked`; `neg`, `abs` and `floor` cannot.
+// Rational numbers: rug's `Rational` as two machine numbers. A number is n/d in lowest terms, d at least 1, |n| and d
+// at most 2147483647. An operation that can leave this range answers `Checked`; `neg`, `abs` and `floor` cannot.
 ghost use mathlib.Core.Path.{_≡_};
 ghost use lib.IntN.{natAbs, pos};
 ghost use lib.Signed.{_<ℤ_};

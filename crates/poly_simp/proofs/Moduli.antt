@@ -1,4 +1,4 @@
--- Polynomials modulo 2^w: a number as the code makes it, all coefficients of an area, and an area of a tower. The loop
+-- Polynomials modulo 2^w: a number as the code makes it, all coefficients of an area, and an area of a stack. The loop
 -- over the coefficients has the first k of them reduced (`Reducing`).
 use mathlib.Core.Path.{_≡_, refl, sym, ap, subst, _∙_}
 use mathlib.Core.Bool.{true, false}
@@ -24,11 +24,11 @@ use Rattle.numbers.proofs.Ranges.{num, makes}
 use Rattle.rules.specs.IndexMap.{Map}
 use Rattle.polynomial.specs.Polynomial.{Monomial}
 use Rattle.poly_simp.specs.PolySimp.{moduloAll}
-use Rattle.polynomial.specs.PolynomialArea.{noEntry, keyAt, putEntry, Held, Poly}
-use Rattle.poly_simp.specs.PolynomialSteps.{modulus, reducedBy, ReducedLeft}
+use Rattle.polynomial.specs.memory.PolynomialArea.{noEntry, keyAt, putEntry, Held, Poly}
+use Rattle.poly_simp.specs.memory.PolynomialSteps.{modulus, reducedBy, ReducedLeft}
 use Rattle.rules.proofs.CheckedNumbers.{whole-proper}
 use Rattle.polynomial.proofs.StoredMonomials.{read-key, read-value, write-value}
-use Rattle.polynomial.proofs.TowerAreas.{lent-held, lent-put}
+use Rattle.polynomial.proofs.StackAreas.{lent-held, lent-put}
 
 -- ---- a number
 
@@ -135,7 +135,7 @@ module _ {w₀ : Bytes} {n m : ℕ} {w : Bytes} {k : ℕ} (i : Reducing w₀ n m
       let all : partly m k p ≡ moduloAll m p = rw (take-all k p over, drop-of-length-le p {i = k} over, append-nil) in
       subst (λ z. Held b w z) all (i .held b p held long)
 
--- ---- an area of a tower
+-- ---- an area of a stack
 
 -- the modulus of a bit-vector sort, as the shift makes it
 module _ (sort : ℕ) (most : sort ≤ 33) {m : ℕ} (is : m ≡ 1 * 2 ^ (sort - 3) % 18446744073709551616) where

@@ -1,5 +1,5 @@
 -- `poly_simp` on a prepared work area: the equality's sides are records of the book, its sort is found in the work
--- area, and what stands behind the sorts is lent as an empty tower and comes back as it was.
+-- area, and what stands behind the sorts is lent as an empty stack and comes back as it was.
 use mathlib.Core.Path.{_≡_, refl, sym, ap, subst, _∙_}
 use mathlib.Core.Bool.{true}
 use mathlib.Core.List.{List, [], _∷_, _++_}
@@ -22,7 +22,7 @@ use Rattle.terms.specs.declared.term.Two.the-variants as two
 use Rattle.terms.proofs.BookTerms.{recordNumber-tree}
 use Rattle.terms.proofs.Readings.{binary-shape}
 use Rattle.terms.proofs.RecordReadings.{argumentsOf-record}
-use Rattle.terms.proofs.Records.{earlier-before}
+use Rattle.terms.proofs.RecordBytes.{earlier-before}
 use Rattle.numbers.proofs.Truths.{both}
 use Rattle.rules.specs.Refusal.{Refusal, _>>=_, assert, number}
 use Rattle.rules.specs.Refusal.Outcome.{ok, refused}
@@ -30,12 +30,12 @@ use Rattle.rules.specs.Refusal.Refusal.{polynomialsNotEqual}
 use Rattle.rules.specs.Limits.{Limits}
 use Rattle.rules.specs.IndexMap.{sub}
 use Rattle.rules.specs.Shapes.{Clause, onlyLiteral, binaryErr}
-use Rattle.rules.specs.ShapeRecords.{pairOf}
-use Rattle.rules.specs.Parts.{named, numbersIn, Inside, verdictOf, Laid, Ready}
+use Rattle.rules.specs.memory.ShapeRecords.{pairOf}
+use Rattle.rules.specs.memory.Parts.{named, numbersIn, Inside, verdictOf, Laid, Ready}
 use Rattle.polynomial.specs.Polynomial.{Polynomial, monomials, isNought}
 use Rattle.polynomial_walk.specs.PolynomialTerms.{fromTerm}
 use Rattle.poly_simp.specs.PolySimp.{reduced, polySimp}
-use Rattle.poly_simp.specs.PolynomialSteps.{reducedBy, differs, equalSides}
+use Rattle.poly_simp.specs.memory.PolynomialSteps.{reducedBy, differs, equalSides}
 use Rattle.rules.specs.declared.verdict.Verdict.{Verdict}
 use Rattle.rules.specs.declared.verdict.Verdict.the-variants as verdict
 use Rattle.rules.proofs.ArgumentsBelow.{args-below}

@@ -24,7 +24,7 @@ use Rattle.terms.proofs.SortRules.{Wide, either}
 use Rattle.terms.proofs.WellFormed.{operates}
 use Rattle.polynomial.specs.Polynomial.{Polynomial}
 use Rattle.poly_simp.specs.PolySimp.{reduced}
-use Rattle.poly_simp.specs.PolynomialSteps.{reducedBy}
+use Rattle.poly_simp.specs.memory.PolynomialSteps.{reducedBy}
 
 abbrev Small : Sort → Type 0
 Small s = sortCode s ≤ 33

@@ -18,37 +18,38 @@ use Rattle.rules.specs.Refusal.Refusal.{numberRange}
 use Rattle.rules.specs.Limits.{limited, plus}
 use Rattle.rules.specs.IndexMap.{Map, insert, insertAll, negAll, add, neg, sub}
 use Rattle.polynomial.specs.Polynomial.{Monomial, monomials}
-use Rattle.rules.specs.Parts.{Refuses}
-use Rattle.polynomial.specs.PolynomialArea as area
-use Rattle.polynomial.specs.PolynomialArea.{noEntry, keyAt, partAt, Few, Key, Held, Towers, EntersAt, enterTurned, Poly}
-use Rattle.polynomial.specs.PolynomialArea.{PolyHas, polyWith}
-use Rattle.polynomial.specs.declared.monomials.Entered.{Entered}
-use Rattle.polynomial.specs.declared.monomials.Entered.the-variants as entered
-use Rattle.polynomial.specs.declared.polynomial.Made.{Made}
-use Rattle.polynomial.specs.declared.polynomial.Made.the-variants as made
+use Rattle.rules.specs.memory.Parts.{Refuses}
+use Rattle.polynomial.specs.memory.PolynomialArea as area
+use Rattle.polynomial.specs.memory.PolynomialArea.{noEntry, keyAt, partAt, Few, Key, Held, Stacked, InsertsAt, Poly}
+use Rattle.polynomial.specs.memory.PolynomialArea.{enterTurned, PolyHas, polyWith, insertedRefusal}
+use Rattle.polynomial.specs.declared.monomials.Inserted.{Inserted}
+use Rattle.polynomial.specs.declared.monomials.Inserted.the-variants as inserted
+use Rattle.polynomial.specs.declared.polynomial.Combined.{Combined}
+use Rattle.polynomial.specs.declared.polynomial.Combined.the-variants as combined
 use Rattle.rules.proofs.CheckedNumbers.{plus-value, plus-out}
 use Rattle.polynomial.proofs.ProductEntries.{key-there, value-there}
-use Rattle.polynomial.proofs.TowerAreas.{tower-part, tower-less}
+use Rattle.polynomial.proofs.StackAreas.{stack-part, stack-less}
 use Rattle.rules.proofs.Results.{refused-then}
+use Rattle.rules.proofs.Results.{coded}
 
 -- ---- one entry
 
 -- w has the areas p and q; entering an entry of q into p leaves w′
-abbrev pub EntersTurned : Bytes → Bytes → Entered → ℕ → ℕ → Type 0
+abbrev pub EntersTurned : Bytes → Bytes → Inserted → ℕ → ℕ → Type 0
 EntersTurned w w′ r k m =
-    (b : Bytes) (p q : Map Monomial) → Towers b w (p ∷ q ∷ []) → k < length q → m ≡ length p → (l : ℕ) →
-    EntersAt b w′ (p ∷ q ∷ []) 0 r (enterTurned (limited l) (getD q k noEntry) p)
+    (b : Bytes) (p q : Map Monomial) → Stacked b w (p ∷ q ∷ []) → k < length q → m ≡ length p → (l : ℕ) →
+    InsertsAt b w′ (p ∷ q ∷ []) 0 r (enterTurned (limited l) (getD q k noEntry) p)
 
 pub enters-turned :
-    {w x y key w′ : Bytes} {k m : ℕ} {v u : Rational} {r : Entered} → x ≡ partAt 1 w → key ≡ keyAt x k →
+    {w x y key w′ : Bytes} {k m : ℕ} {v u : Rational} {r : Inserted} → x ≡ partAt 1 w → key ≡ keyAt x k →
     y ≡ partAt 1 w → v ≡ numberAt y (25 * k + 17) → u ≡ negQ v →
-    ((b : Bytes) (ms : List (Map Monomial)) (n : Monomial) → Towers b w ms → 0 < length ms →
+    ((b : Bytes) (ms : List (Map Monomial)) (n : Monomial) → Stacked b w ms → 0 < length ms →
     m ≡ length (getD ms 0 []) → Key b key n → (l : ℕ) →
-    EntersAt b w′ ms 0 r (insert monomials (limited l) (getD ms 0 []) n u)) →
+    InsertsAt b w′ ms 0 r (insert monomials (limited l) (getD ms 0 []) n u)) →
     EntersTurned w w′ r k m
 unfolding enterTurned
 enters-turned {w} {key = key} {k = k} {u = u} is-x is-key is-y is-v is-u made b p q t among size l =
-    let held : Held b (partAt 1 w) q = tower-part t 1 (omega arith) in
+    let held : Held b (partAt 1 w) q = stack-part t 1 (omega arith) in
     let named : Key b key (getD q k noEntry .0) = rw (is-key, is-x) (key-there q held k among) in
     let value : u ≡ negQ (getD q k noEntry .1) = is-u ∙ ap negQ (is-v ∙ rw is-y (value-there q held k among)) in
     rw value at (made b (p ∷ q ∷ []) (getD q k noEntry .0) t (omega arith) size named l)
@@ -58,7 +59,7 @@ enters-turned {w} {key = key} {k = k} {u = u} is-x is-key is-y is-v is-u made b 
 -- area 0 has len entries; entering those of q from k on into them makes d
 pub record Left (b w : Bytes) (q : Map Monomial) (len k l : ℕ) (d : Result (Map Monomial)) : Type 0 where
   pub map : Map Monomial
-  pub held : Towers b w (map ∷ q ∷ [])
+  pub held : Stacked b w (map ∷ q ∷ [])
   pub size : len ≡ length map
   pub is : insertAll monomials (limited l) map (negAll (drop k q)) ≡ d
 
@@ -79,13 +80,13 @@ module _
     {b w : Bytes} {q map : Map Monomial} (l k : ℕ) {first d : Result (Map Monomial)}
     (then : (first >>= λ m. insertAll monomials (limited l) m (negAll (drop k q))) ≡ d) where
   left-more :
-      {len : ℕ} → EntersAt b w (map ∷ q ∷ []) 0 (entered.Length len) first → Left b w q len k l d
+      {len : ℕ} → InsertsAt b w (map ∷ q ∷ []) 0 (inserted.Length len) first → Left b w q len k l d
   unfolding _>>=_
   left-more e = record { map = e .map; held = e .held; size = e .is .1; is = rw (e .is .0) at then }
 
   left-refused :
-      {c : ℕ} {p : Map Monomial} → EntersAt b w (map ∷ q ∷ []) 0 (entered.Refused c) first →
-      EntersAt b w (p ∷ q ∷ []) 0 (entered.Refused c) d
+      {c : ℕ} {p : Map Monomial} → InsertsAt b w (map ∷ q ∷ []) 0 (inserted.Refused c) first →
+      InsertsAt b w (p ∷ q ∷ []) 0 (inserted.Refused c) d
   left-refused {c} e =
       record {
         map = e .map;
@@ -94,17 +95,17 @@ module _
       }
 
 -- all n entries of area 1 are entered into the m of area 0
-abbrev pub TurnsAll : Bytes → Bytes → Entered → ℕ → ℕ → Type 0
+abbrev pub TurnsAll : Bytes → Bytes → Inserted → ℕ → ℕ → Type 0
 TurnsAll w w′ r n m =
-    (b : Bytes) (p q : Map Monomial) → Towers b w (p ∷ q ∷ []) → n ≡ length q → m ≡ length p → (l : ℕ) →
-    EntersAt b w′ (p ∷ q ∷ []) 0 r (insertAll monomials (limited l) p (negAll q))
+    (b : Bytes) (p q : Map Monomial) → Stacked b w (p ∷ q ∷ []) → n ≡ length q → m ≡ length p → (l : ℕ) →
+    InsertsAt b w′ (p ∷ q ∷ []) 0 r (insertAll monomials (limited l) p (negAll q))
 
 pub record Turning (w₀ : Bytes) (n m : ℕ) (w : Bytes) (len k : ℕ) : Type 0 where
   pub inside : k ≤ n
   pub few : len ≤ 64
   pub size : length w ≡ length w₀
   pub left :
-      (b : Bytes) (p q : Map Monomial) → Towers b w₀ (p ∷ q ∷ []) → n ≡ length q → m ≡ length p → (l : ℕ) →
+      (b : Bytes) (p q : Map Monomial) → Stacked b w₀ (p ∷ q ∷ []) → n ≡ length q → m ≡ length p → (l : ℕ) →
       Left b w q len k l (insertAll monomials (limited l) p (negAll q))
 
 pub turning-none : {w₀ : Bytes} {n m : ℕ} → m ≤ 64 → Turning w₀ n m w₀ m 0
@@ -121,17 +122,18 @@ module _ {w₀ : Bytes} {n m : ℕ} {w : Bytes} {len k : ℕ} (i : Turning w₀ 
       (h : k < n)
       {w′ : Bytes}
       (same : length w′ ≡ length w)
-      {r : Entered}
+      {r : Inserted}
       (few : Few r)
       (made : EntersTurned w w′ r k len) where
-    pub turning-refused : {c : ℕ} → r ≡ entered.Refused c → TurnsAll w₀ w′ (entered.Refused c) n m
+    pub turning-refused : {c : ℕ} → r ≡ inserted.Refused c → TurnsAll w₀ w′ r n m
     turning-refused e b p q t long size l =
         let left = i .left b p q t long size l in
         let among : k < length q = omega arith in
-        left-refused l (k + 1) (sym (first-turned l k (left .map) q among) ∙ left .is)
-        (rw e at (made b (left .map) q (left .held) among (left .size) l))
+        subst (λ (r : Inserted). InsertsAt b w′ (p ∷ q ∷ []) 0 r (insertAll monomials (limited l) p (negAll q))) (sym e)
+        (left-refused l (k + 1) (sym (first-turned l k (left .map) q among) ∙ left .is)
+        (rw e at (made b (left .map) q (left .held) among (left .size) l)))
 
-    pub turning-more : {longer : ℕ} → r ≡ entered.Length longer → Turning w₀ n m w′ longer (k + 1)
+    pub turning-more : {longer : ℕ} → r ≡ inserted.Length longer → Turning w₀ n m w′ longer (k + 1)
     turning-more e =
         record {
           inside = omega arith;
@@ -145,7 +147,7 @@ module _ {w₀ : Bytes} {n m : ℕ} {w : Bytes} {len k : ℕ} (i : Turning w₀ 
               (rw e at (made b (left .map) q (left .held) among (left .size) l));
         }
 
-  pub turning-done : n ≤ k → (len ≤ 64) × TurnsAll w₀ w (entered.Length len) n m
+  pub turning-done : n ≤ k → (len ≤ 64) × TurnsAll w₀ w (inserted.Length len) n m
   turning-done h = (
     i .few,
     λ b p q t long size l.
@@ -163,33 +165,34 @@ module _ {w₀ : Bytes} {n m : ℕ} {w : Bytes} {len k : ℕ} (i : Turning w₀ 
 -- area j of n entries is emptied
 abbrev pub Clears : ℕ → ℕ → Bytes → Bytes → Type 0
 Clears j n w w′ =
-    (b : Bytes) (ms : List (Map Monomial)) → Towers b w ms → j < length ms → n ≡ length (getD ms j []) →
-    Towers b w′ (set ms j [])
+    (b : Bytes) (ms : List (Map Monomial)) → Stacked b w ms → j < length ms → n ≡ length (getD ms j []) →
+    Stacked b w′ (set ms j [])
 
-abbrev pub Subtracts : Bytes → Bytes → Poly → Poly → Made → Type 0
+abbrev pub Subtracts : Bytes → Bytes → Poly → Poly → Combined → Type 0
 Subtracts w w′ p q r =
-    (b : Bytes) (u v : Map Monomial) → Towers b w (u ∷ v ∷ []) → PolyHas p u → PolyHas q v → (l : ℕ) →
-    area.Makes b w′ r (sub monomials (limited l) (polyWith p u) (polyWith q v))
+    (b : Bytes) (u v : Map Monomial) → Stacked b w (u ∷ v ∷ []) → PolyHas p u → PolyHas q v → (l : ℕ) →
+    area.Combines b w′ r (sub monomials (limited l) (polyWith p u) (polyWith q v))
 
 -- the entries of area 1 are entered, and then it is emptied
 module _
-    {w₀ w w′ : Bytes} (p q : Poly) {r : Entered} (turned : TurnsAll w₀ w r (q .len) (p .len))
+    {w₀ w w′ : Bytes} (p q : Poly) {r : Inserted} (turned : TurnsAll w₀ w r (q .len) (p .len))
     (cleared : Clears 1 (q .len) w w′) where
-  pub sub-refused : {code : ℕ} → r ≡ entered.Refused code → Subtracts w₀ w′ p q (made.Refused code)
+  pub sub-refused :
+      {c code : ℕ} → r ≡ inserted.Refused c → code ≡ insertedRefusal r → Subtracts w₀ w′ p q (combined.Refused code)
   unfolding sub add neg
-  sub-refused e b u v t has has′ l =
+  sub-refused e k b u v t has has′ l =
       let left = rw e at (turned b u v t (has′ .size) (has .size) l) in
       record {
         map = left .map;
-        held = tower-less (left .map ∷ []) (cleared b _ (left .held) (omega arith) (has′ .size));
-        is = (refused-then _ (left .is .0), left .is .1);
+        held = stack-less (left .map ∷ []) (cleared b _ (left .held) (omega arith) (has′ .size));
+        is = (refused-then _ (coded (k ∙ ap insertedRefusal e) (left .is .0)), left .is .1);
       }
 
   module _
-      {len : ℕ} (is : r ≡ entered.Length len) {a : Checked} {d : Rational} (opposite : d ≡ negQ (q .constant))
+      {len : ℕ} (is : r ≡ inserted.Length len) {a : Checked} {d : Rational} (opposite : d ≡ negQ (q .constant))
       (gives : Gives a (checked (addQ (p .constant) d))) where
     pub sub-made :
-        {c : Rational} → a ≡ answer.Value c → Subtracts w₀ w′ p q (made.Is (record { len = len; constant = c }))
+        {c : Rational} → a ≡ answer.Value c → Subtracts w₀ w′ p q (combined.Is (record { len = len; constant = c }))
     unfolding sub add neg _>>=_
     sub-made {c} e b u v t has has′ l =
         let left = rw is at (turned b u v t (has′ .size) (has .size) l) in
@@ -197,17 +200,17 @@ module _
         rw (sym opposite) (plus-value l (p .constant) d c (sym (gives .is) ∙ e)) in
         record {
           map = left .map;
-          held = tower-less (left .map ∷ []) (cleared b _ (left .held) (omega arith) (has′ .size));
+          held = stack-less (left .map ∷ []) (cleared b _ (left .held) (omega arith) (has′ .size));
           is = (rw (left .is .0, sum), record { size = left .is .1; proper = gives .proper c e });
         }
 
-    pub sub-out : a ≡ answer.OutOfRange → {w″ : Bytes} → Clears 0 len w′ w″ → Subtracts w₀ w″ p q (made.Refused 11)
+    pub sub-out : a ≡ answer.OutOfRange → {w″ : Bytes} → Clears 0 len w′ w″ → Subtracts w₀ w″ p q (combined.Refused 11)
     unfolding sub add neg _>>=_
     sub-out e empty b u v t has has′ l =
         let left = rw is at (turned b u v t (has′ .size) (has .size) l) in
         let sum : plus (limited l) (p .constant) (negQ (q .constant)) ≡ refused numberRange =
         rw (sym opposite) (plus-out l (p .constant) d (sym (gives .is) ∙ e)) in
-        let one = tower-less (left .map ∷ []) (cleared b _ (left .held) (omega arith) (has′ .size)) in
+        let one = stack-less (left .map ∷ []) (cleared b _ (left .held) (omega arith) (has′ .size)) in
         record {
           map = [];
           held = empty b _ one (omega arith) (left .is .1);

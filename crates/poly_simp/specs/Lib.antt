@@ -1,3 +1,2 @@
 pub mod PolySimp
-pub mod PolynomialSteps
-pub mod PolynomialRel
+pub mod memory

@@ -1,5 +1,5 @@
 -- Rules 7 and 8 on one step, src/checker/rules/polynomial.rs, line by line in the Rust's order.
-use mathlib.Core.Bool.{Bool, _&&_, _||_, not, Bool·beq}
+use mathlib.Core.Bool.{_&&_, _||_, not, Bool·beq}
 use mathlib.Core.List.{List, [], _∷_}
 use mathlib.Core.Option.{Option, some, none}
 use Prim.Native.Nat.{ℕ, _%_, _^_}
@@ -11,15 +11,12 @@ use Rattle.terms.specs.Operator.{Equals, Sub, Mult, ToReal, BvSub, BvMul}
 use Rattle.terms.specs.Term.{Sort, Term, Terms, sort, unary, binary}
 use Rattle.terms.specs.Term.Sort.{bool, int, real, bits}
 use Rattle.terms.specs.Term.Terms.{nil, _▹_}
-use Rattle.terms.specs.Readers.{asBitvector, asOp}
-use Rattle.terms.specs.declared.term.BitVector.{BitVector}
-use Rattle.terms.specs.declared.term.BitVector.the-variants.{Bits, NotBitvector}
 use Rattle.rules.specs.Refusal.{Result, _>>=_, assert, orElse}
 use Rattle.rules.specs.Refusal.Outcome.{ok, refused}
 use Rattle.rules.specs.Refusal.Refusal.{wrongNumberOfPremises, wrongLengthOfPremiseClause, polynomialsNotEqual}
 use Rattle.rules.specs.Refusal.Refusal.{coeffIsZero, coeffDifferentSignums, coeffEven, invalidOperators}
-use Rattle.rules.specs.Refusal.Refusal.{expectedBitvector, expectedOperationTerm, termOfWrongForm}
-use Rattle.rules.specs.Limits.{Limits, over, fractionErr}
+use Rattle.rules.specs.Refusal.Refusal.{termOfWrongForm}
+use Rattle.rules.specs.Limits.{Limits, fractionErr, bitvectorErr, opErr}
 use Rattle.rules.specs.IndexMap.{Map, combination, sub}
 use Rattle.rules.specs.Shapes.{Clause, onlyLiteral, binaryErr, isRelation, assertEq, Form, Names, matches, _≔_of_}
 use Rattle.polynomial.specs.Polynomial.{Monomial, Polynomial, isNought, monomials}
@@ -99,14 +96,15 @@ assertSides l r p = do
   _ ← assertEq (r .0) (p .3 .0)
   assertEq (r .1) (p .3 .1)
 
-abbrev pub assertOdd : BitVector → Result (Unit {0})
-assertOdd (Bits v w) = assert (eqb (v % 2) 1) coeffEven
-assertOdd NotBitvector = refused expectedBitvector
+abbrev pub assertOdd : Term → Result (Unit {0})
+assertOdd t = do
+  (c, _) ← bitvectorErr t
+  assert (eqb (c % 2) 1) coeffEven
 
 unfoldable pub bitvectorCase : Scaled → Term → Result (Unit {0})
 bitvectorCase p phi = do
-  _ ← assertOdd (asBitvector (p .0))
-  _ ← assertOdd (asBitvector (p .2))
+  _ ← assertOdd (p .0)
+  _ ← assertOdd (p .2)
   q ← orElse (equated Equals phi) termOfWrongForm
   assertSides (q .0) (q .1) p
 
@@ -124,8 +122,8 @@ numberCase l p phi = do
   _ ← assert (not (isZero c1)) coeffIsZero
   _ ← assert (not (isZero c2)) coeffIsZero
   (left, right) ← binaryErr Equals phi
-  (o1, args1) ← orElse (asOp left) expectedOperationTerm
-  (o2, args2) ← orElse (asOp right) expectedOperationTerm
+  (o1, args1) ← opErr left
+  (o2, args2) ← opErr right
   _ ← assert (isRelation o1 && eqb o1 o2) invalidOperators
   x ← operands args1
   y ← operands args2

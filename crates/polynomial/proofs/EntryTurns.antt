@@ -1,6 +1,6 @@
--- A loop over the entries of a map, each of which is worked into an area of a tower: with the first k of n entries
+-- A loop over the entries of a map, each of which is worked into an area of a stack: with the first k of n entries
 -- worked in, what is left makes the whole (`Looping`). This is the loop of `mul_each`, `mul_left` and `insert_scaled`;
--- what each of them works in, and for which towers, is a family of tasks.
+-- what each of them works in, and for which stacks, is a family of tasks.
 use mathlib.Core.Path.{_≡_, refl, sym, _∙_, ap, subst}
 use mathlib.Core.List.{List, [], _∷_}
 use Prim.Native.Nat.{ℕ, _+_, _≤_, _<_}
@@ -14,10 +14,10 @@ use Rattle.rules.specs.Refusal.{Result, _>>=_}
 use Rattle.rules.specs.Refusal.Outcome.{ok}
 use Rattle.rules.specs.IndexMap.{Map}
 use Rattle.polynomial.specs.Polynomial.{Monomial}
-use Rattle.polynomial.specs.PolynomialArea.{places, Towers, EntersAt, Few, noEntry}
-use Rattle.rules.specs.Parts.{Refuses}
-use Rattle.polynomial.specs.declared.monomials.Entered.{Entered}
-use Rattle.polynomial.specs.declared.monomials.Entered.the-variants.{Length, Refused}
+use Rattle.polynomial.specs.memory.PolynomialArea.{places, Stacked, InsertsAt, Few, noEntry}
+use Rattle.rules.specs.memory.Parts.{Refuses}
+use Rattle.polynomial.specs.declared.monomials.Inserted.{Inserted}
+use Rattle.polynomial.specs.declared.monomials.Inserted.the-variants.{Length, Refused}
 use Rattle.rules.proofs.Results.{refused-then}
 
 abbrev pub Turn : Type 0
@@ -28,7 +28,7 @@ unfoldable pub turns : Turn → Map Monomial → Map Monomial → Result (Map Mo
 turns f [] m = ok m
 turns f (e ∷ r) m = f e m >>= turns f r
 
--- all entries are to be worked into an area of a tower
+-- all entries are to be worked into an area of a stack
 pub record Task : Type 0 where
   pub book : Bytes
   pub areas : List (Map Monomial)
@@ -38,20 +38,20 @@ pub record Task : Type 0 where
   pub whole : Result (Map Monomial)
 
 -- the answer r and the bytes w are those of the task
-abbrev pub Does : Task → Bytes → Entered → Type 0
-Does t w r = EntersAt (t .book) w (t .areas) (t .into) r (t .whole)
+abbrev pub Does : Task → Bytes → Inserted → Type 0
+Does t w r = InsertsAt (t .book) w (t .areas) (t .into) r (t .whole)
 
 -- the area has len entries, and the turns from entry k on make the whole of them
 pub record Left (t : Task) (w : Bytes) (len k : ℕ) : Type 0 where
   pub map : Map Monomial
-  pub held : Towers (t .book) w (set (t .areas) (t .into) map)
+  pub held : Stacked (t .book) w (set (t .areas) (t .into) map)
   pub size : len ≡ length map
   pub is : turns (t .turn) (drop k (t .all)) map ≡ t .whole
 
 -- the turn of entry k answers r
-abbrev pub Turned : {t : Task} {w : Bytes} {len k : ℕ} → Left t w len k → Bytes → Entered → Type 0
+abbrev pub Turned : {t : Task} {w : Bytes} {len k : ℕ} → Left t w len k → Bytes → Inserted → Type 0
 Turned {t} {k = k} left w r =
-    EntersAt (t .book) w (set (t .areas) (t .into) (left .map)) (t .into) r
+    InsertsAt (t .book) w (set (t .areas) (t .into) (left .map)) (t .into) r
     (t .turn (getD (t .all) k noEntry) (left .map))
 
 module _ {t : Task} {w : Bytes} {len k : ℕ} (left : Left t w len k) where
@@ -66,9 +66,9 @@ module _ {t : Task} {w : Bytes} {len k : ℕ} (left : Left t w len k) where
 
   at-once :
       {w′ : Bytes} (m : Map Monomial) →
-      Towers (t .book) w′ (set (set (t .areas) (t .into) (left .map)) (t .into) m) →
-      Towers (t .book) w′ (set (t .areas) (t .into) m)
-  at-once {w′} m h = subst (Towers (t .book) w′) (set-set (t .areas) (t .into) (left .map) m) h
+      Stacked (t .book) w′ (set (set (t .areas) (t .into) (left .map)) (t .into) m) →
+      Stacked (t .book) w′ (set (t .areas) (t .into) m)
+  at-once {w′} m h = subst (Stacked (t .book) w′) (set-set (t .areas) (t .into) (left .map) m) h
 
   left-more :
       {w′ : Bytes} {longer : ℕ} → k < length (t .all) → Turned left w′ (Length longer) → Left t w′ longer (k + 1)
@@ -102,7 +102,7 @@ module _ {t : Task} {w : Bytes} {len k : ℕ} (left : Left t w len k) where
         );
       }
 
--- ---- the invariant: a family of tasks, since the code knows of no book and no tower
+-- ---- the invariant: a family of tasks, since the code knows of no book and no stack
 
 pub record Looping {I : Type 0} (task : I → Task) (w₀ : Bytes) (n : ℕ) (w : Bytes) (len k : ℕ) : Type 0 where
   pub inside : k ≤ n
@@ -119,7 +119,7 @@ module _ {I : Type 0} {task : I → Task} {w₀ : Bytes} {n : ℕ} where
         (h : k < n)
         (w′ : Bytes)
         (size : length w′ ≡ length w)
-        (r : Entered)
+        (r : Inserted)
         (few : Few r)
         (turned : (i : I) → Turned (loop .left i) w′ r) where
       here : (i : I) → k < length (task i .all)
@@ -134,8 +134,8 @@ module _ {I : Type 0} {task : I → Task} {w₀ : Bytes} {n : ℕ} where
             left = λ i. left-more (loop .left i) (here i) (rw e at (turned i));
           }
 
-      pub loop-refused : (c : ℕ) → r ≡ Refused c → (i : I) → Does (task i) w′ (Refused c)
-      loop-refused c e i = left-refused (loop .left i) (here i) (rw e at (turned i))
+      pub loop-refused : (c : ℕ) → r ≡ Refused c → (i : I) → Does (task i) w′ r
+      loop-refused c e i = rw e (left-refused (loop .left i) (here i) (rw e at (turned i)))
 
     pub loop-done : n ≤ k → (i : I) → Does (task i) w (Length len)
     loop-done h i = left-none (loop .left i) (subst (λ z. z ≤ k) (many i) h)

@@ -1,35 +1,46 @@
--- The loops that copy the 17 bytes of a monomial (`Copied`). The copy of `copy_key` is one at 0 from the bytes of the
--- entry, that of `put_entry` one at the entry's place.
-use mathlib.Core.Path.{_≡_, sym, ap, _∙_}
-use mathlib.Core.List.{append-assoc}
-use Prim.Native.Nat.{ℕ, _+_, _*_, _≤_, _<_}
+-- Copies of the 17 bytes of a monomial: over other 17 bytes (`copied-over`), out of an entry's place (`key-copied`), and
+-- into it, with the coefficient behind them (`entry-put`).
+use mathlib.Core.Path.{_≡_, ap, _∙_}
+use mathlib.Core.List.{append-assoc, append-nil}
+use Prim.Native.Nat.{ℕ, _+_, _*_, _-_, _≤_, _<_}
 use native.Mathlib.Omega.{arith}
-use lib.ListN.{length, getD, set, take, drop, length-drop}
-use lib.Seq.{paste, take-length, getD-drop}
+use lib.ListN.{length, take, drop, length-drop, drop-of-length-le}
+use lib.Seq.{paste, take-length, length-take-le}
 use Rattle.numbers.specs.Rational.{Rational}
 use Rattle.numbers.specs.Bytes.{Bytes, putNumber}
-use Rattle.rules.specs.StoredMaps as maps
-use Rattle.polynomial.specs.PolynomialArea.{keyAt, pasted, putEntry}
-use Rattle.polynomial.proofs.CopiedBytes.{Copied, copied-all, front-more, front-all}
+use Rattle.rules.specs.memory.StoredMaps as maps
+use Rattle.polynomial.specs.memory.PolynomialArea.{keyAt, pasted, putEntry}
+
+pub copied-over : (d s : Bytes) {w : Bytes} → length d ≡ length s → w ≡ paste d 0 s (length s) → w ≡ s
+copied-over d s same copied =
+    let short : length d ≤ 0 + length s = omega arith in
+    copied ∙ rw (drop-of-length-le d short, take-length s) (append-nil s)
+
+-- the bytes of entry k of e, as they are lent
+abbrev pub lentKey : Bytes → ℕ → Bytes
+lentKey e k = take (25 * k + 17 - 25 * k) (drop (25 * k) e)
+
+module _ (e : Bytes) (k : ℕ) (long : length e ≡ 1600) (inside : k < 64) where
+  pub key-length : length (lentKey e k) ≡ 17
+  key-length =
+      let size : 25 * k + 17 - 25 * k ≡ 17 = omega arith in
+      ap (λ n. length (take n (drop (25 * k) e))) size
+      ∙ length-take-le 17 (drop (25 * k) e) (rw length-drop (omega arith))
+
+  pub key-copied :
+      (d : Bytes) {w : Bytes} → length d ≡ 17 → w ≡ paste d 0 (lentKey e k) (length (lentKey e k)) → w ≡ keyAt e k
+  unfolding keyAt
+  key-copied d size copied =
+      let width : 25 * k + 17 - 25 * k ≡ 17 = omega arith in
+      copied-over d (lentKey e k) (omega (arith, key-length)) copied
+      ∙ ap (λ n. take n (drop (25 * k) e)) width
 
 -- the coefficient is written behind the key
 pub entry-put :
-    (k : ℕ) (q : Rational) {d s w : Bytes} {i : ℕ} (v : Bytes) → Copied 17 d (25 * k) s w i → length s ≡ 17 → 17 ≤ i →
+    (k : ℕ) (q : Rational) (d s : Bytes) {w v : Bytes} → w ≡ paste d (25 * k) s (length s) →
     v ≡ putNumber q w (25 * k + 17) → v ≡ putEntry d k s q
 unfolding maps.putEntry pasted
-entry-put k q {d} {s} v c size h e =
-    let whole : paste d (25 * k) s 17 ≡ pasted d (25 * k) s =
-    ap (paste d (25 * k) s) (sym size) ∙ rw (take-length s) (append-assoc (take (25 * k) d) s _) in
-    e ∙ ap (λ (l : Bytes). putNumber q l (25 * k + 17)) (copied-all c h ∙ whole)
-
--- the bytes of entry k of e
-module _ (e : Bytes) (k : ℕ) {d w : Bytes} {i : ℕ} (c : Copied 17 d 0 (drop (25 * k) e) w i) where
-  pub key-more :
-      length d ≡ 17 → length e ≡ 1600 → k < 64 → i < 17 →
-      Copied 17 d 0 (drop (25 * k) e) (set w i (getD e (25 * k + i) 0)) (i + 1)
-  key-more size long room h =
-      front-more c (omega arith) (rw length-drop (omega arith)) h (sym (getD-drop (25 * k) e i 0))
-
-  pub key-all : length d ≡ 17 → 17 ≤ i → w ≡ keyAt e k
-  unfolding keyAt
-  key-all = front-all c
+entry-put k q d s copied written =
+    let whole : paste d (25 * k) s (length s) ≡ pasted d (25 * k) s =
+    rw (take-length s) (append-assoc (take (25 * k) d) s _) in
+    written ∙ ap (λ (l : Bytes). putNumber q l (25 * k + 17)) (copied ∙ whole)

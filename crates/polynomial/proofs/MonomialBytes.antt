@@ -9,10 +9,10 @@ use lib.Dec.{eqb}
 use lib.ListN.{length, getD, replicate, length-append, length-replicate}
 use Rattle.numbers.specs.Bytes.{Bytes, bytesOf}
 use Rattle.terms.specs.Term.{recordNumber, same}
-use Rattle.terms.specs.Book.{sameBytes}
-use Rattle.terms.proofs.Records.{sameBytes-refl, sameBytes-false}
+use Rattle.numbers.specs.Bytes.{sameBytes}
+use Rattle.numbers.proofs.SameBytes.{sameBytes-refl, sameBytes-false}
 use Rattle.polynomial.specs.Polynomial.{Monomial, sameMonomial}
-use Rattle.polynomial.specs.PolynomialArea.{atomBytes, monomialBytes, Atoms}
+use Rattle.polynomial.specs.memory.PolynomialArea.{atomBytes, monomialBytes, Atoms}
 use Rattle.rules.proofs.NumberBytes.{length-bytesOf}
 
 -- ---- the bytes of a monomial

@@ -16,10 +16,10 @@ use Rattle.rules.specs.Refusal.Refusal.{numberRange, polynomialSize}
 use Rattle.rules.specs.Limits.{limited}
 use Rattle.rules.specs.IndexMap.{Map, insert}
 use Rattle.polynomial.specs.Polynomial.{Monomial, monomials}
-use Rattle.polynomial.specs.PolynomialArea.{places, polynomials, keysOf, place, putEntry, blanked, swapped, Key}
-use Rattle.polynomial.specs.PolynomialArea.{Good, Held, Enters}
-use Rattle.polynomial.specs.declared.monomials.Entered.{Entered}
-use Rattle.polynomial.specs.declared.monomials.Entered.the-variants.{Length, Refused}
+use Rattle.polynomial.specs.memory.PolynomialArea.{places, polynomials, keysOf, place, putEntry, blanked, swapped, Key}
+use Rattle.polynomial.specs.memory.PolynomialArea.{Good, Held, Inserts}
+use Rattle.polynomial.specs.declared.monomials.Inserted.{Inserted}
+use Rattle.polynomial.specs.declared.monomials.Inserted.the-variants.{Length, Refused}
 use Rattle.rules.proofs.FoundEntries.{Sought, Made, new-held, cleared, nowhere, sum-out, sum-gone, sum-put}
 use Rattle.rules.proofs.KeyedMaps.{insert-zero, insert-missing}
 use Rattle.rules.proofs.MapEnds.{all-map}
@@ -27,14 +27,14 @@ use Rattle.rules.proofs.Results.{refuses}
 use Rattle.polynomial.proofs.StoredMonomials.{bytes-copied, goods, good-new, same-key, entry-key}
 
 -- the answer r, where v is left of the bytes w
-abbrev pub Entering : Bytes → ℕ → Bytes → Rational → Bytes → Entered → Type 0
+abbrev pub Entering : Bytes → ℕ → Bytes → Rational → Bytes → Inserted → Type 0
 Entering w n key value v r =
     (b : Bytes) (p : Map Monomial) (m : Monomial) → Held b w p → n ≡ length p → Key b key m → (l : ℕ) →
-    Enters b v r (insert monomials (limited l) p m value)
+    Inserts b v r (insert monomials (limited l) p m value)
 
 enters :
     {b v : Bytes} {n : ℕ} {d : Result (Map Monomial)} → Made polynomials places Good b v n d →
-    Enters b v (Length n) d
+    Inserts b v (Length n) d
 enters made = record { map = made .map; held = made .held; is = (made .is, made .size) }
 
 module _ (w : Bytes) (n : ℕ) (key : Bytes) (value : Rational) where

@@ -17,9 +17,9 @@ use Rattle.rules.specs.Refusal.Refusal.{numberRange, polynomialSize}
 use Rattle.rules.specs.Limits.{limited}
 use Rattle.rules.specs.IndexMap.{Map, combination, insert}
 use Rattle.polynomial.specs.Polynomial.{Monomial, monomials, joined, mulEach, mulLeft, insertScaled}
-use Rattle.polynomial.specs.PolynomialArea.{keyAt, Key, Held, Floors, partAt, Towers, EntersAt, noEntry}
-use Rattle.polynomial.specs.PolynomialArea.{enterProduct, mulEntry, enterScaled}
-use Rattle.polynomial.specs.declared.monomials.Entered.{Entered}
+use Rattle.polynomial.specs.memory.PolynomialArea.{keyAt, Key, Held, StackHas, partAt, Stacked, InsertsAt, noEntry}
+use Rattle.polynomial.specs.memory.PolynomialArea.{enterProduct, mulEntry, enterScaled}
+use Rattle.polynomial.specs.declared.monomials.Inserted.{Inserted}
 use Rattle.rules.proofs.CheckedNumbers.{times-value, times-out}
 use Rattle.polynomial.proofs.AtomPlaces.{key-count}
 use Rattle.polynomial.proofs.StoredMonomials.{read-key, read-value}
@@ -28,51 +28,51 @@ use Rattle.polynomial.proofs.StoredMonomials.{read-key, read-value}
 
 abbrev pub ClearSays : Bytes → ℕ → ℕ → Bytes → Type 0
 ClearSays w j n w′ =
-    (b : Bytes) (ms : List (Map Monomial)) → Towers b w ms → j < length ms → n ≡ length (getD ms j []) →
-    Towers b w′ (set ms j [])
+    (b : Bytes) (ms : List (Map Monomial)) → Stacked b w ms → j < length ms → n ≡ length (getD ms j []) →
+    Stacked b w′ (set ms j [])
 
-abbrev pub InsertSays : Bytes → ℕ → ℕ → Bytes → Rational → Bytes → Entered → Type 0
+abbrev pub InsertSays : Bytes → ℕ → ℕ → Bytes → Rational → Bytes → Inserted → Type 0
 InsertSays w j n key value w′ r =
-    (b : Bytes) (ms : List (Map Monomial)) (x : Monomial) → Towers b w ms → j < length ms →
+    (b : Bytes) (ms : List (Map Monomial)) (x : Monomial) → Stacked b w ms → j < length ms →
     n ≡ length (getD ms j []) → Key b key x → (l : ℕ) →
-    EntersAt b w′ ms j r (insert monomials (limited l) (getD ms j []) x value)
+    InsertsAt b w′ ms j r (insert monomials (limited l) (getD ms j []) x value)
 
-abbrev pub ProductSays : Bytes → Bytes → Rational → ℕ → ℕ → Bytes → Entered → Type 0
+abbrev pub ProductSays : Bytes → Bytes → Rational → ℕ → ℕ → Bytes → Inserted → Type 0
 ProductSays w x c k m w′ r =
-    (b : Bytes) (p q s : Map Monomial) (y : Monomial) → Towers b w (p ∷ q ∷ s ∷ []) → k < length q → m ≡ length s →
+    (b : Bytes) (p q s : Map Monomial) (y : Monomial) → Stacked b w (p ∷ q ∷ s ∷ []) → k < length q → m ≡ length s →
     Key b x y → (l : ℕ) →
-    EntersAt b w′ (p ∷ q ∷ s ∷ []) 2 r (enterProduct (limited l) y c (getD q k noEntry) s)
+    InsertsAt b w′ (p ∷ q ∷ s ∷ []) 2 r (enterProduct (limited l) y c (getD q k noEntry) s)
 
-abbrev pub EachSays : Bytes → Bytes → Rational → ℕ → ℕ → Bytes → Entered → Type 0
+abbrev pub EachSays : Bytes → Bytes → Rational → ℕ → ℕ → Bytes → Inserted → Type 0
 EachSays w x c n m w′ r =
-    (b : Bytes) (p q s : Map Monomial) (y : Monomial) → Towers b w (p ∷ q ∷ s ∷ []) → n ≡ length q → m ≡ length s →
-    Key b x y → (l : ℕ) → EntersAt b w′ (p ∷ q ∷ s ∷ []) 2 r (mulEach (limited l) y c q s)
+    (b : Bytes) (p q s : Map Monomial) (y : Monomial) → Stacked b w (p ∷ q ∷ s ∷ []) → n ≡ length q → m ≡ length s →
+    Key b x y → (l : ℕ) → InsertsAt b w′ (p ∷ q ∷ s ∷ []) 2 r (mulEach (limited l) y c q s)
 
-abbrev pub EntrySays : Bytes → ℕ → ℕ → Rational → ℕ → Bytes → Entered → Type 0
+abbrev pub EntrySays : Bytes → ℕ → ℕ → Rational → ℕ → Bytes → Inserted → Type 0
 EntrySays w k n constant m w′ r =
-    (b : Bytes) (p q s : Map Monomial) → Towers b w (p ∷ q ∷ s ∷ []) → k < length p → n ≡ length q → m ≡ length s →
-    (l : ℕ) → EntersAt b w′ (p ∷ q ∷ s ∷ []) 2 r (mulEntry (limited l) (getD p k noEntry) (combination q constant) s)
+    (b : Bytes) (p q s : Map Monomial) → Stacked b w (p ∷ q ∷ s ∷ []) → k < length p → n ≡ length q → m ≡ length s →
+    (l : ℕ) → InsertsAt b w′ (p ∷ q ∷ s ∷ []) 2 r (mulEntry (limited l) (getD p k noEntry) (combination q constant) s)
 
-abbrev pub LeftSays : Bytes → ℕ → ℕ → Rational → Bytes → Entered → Type 0
+abbrev pub LeftSays : Bytes → ℕ → ℕ → Rational → Bytes → Inserted → Type 0
 LeftSays w p n constant w′ r =
-    (b : Bytes) (u q : Map Monomial) → Towers b w (u ∷ q ∷ [] ∷ []) → p ≡ length u → n ≡ length q → (l : ℕ) →
-    EntersAt b w′ (u ∷ q ∷ [] ∷ []) 2 r (mulLeft (limited l) u (combination q constant) [])
+    (b : Bytes) (u q : Map Monomial) → Stacked b w (u ∷ q ∷ [] ∷ []) → p ≡ length u → n ≡ length q → (l : ℕ) →
+    InsertsAt b w′ (u ∷ q ∷ [] ∷ []) 2 r (mulLeft (limited l) u (combination q constant) [])
 
-abbrev pub ScaledSays : Bytes → ℕ → ℕ → Rational → ℕ → ℕ → Bytes → Entered → Type 0
+abbrev pub ScaledSays : Bytes → ℕ → ℕ → Rational → ℕ → ℕ → Bytes → Inserted → Type 0
 ScaledSays w j k q t m w′ r =
-    (b : Bytes) (ms : List (Map Monomial)) → Towers b w ms → j < length ms → t < length ms → j ≢ t →
+    (b : Bytes) (ms : List (Map Monomial)) → Stacked b w ms → j < length ms → t < length ms → j ≢ t →
     k < length (getD ms j []) → m ≡ length (getD ms t []) → (l : ℕ) →
-    EntersAt b w′ ms t r (enterScaled (limited l) (getD (getD ms j []) k noEntry) q (getD ms t []))
+    InsertsAt b w′ ms t r (enterScaled (limited l) (getD (getD ms j []) k noEntry) q (getD ms t []))
 
-abbrev pub AllScaledSays : Bytes → ℕ → ℕ → Rational → ℕ → ℕ → Bytes → Entered → Type 0
+abbrev pub AllScaledSays : Bytes → ℕ → ℕ → Rational → ℕ → ℕ → Bytes → Inserted → Type 0
 AllScaledSays w j n q t m w′ r =
-    (b : Bytes) (ms : List (Map Monomial)) → Towers b w ms → j < length ms → t < length ms → j ≢ t →
+    (b : Bytes) (ms : List (Map Monomial)) → Stacked b w ms → j < length ms → t < length ms → j ≢ t →
     n ≡ length (getD ms j []) → m ≡ length (getD ms t []) → (l : ℕ) →
-    EntersAt b w′ ms t r (insertScaled (limited l) (getD ms j []) q (getD ms t []))
+    InsertsAt b w′ ms t r (insertScaled (limited l) (getD ms j []) q (getD ms t []))
 
 -- ---- reading
 
-pub part-length : (j : ℕ) (w : Bytes) → Floors j w → length (partAt j w) ≡ 1600
+pub part-length : (j : ℕ) (w : Bytes) → StackHas j w → length (partAt j w) ≡ 1600
 unfolding partAt
 part-length j w h =
     let rest = length-drop (1600 * j) w in

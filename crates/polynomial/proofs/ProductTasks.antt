@@ -1,4 +1,4 @@
--- The tasks of the loops of `mul_each`, `mul_left` and `insert_scaled`, for the loop of EntryTurns: for which towers
+-- The tasks of the loops of `mul_each`, `mul_left` and `insert_scaled`, for the loop of EntryTurns: for which stacks
 -- each of them promises something, and that a turn is what the called function promises.
 use mathlib.Core.Path.{_≡_, refl, sym, _∙_, subst}
 use mathlib.Core.Logic.{_≢_}
@@ -15,9 +15,9 @@ use Rattle.rules.specs.Refusal.Refusal.{polynomialSize}
 use Rattle.rules.specs.Limits.{Limits, limited, times}
 use Rattle.rules.specs.IndexMap.{Map, combination, insert}
 use Rattle.polynomial.specs.Polynomial.{Monomial, Polynomial, monomials, joined, mulEach, mulLeft, insertScaled}
-use Rattle.polynomial.specs.PolynomialArea.{places, Key, Towers, Few, enterProduct, mulEntry, enterScaled}
-use Rattle.polynomial.specs.declared.monomials.Entered.{Entered}
-use Rattle.polynomial.specs.declared.monomials.Entered.the-variants.{Length, Refused}
+use Rattle.polynomial.specs.memory.PolynomialArea.{places, Key, Stacked, Few, enterProduct, mulEntry, enterScaled}
+use Rattle.polynomial.specs.declared.monomials.Inserted.{Inserted}
+use Rattle.polynomial.specs.declared.monomials.Inserted.the-variants.{Length, Refused}
 use Rattle.rules.proofs.Results.{bind-assoc, bind-same}
 use Rattle.polynomial.proofs.EntryTurns.{turns, Task, Does, Turned, Looping, loop-begin, loop-more, loop-refused}
 use Rattle.polynomial.proofs.EntryTurns.{loop-done}
@@ -44,7 +44,7 @@ pub record EachCase (w₀ x : Bytes) (c : Rational) (n m : ℕ) : Type 0 where
   pub right : Map Monomial
   pub map : Map Monomial
   pub monomial : Monomial
-  pub tower : Towers book w₀ (left ∷ right ∷ map ∷ [])
+  pub stack : Stacked book w₀ (left ∷ right ∷ map ∷ [])
   pub many : n ≡ length right
   pub size : m ≡ length map
   pub key : Key book x monomial
@@ -71,21 +71,21 @@ module _ {w₀ x : Bytes} {c : Rational} {n m : ℕ} where
       loop-begin few λ i.
       record {
         map = i .map;
-        held = i .tower;
+        held = i .stack;
         size = i .size;
         is = each-turns (limited (i .limit)) (i .monomial) c (i .right) (i .map);
       }
 
   told :
-      {w : Bytes} {r : Entered} → ((i : EachCase w₀ x c n m) → Does (eachTask i) w r) → EachSays w₀ x c n m w r
-  told does b p q s y tower many size key l =
+      {w : Bytes} {r : Inserted} → ((i : EachCase w₀ x c n m) → Does (eachTask i) w r) → EachSays w₀ x c n m w r
+  told does b p q s y stack many size key l =
       does (record {
         book = b;
         left = p;
         right = q;
         map = s;
         monomial = y;
-        tower = tower;
+        stack = stack;
         many = many;
         size = size;
         key = key;
@@ -97,7 +97,7 @@ module _ {w₀ x : Bytes} {c : Rational} {n m : ℕ} where
         (h : k < n)
         (w′ : Bytes)
         (size : length w′ ≡ length w)
-        (r : Entered)
+        (r : Inserted)
         (few : Few r)
         (says : ProductSays w x c k len w′ r) where
       turned : (i : EachCase w₀ x c n m) → Turned (loop .left i) w′ r
@@ -109,7 +109,7 @@ module _ {w₀ x : Bytes} {c : Rational} {n m : ℕ} where
       pub each-more : (longer : ℕ) → r ≡ Length longer → Multiplying w₀ x c n m w′ longer (k + 1)
       each-more = loop-more (λ i. i .many) loop h w′ size r few turned
 
-      pub each-refused : (code : ℕ) → r ≡ Refused code → EachSays w₀ x c n m w′ (Refused code)
+      pub each-refused : (code : ℕ) → r ≡ Refused code → EachSays w₀ x c n m w′ r
       each-refused code e = told (loop-refused (λ i. i .many) loop h w′ size r few turned code e)
 
     pub each-done : n ≤ k → EachSays w₀ x c n m w (Length len)
@@ -133,7 +133,7 @@ pub record LeftCase (w₀ : Bytes) (p n : ℕ) (constant : Rational) : Type 0 wh
   pub book : Bytes
   pub left : Map Monomial
   pub right : Map Monomial
-  pub tower : Towers book w₀ (left ∷ right ∷ [] ∷ [])
+  pub stack : Stacked book w₀ (left ∷ right ∷ [] ∷ [])
   pub many : p ≡ length left
   pub size : n ≡ length right
   pub limit : ℕ
@@ -159,23 +159,23 @@ module _ {w₀ : Bytes} {p n : ℕ} {constant : Rational} where
       loop-begin (omega arith) λ i.
       record {
         map = [];
-        held = i .tower;
+        held = i .stack;
         size = refl;
         is = left-turns (limited (i .limit)) (i .left) (combination (i .right) constant) [];
       }
 
   told-left :
-      {w : Bytes} {r : Entered} → ((i : LeftCase w₀ p n constant) → Does (leftTask i) w r) →
+      {w : Bytes} {r : Inserted} → ((i : LeftCase w₀ p n constant) → Does (leftTask i) w r) →
       LeftSays w₀ p n constant w r
-  told-left does b u q tower many size l =
-      does (record { book = b; left = u; right = q; tower = tower; many = many; size = size; limit = l })
+  told-left does b u q stack many size l =
+      does (record { book = b; left = u; right = q; stack = stack; many = many; size = size; limit = l })
 
   module _ {w : Bytes} {len k : ℕ} (loop : MultiplyingLeft w₀ p n constant w len k) where
     module _
         (h : k < p)
         (w′ : Bytes)
         (size : length w′ ≡ length w)
-        (r : Entered)
+        (r : Inserted)
         (few : Few r)
         (says : EntrySays w k n constant len w′ r) where
       turned-left : (i : LeftCase w₀ p n constant) → Turned (loop .left i) w′ r
@@ -187,7 +187,7 @@ module _ {w₀ : Bytes} {p n : ℕ} {constant : Rational} where
       pub left-more : (longer : ℕ) → r ≡ Length longer → MultiplyingLeft w₀ p n constant w′ longer (k + 1)
       left-more = loop-more (λ i. i .many) loop h w′ size r few turned-left
 
-      pub left-refused : (code : ℕ) → r ≡ Refused code → LeftSays w₀ p n constant w′ (Refused code)
+      pub left-refused : (code : ℕ) → r ≡ Refused code → LeftSays w₀ p n constant w′ r
       left-refused code e = told-left (loop-refused (λ i. i .many) loop h w′ size r few turned-left code e)
 
     pub left-done : p ≤ k → LeftSays w₀ p n constant w (Length len)
@@ -207,7 +207,7 @@ scaled-turns l (e ∷ r) q m =
 pub record ScaledCase (w₀ : Bytes) (j n : ℕ) (q : Rational) (t m : ℕ) : Type 0 where
   pub book : Bytes
   pub areas : List (Map Monomial)
-  pub tower : Towers book w₀ areas
+  pub stack : Stacked book w₀ areas
   pub from : j < length areas
   pub into : t < length areas
   pub apart : j ≢ t
@@ -236,19 +236,19 @@ module _ {w₀ : Bytes} {j n : ℕ} {q : Rational} {t m : ℕ} where
       loop-begin few λ i.
       record {
         map = getD (i .areas) t [];
-        held = subst (Towers (i .book) w₀) (sym (set-getD (i .areas) t [])) (i .tower);
+        held = subst (Stacked (i .book) w₀) (sym (set-getD (i .areas) t [])) (i .stack);
         size = i .size;
         is = scaled-turns (limited (i .limit)) (getD (i .areas) j []) q (getD (i .areas) t []);
       }
 
   told-scaled :
-      {w : Bytes} {r : Entered} → ((i : ScaledCase w₀ j n q t m) → Does (scaledTask i) w r) →
+      {w : Bytes} {r : Inserted} → ((i : ScaledCase w₀ j n q t m) → Does (scaledTask i) w r) →
       AllScaledSays w₀ j n q t m w r
-  told-scaled does b ms tower from into apart many size l =
+  told-scaled does b ms stack from into apart many size l =
       does (record {
         book = b;
         areas = ms;
-        tower = tower;
+        stack = stack;
         from = from;
         into = into;
         apart = apart;
@@ -262,7 +262,7 @@ module _ {w₀ : Bytes} {j n : ℕ} {q : Rational} {t m : ℕ} where
         (h : k < n)
         (w′ : Bytes)
         (size : length w′ ≡ length w)
-        (r : Entered)
+        (r : Inserted)
         (few : Few r)
         (says : ScaledSays w j k q t len w′ r) where
       turned-scaled : (i : ScaledCase w₀ j n q t m) → Turned (loop .left i) w′ r
@@ -280,7 +280,7 @@ module _ {w₀ : Bytes} {j n : ℕ} {q : Rational} {t m : ℕ} where
       pub scaling-more : (longer : ℕ) → r ≡ Length longer → Scaling w₀ j n q t m w′ longer (k + 1)
       scaling-more = loop-more (λ i. i .many) loop h w′ size r few turned-scaled
 
-      pub scaling-refused : (code : ℕ) → r ≡ Refused code → AllScaledSays w₀ j n q t m w′ (Refused code)
+      pub scaling-refused : (code : ℕ) → r ≡ Refused code → AllScaledSays w₀ j n q t m w′ r
       scaling-refused code e = told-scaled (loop-refused (λ i. i .many) loop h w′ size r few turned-scaled code e)
 
     pub scaling-done : n ≤ k → AllScaledSays w₀ j n q t m w (Length len)

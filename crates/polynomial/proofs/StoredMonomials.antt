@@ -8,18 +8,18 @@ use lib.ListN.{length, take, drop, length-append}
 use lib.Seq.{take-at, drop-at, drop-drop}
 use Rattle.numbers.specs.Rational.{Rational, Proper}
 use Rattle.numbers.specs.Bytes.{Bytes, numberAt}
-use Rattle.terms.specs.Book.{sameBytes}
-use Rattle.terms.proofs.Records.{sameBytes-true}
+use Rattle.numbers.specs.Bytes.{sameBytes}
+use Rattle.numbers.proofs.SameBytes.{sameBytes-true}
 use Rattle.rules.specs.IndexMap.{Map}
-use Rattle.rules.specs.StoredMaps.{All, none, more}
+use Rattle.rules.specs.memory.StoredMaps.{All, none, more}
 use Rattle.rules.proofs.EntryBytes.{Coded}
 use Rattle.rules.proofs.HeldEntries as held
 use Rattle.rules.proofs.HeldEntries.{Goods}
 use Rattle.rules.proofs.MapEnds.{length-middle, all-join, all-cut, all-map}
 use Rattle.rules.proofs.StoredBytes.{Fit, length-stored}
 use Rattle.polynomial.specs.Polynomial.{Monomial, sameMonomial}
-use Rattle.polynomial.specs.PolynomialArea.{places, monomialBytes, pasted, polynomials, stored, keyAt, putEntry}
-use Rattle.polynomial.specs.PolynomialArea.{blanked, Key, Entry, Good, Held}
+use Rattle.polynomial.specs.memory.PolynomialArea.{places, monomialBytes, pasted, polynomials, stored, keyAt, putEntry}
+use Rattle.polynomial.specs.memory.PolynomialArea.{blanked, Key, Entry, Good, Held}
 use Rattle.polynomial.proofs.MonomialBytes.{length-monomial, same-bytes}
 
 -- ---- the encoding

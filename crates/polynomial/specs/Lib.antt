@@ -1,2 +1,2 @@
-pub mod PolynomialArea
 pub mod Polynomial
+pub mod memory

@@ -1,5 +1,5 @@
--- Monomials and polynomials, `Monomial` and `Polynomial` of src/checker/rules/polynomial.rs: products of atoms by record
--- number, and their sums.
+-- Monomials and polynomials, `Monomial` and `Polynomial` of src/checker/rules/polynomial.rs: products of atoms by
+-- record number, and their sums.
 use mathlib.Core.Bool.{Bool, true, false, _&&_}
 use mathlib.Core.List.{List, [], _∷_}
 use Prim.Native.Nat.{_+_}

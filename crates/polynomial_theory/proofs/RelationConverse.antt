@@ -18,7 +18,7 @@ use Rattle.terms.specs.Readers.{asBitvector, asOp}
 use Rattle.rules.specs.Refusal.{Refusal, Result, _>>=_, orElse}
 use Rattle.rules.specs.Refusal.Outcome.{ok, refused}
 use Rattle.rules.specs.Refusal.Refusal.{termOfWrongForm, expectedOperationTerm}
-use Rattle.rules.specs.Limits.{Limits, theRust}
+use Rattle.rules.specs.Limits.{Limits, theRust, bitvectorErr, opErr}
 use Rattle.rules.specs.Shapes.{onlyLiteral, isRelation, assertEq, bind, bindAll, solve, solveAll}
 use Rattle.poly_simp.specs.PolySimp.{Scaled, equated, difference, scaled, assertSides, assertOdd, bitvectorCase}
 use Rattle.poly_simp.specs.PolySimp.{numberCase, polySimpRel}
@@ -43,8 +43,8 @@ difference-of (plain (is i)) = refl
 difference-of (realDifference g (is i) (is j)) = refl
 
 operationErr-of :
-    {o : ℕ} {ts : Terms} {t : Term} → Is o ts t → orElse (asOp t) expectedOperationTerm ≡ ok (o, ts)
-unfolding orElse
+    {o : ℕ} {ts : Terms} {t : Term} → Is o ts t → opErr t ≡ ok (o, ts)
+unfolding opErr orElse
 operationErr-of h = ap (λ o. orElse o expectedOperationTerm) (operation-of h)
 
 relation-accepted : {o : ℕ} → IsRelation o → isRelation o ≡ true
@@ -104,8 +104,8 @@ signs-accepted o s t (inr e) = rw e (go (eqb o Equals) t)
     go false false = refl
 
 -- t is a bit-vector of an odd value
-odd-accepted : (i n w : ℕ) → n % 2 ≡ 1 → assertOdd (asBitvector (bitvector i n w)) ≡ ok tt
-unfolding asBitvector
+odd-accepted : (i n w : ℕ) → n % 2 ≡ 1 → assertOdd (bitvector i n w) ≡ ok tt
+unfolding bitvectorErr asBitvector _>>=_
 odd-accepted i n w e = asserts _ (eq-eqb (n % 2) 1 e)
 
 -- ---- the two cases

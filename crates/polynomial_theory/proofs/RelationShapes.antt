@@ -16,9 +16,10 @@ use Rattle.terms.specs.Term.Term.{integer, rational, bitvector, atom, op}
 use Rattle.terms.specs.Term.Terms.{nil, _▹_}
 use Rattle.terms.specs.Readers.{asBitvector, asOp}
 use Rattle.terms.proofs.BookTerms.{Closed}
-use Rattle.rules.specs.Refusal.{Refusal, Result, orElse}
+use Rattle.rules.specs.Refusal.{Refusal, Result, _>>=_, orElse}
 use Rattle.rules.specs.Refusal.Outcome.{ok, refused}
-use Rattle.rules.specs.Refusal.Refusal.{expectedOperationTerm, termOfWrongForm}
+use Rattle.rules.specs.Refusal.Refusal.{termOfWrongForm}
+use Rattle.rules.specs.Limits.{bitvectorErr, opErr}
 use Rattle.rules.specs.Shapes.{Names, matches}
 use Rattle.poly_simp.specs.PolySimp.{Scaled, equatedForm, equatedIn, equated, difference, scaled, assertSides}
 use Rattle.poly_simp.specs.PolySimp.{assertOdd, operands}
@@ -54,8 +55,8 @@ pub record OddVector (t : Term) : Type 0 where
   pub odd : n % 2 ≡ 1
   pub is : t ≡ bitvector i n w
 
-pub odd-found : (t : Term) → Yields (λ u. OddVector t) (assertOdd (asBitvector t))
-unfolding asBitvector
+pub odd-found : (t : Term) → Yields (λ u. OddVector t) (assertOdd t)
+unfolding bitvectorErr asBitvector _>>=_
 odd-found (integer i v) = refuses
 odd-found (rational i q) = refuses
 odd-found (bitvector i v n) =
@@ -104,7 +105,8 @@ inside-both f = (f .inside .0, f .inside .1 .0)
 
 module _ {P : Term → Type 0} (closed : Closed P) where
   pub operation-found :
-      (t : Term) → P t → Yields (λ r. Found P (r .0) (r .1) t) (orElse (asOp t) expectedOperationTerm)
+      (t : Term) → P t → Yields (λ r. Found P (r .0) (r .1) t) (opErr t)
+  unfolding opErr
   operation-found t p = or-else (asOp t) _ λ r e. found closed (r .0) (r .1) t p (as-op-shape t r e)
 
   found-of : {o : ℕ} {ts : Terms} {t : Term} → Is o ts t → P t → Found P o ts t

@@ -1,6 +1,6 @@
--- The walk of a record's arguments into the polynomial at a tower's foot, one after the other. `Walking` is the
--- invariant of its loop: whichever polynomial stood there before, what is left to walk from argument k on, from the one
--- that stands there now, is the whole walk.
+-- The walk of a record's arguments into the polynomial in the lowest area of a stack, one after the other. `Walking` is
+-- the invariant of its loop: whichever polynomial stood there before, what is left to walk from argument k on, from the
+-- one that stands there at the turn, is the whole walk.
 --     walking-none, walking-more, walking-refused, walking-done       along the loop
 --     argument-below, argument-pre       what the walk of argument k asks
 use mathlib.Core.Path.{_≡_, refl, _∙_}
@@ -19,10 +19,10 @@ use Rattle.rules.specs.Limits.{Limits, limited}
 use Rattle.rules.specs.IndexMap.{Map, Walked, walked}
 use Rattle.polynomial.specs.Polynomial.{Monomial}
 use Rattle.polynomial_walk.specs.PolynomialTerms.{addTerm, addArgs}
-use Rattle.polynomial.specs.PolynomialArea.{Towers, Poly, PolyHas, polyWith, Fills}
-use Rattle.polynomial_walk.specs.PolynomialNodes.{TermPre, ArgsPre, addEach}
-use Rattle.polynomial.specs.declared.polynomial.Filled.{Filled}
-use Rattle.polynomial.specs.declared.polynomial.Filled.the-variants.{Done, Refused}
+use Rattle.polynomial.specs.memory.PolynomialArea.{Stacked, Poly, PolyHas, polyWith, Walks}
+use Rattle.polynomial_walk.specs.memory.PolynomialNodes.{TermPre, ArgsPre, addEach}
+use Rattle.polynomial.specs.declared.polynomial.Walk.{Walk}
+use Rattle.polynomial.specs.declared.polynomial.Walk.the-variants.{Done, Refused}
 use Rattle.rules.proofs.ArgumentsLeft.{argsFrom, left-none, left-next, next-below}
 use Rattle.polynomial_walk.proofs.PolynomialSums.{refuses-same}
 
@@ -53,12 +53,12 @@ abbrev pub eachFrom :
 eachFrom b args id k limit d p q s m v =
     addEach (argsFrom b id args k) (limited limit) d p q (walked (polyWith s m) v)
 
--- the tower holds t now, and what is left is the whole walk
+-- the stack holds t, and what is left is the whole walk
 pub record Present
     (b args : Bytes) (id limit d : ℕ) (others : Rational) (w : Bytes) (t : Poly) (v : ℕ) (coeff : Rational) (k : ℕ)
     (whole : Result (Walked Monomial)) : Type 0 where
   pub map : Map Monomial
-  pub held : Towers b w (map ∷ [])
+  pub held : Stacked b w (map ∷ [])
   pub has : PolyHas t map
   pub left : whole ≡ eachFrom b args id k limit d coeff others t map v
 
@@ -70,7 +70,7 @@ pub record Walking
   pub long : length w ≡ length w₀
   pub proper : Proper coeff
   pub present :
-      (m : Map Monomial) → Towers b w₀ (m ∷ []) → PolyHas s m →
+      (m : Map Monomial) → Stacked b w₀ (m ∷ []) → PolyHas s m →
       Present b args id limit d others w t v coeff k (eachFrom b args id 0 limit d first others s m v₀)
 
 module _
@@ -89,8 +89,8 @@ module _
       {w : Bytes} {t : Poly} {v : ℕ} {coeff : Rational} {k : ℕ}
       (walking : Walking b w₀ args id limit d first others s v₀ w t v coeff k) where
     pub walking-done :
-        length args / 2 ≤ k → (m : Map Monomial) → Towers b w₀ (m ∷ []) → PolyHas s m →
-        Fills b w (Done t v) (eachFrom b args id 0 limit d first others s m v₀)
+        length args / 2 ≤ k → (m : Map Monomial) → Stacked b w₀ (m ∷ []) → PolyHas s m →
+        Walks b w (Done t v) (eachFrom b args id 0 limit d first others s m v₀)
     unfolding addEach
     walking-done h m held has =
         let now = walking .present m held has in
@@ -113,18 +113,19 @@ module _
           }
 
       module _
-          {w′ : Bytes} {answer : Filled}
-          (fills : (m : Map Monomial) → Towers b w (m ∷ []) → PolyHas t m →
-          Fills b w′ answer (addTerm (tree b x) (limited limit) d coeff (walked (polyWith t m) v))) where
+          {w′ : Bytes} {answer : Walk}
+          (fills : (m : Map Monomial) → Stacked b w (m ∷ []) → PolyHas t m →
+          Walks b w′ answer (addTerm (tree b x) (limited limit) d coeff (walked (polyWith t m) v))) where
         pub walking-refused :
-            {c : ℕ} → answer ≡ Refused c → (m : Map Monomial) → Towers b w₀ (m ∷ []) → PolyHas s m →
-            Fills b w′ (Refused c) (eachFrom b args id 0 limit d first others s m v₀)
+            {c : ℕ} → answer ≡ Refused c → (m : Map Monomial) → Stacked b w₀ (m ∷ []) → PolyHas s m →
+            Walks b w′ answer (eachFrom b args id 0 limit d first others s m v₀)
         walking-refused e m held has =
             let now = walking .present m held has in
             let next = fills (now .map) (now .held) (now .has) in
             let was = rw e at (next .is) in
             let left = rw (left-next args id h is b) at (now .left) in
-            refuses-same (rw (← was .1) (next .held)) (was .0) _ (left ∙ each-refused _ _ _ _ _ _ _ (was .0 .is))
+            rw e
+            (refuses-same (rw (← was .1) (next .held)) (was .0) _ (left ∙ each-refused _ _ _ _ _ _ _ (was .0 .is)))
 
         pub walking-more :
             {t′ : Poly} {v′ : ℕ} → answer ≡ Done t′ v′ → length w′ ≡ length w →
@@ -138,7 +139,7 @@ module _
             }
           where
             present :
-                (m : Map Monomial) → Towers b w₀ (m ∷ []) → PolyHas s m →
+                (m : Map Monomial) → Stacked b w₀ (m ∷ []) → PolyHas s m →
                 Present b args id limit d others w′ t′ v′ others (k + 1)
                 (eachFrom b args id 0 limit d first others s m v₀)
             present m held has =

@@ -32,47 +32,44 @@ use Rattle.polynomial.specs.Polynomial.{Monomial, monomials, insertScaled}
 use Rattle.polynomial_walk.specs.PolynomialTerms.{armOf, addLeaf, nonzero, divisorOf, addTerm, addArgs}
 use Rattle.polynomial_walk.specs.PolynomialTerms.{addDifference, addFirst, firstFactor}
 use Rattle.polynomial_walk.specs.PolynomialTerms.Arm.{sum, negation, difference, product, quotient, leaf}
-use Rattle.polynomial.specs.PolynomialArea.{addScaled}
-use Rattle.polynomial_walk.specs.PolynomialNodes.{constantNode, constantOf, leafNode, dividedNode, divisorNode}
-use Rattle.polynomial_walk.specs.PolynomialNodes.{quotientNode, operationNode, nodeOf, addEach}
-use Rattle.polynomial_walk.specs.declared.polynomial_walk.Arm.{Arm}
-use Rattle.polynomial_walk.specs.declared.polynomial_walk.Arm.the-variants as arm
+use Rattle.polynomial.specs.memory.PolynomialArea.{addScaled}
+use Rattle.polynomial_walk.specs.memory.PolynomialNodes.{constantNode, constantOf, leafNode, dividedNode, divisorNode}
+use Rattle.polynomial_walk.specs.memory.PolynomialNodes.{quotientNode, operationNode, nodeOf, addEach, addProduct}
+use Rattle.polynomial_walk.specs.declared.polynomial_walk.Node.{Node}
+use Rattle.polynomial_walk.specs.declared.polynomial_walk.Node.the-variants as node
 use Rattle.rules.proofs.CheckedNumbers.{over-value, over-out, on-answer, on-product}
 use Rattle.rules.proofs.Results.{bind-same}
 use Rattle.rules.proofs.ArgumentsBelow.{Own, Below, forest-own, arguments-below}
 
 -- what the walk does at a node of the term t, under d products and after the visit
-abbrev pub act : Bytes → Limits → ℕ → Term → Rational → Arm → Walked Monomial → Result (Walked Monomial)
-act b l d t coeff (arm.Args p q) w = addEach (argumentsOf t) l d p q w
-act b l d t coeff arm.Product w =
-    assert (within (l .depth) (suc d)) polynomialSize >>= λ u.
-    firstFactor (argumentsOf t) l (suc d) (w .visits) >>= λ r.
-    addScaled l coeff (r .sum) (walked (w .sum) (r .visits))
-act b l d t coeff (arm.Quotient x c) w = addTerm (tree b x) l d c w
-act b l d t coeff (arm.Constant q) w = addConstant l q w
-act b l d t coeff arm.Atom w = addEntry monomials l (t ∷ []) coeff w
-act b l d t coeff arm.OutOfRange w = refused numberRange
+abbrev pub act : Bytes → Limits → ℕ → Term → Rational → Node → Walked Monomial → Result (Walked Monomial)
+act b l d t coeff (node.Args p q) w = addEach (argumentsOf t) l d p q w
+act b l d t coeff node.Product w = addProduct (argumentsOf t) l d coeff w
+act b l d t coeff (node.Quotient x c) w = addTerm (tree b x) l d c w
+act b l d t coeff (node.Constant q) w = addConstant l q w
+act b l d t coeff node.Atom w = addEntry monomials l (t ∷ []) coeff w
+act b l d t coeff node.OutOfRange w = refused numberRange
 
 -- ---- the definition's cases, by their names
 
 -- a leaf's node, by what the leaf is read as, as a number and as a bit-vector
-abbrev bitsNode : Rational → BitVector → Arm
-bitsNode coeff v = elim v [ Bits v n ↦ constantOf (whole (pos v)) coeff | NotBitvector ↦ arm.Atom ]
+abbrev bitsNode : Rational → BitVector → Node
+bitsNode coeff v = elim v [ Bits v n ↦ constantOf (whole (pos v)) coeff | NotBitvector ↦ node.Atom ]
 
-abbrev readNode : Rational → Reading → BitVector → Arm
+abbrev readNode : Rational → Reading → BitVector → Node
 readNode coeff r v = elim r [
   | Value q ↦ constantOf q coeff
   | NotNumber ↦ bitsNode coeff v
-  | OutOfRange ↦ arm.OutOfRange
+  | OutOfRange ↦ node.OutOfRange
 ]
 
 -- an operation's node, by its arm
-abbrev armNode : Term → Terms → Rational → definition-walk.Arm → Arm
+abbrev armNode : Term → Terms → Rational → definition-walk.Arm → Node
 armNode t ts coeff m = elim m [
-  | sum ↦ arm.Args coeff coeff
-  | negation ↦ arm.Args (negQ coeff) (negQ coeff)
-  | difference ↦ arm.Args coeff (negQ coeff)
-  | product ↦ arm.Product
+  | sum ↦ node.Args coeff coeff
+  | negation ↦ node.Args (negQ coeff) (negQ coeff)
+  | difference ↦ node.Args coeff (negQ coeff)
+  | product ↦ node.Product
   | quotient ↦ quotientNode t ts coeff
   | leaf ↦ leafNode t coeff
 ]
@@ -182,7 +179,7 @@ module _ (b : Bytes) (n d : ℕ) (coeff : Rational) (w : Walked Monomial) where
   term-walk :
       (t : Term) → Each (Own b) (argumentsOf t) →
       addTerm t (limited n) d coeff w ≡ (visit (limited n) w >>= act b (limited n) d t coeff (nodeOf t coeff))
-  unfolding addTerm nodeOf asOp operationNode addScaled
+  unfolding addTerm nodeOf asOp operationNode addProduct addScaled
   term-walk (integer i v) own = bind-same (visit (limited n) w) (leaf-walk b n d (integer i v) coeff)
   term-walk (rational i q) own = bind-same (visit (limited n) w) (leaf-walk b n d (rational i q) coeff)
   term-walk (bitvector i v k) own = bind-same (visit (limited n) w) (leaf-walk b n d (bitvector i v k) coeff)
@@ -226,13 +223,13 @@ walk-node b id n d coeff w =
 -- ---- what the walk goes on to lies below
 
 -- a term's dividend is one of its arguments
-abbrev DividendBelow : ℕ → Arm → Type 0
-DividendBelow i (arm.Quotient x c) = x < i
-DividendBelow i (arm.Args p q) = Unit {0}
-DividendBelow i arm.Product = Unit {0}
-DividendBelow i (arm.Constant q) = Unit {0}
-DividendBelow i arm.Atom = Unit {0}
-DividendBelow i arm.OutOfRange = Unit {0}
+abbrev DividendBelow : ℕ → Node → Type 0
+DividendBelow i (node.Quotient x c) = x < i
+DividendBelow i (node.Args p q) = Unit {0}
+DividendBelow i node.Product = Unit {0}
+DividendBelow i (node.Constant q) = Unit {0}
+DividendBelow i node.Atom = Unit {0}
+DividendBelow i node.OutOfRange = Unit {0}
 
 module _ (i : ℕ) (coeff : Rational) where
   constant-lower : (q : Rational) → DividendBelow i (constantOf q coeff)
@@ -292,6 +289,6 @@ module _ (i : ℕ) (coeff : Rational) where
 
 pub quotient-below :
     (b : Bytes) (id : ℕ) (coeff c : Rational) (x : ℕ) → layoutOk id (recordOf b id) ≡ true →
-    nodeOf (tree b id) coeff ≡ arm.Quotient x c → x < id
+    nodeOf (tree b id) coeff ≡ node.Quotient x c → x < id
 quotient-below b id coeff c x layout e =
     subst (DividendBelow id) e (node-lower id coeff (tree b id) (arguments-below b id layout))

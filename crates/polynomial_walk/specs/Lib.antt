@@ -1,2 +1,2 @@
 pub mod PolynomialTerms
-pub mod PolynomialNodes
+pub mod memory

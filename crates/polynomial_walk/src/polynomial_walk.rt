@@ -1,29 +1,51 @@
-// `add_term` of src/checker/rules/polynomial.rs: a walk of a term and of the lists of its arguments. The factors of a product are walked
-// into the areas above the one that is filled.
+// `add_term` of src/checker/rules/polynomial.rs: a walk of a term and of the lists of its arguments. The factors of a
+// product are walked into the areas above the one that is filled.
 ghost use mathlib.Core.Path.{_≡_};
 ghost use mathlib.Core.List.{[], _∷_};
 ghost use Prim.Native.Nat.{ℕ, _≤_, _<_};
 ghost use Rattle.numbers.specs.Rational.{Proper};
 ghost use Rattle.numbers.specs.Bytes.{Bytes};
 ghost use Rattle.terms.specs.Book.{count, tree, numbers, arguments, forest};
+ghost use Rattle.terms.specs.Readers.{argumentsOf};
 ghost use Rattle.rules.specs.Limits.{limited};
 ghost use Rattle.rules.specs.IndexMap.{Map, walked, addConstant, addEntry};
 ghost use Rattle.polynomial.specs.Polynomial.{Monomial, monomials};
-ghost use Rattle.polynomial_walk.specs.PolynomialTerms.{addTerm, firstFactor};
-ghost use Rattle.polynomial.specs.PolynomialArea.{Floors, Towers, PolyHas, polyWith, Fills, addScaled};
-ghost use Rattle.polynomial_walk.specs.PolynomialNodes.{ArmIs, leafNode, nodeOf, addEach, constantOf, TermPre};
-ghost use Rattle.polynomial_walk.specs.PolynomialNodes.{ArgsPre, FactorsPre, quotientOf};
+ghost use Rattle.polynomial_walk.specs.PolynomialTerms.{addTerm, firstFactor, otherFactors};
+ghost use Rattle.polynomial.specs.memory.PolynomialArea.{places, StackHas, Stacked, PolyHas, polyWith, Walks};
+ghost use Rattle.polynomial.specs.memory.PolynomialArea.{addScaled};
+ghost use Rattle.polynomial_walk.specs.memory.PolynomialNodes.{NodeIs, leafNode, nodeOf, constantOf, quotientOf};
+ghost use Rattle.polynomial_walk.specs.memory.PolynomialNodes.{addEach, addProduct, othersOf, TermPre, ArgsPre};
+ghost use Rattle.polynomial_walk.specs.memory.PolynomialNodes.{FactorsPre, OthersPre};
 use numbers::number::Checked;
 use numbers::number::Number;
-use polynomial::monomials::Entered;
-use polynomial::polynomial::Filled;
-use polynomial::polynomial::Made;
+use polynomial::monomials::Inserted;
+use polynomial::monomials::inserted_refusal;
+use polynomial::monomials::put_atom;
+use polynomial::polynomial::Combined;
 use polynomial::polynomial::Polynomial;
+use polynomial::polynomial::Walk;
 use polynomial::polynomial::clear_at;
+use polynomial::polynomial::combined_refusal;
 use polynomial::polynomial::insert_at;
 use polynomial::polynomial::insert_scaled;
 use polynomial::polynomial::mul;
-use terms::book::argument;
+use polynomial::polynomial::walk_refusal;
+use terms::areas::MAX_DEPTH;
+use terms::areas::MONOMIAL_BYTES;
+use terms::areas::POLYNOMIAL_BYTES;
+use terms::operator::ADD;
+use terms::operator::BV_ADD;
+use terms::operator::BV_MUL;
+use terms::operator::BV_NEG;
+use terms::operator::BV_SUB;
+use terms::operator::MULT;
+use terms::operator::REAL_DIV;
+use terms::operator::SUB;
+use terms::operator::TO_REAL;
+use terms::records::argument;
+use terms::refusal::NUMBER_RANGE;
+use terms::refusal::POLYNOMIAL_SIZE;
+use terms::refusal::VISIT_LIMIT;
 use terms::term::BitVector;
 use terms::term::Reading;
 use terms::term::args;
@@ -32,7 +54,7 @@ use terms::term::as_fraction;
 use terms::term::operator;
 
 // What a walk does at a term.
-pub enum Arm {
+pub enum Node {
     // Walks the arguments, the first with the first coefficient and all others with the second.
     Args(Number, Number),
     // Multiplies the arguments.
@@ -49,133 +71,132 @@ pub enum Arm {
 
 // ---- looking at a term
 
-fn constant(q: Number, coeff: Number) -> Arm
+fn constant(q: Number, coeff: Number) -> Node
     requires { ⌜ Proper q × Proper coeff ⌝ }
-    ensures { λ r. ⌜ ArmIs r (constantOf q coeff) ⌝ }
+    ensures { λ r. ⌜ NodeIs r (constantOf q coeff) ⌝ }
 {
     let Checked::Value(c) = q.mul(coeff) else {
-        return Arm::OutOfRange;
+        return Node::OutOfRange;
     };
-    Arm::Constant(c)
+    Node::Constant(c)
 }
 
 // A number goes to the constant, a bit-vector constant too, anything else is an atom.
-fn leaf(book: &[u8], id: usize, coeff: Number) -> Arm
+fn leaf(book: &[u8], id: usize, coeff: Number) -> Node
     requires { ⌜ Proper coeff ⌝ }
-    ensures { λ r. ⌜ ArmIs r (leafNode (tree (now (book .entry)) id) coeff) ⌝ }
+    ensures { λ r. ⌜ NodeIs r (leafNode (tree (now (book .entry)) id) coeff) ⌝ }
 {
     match as_fraction(book, id) {
         Reading::Value(q) => constant(q, coeff),
-        Reading::OutOfRange => Arm::OutOfRange,
+        Reading::OutOfRange => Node::OutOfRange,
         Reading::NotNumber => match as_bitvector(book, id) {
             BitVector::Bits(v, _) => constant(Number::whole(v as i64), coeff),
-            BitVector::NotBitvector => Arm::Atom,
+            BitVector::NotBitvector => Node::Atom,
         },
     }
 }
 
 // The dividend with the coefficient over the divisor, where that is read and is not 0.
-fn quotient(book: &[u8], id: usize, coeff: Number) -> Arm
+fn quotient(book: &[u8], id: usize, coeff: Number) -> Node
     requires { ⌜ Proper coeff ⌝ }
-    ensures { λ r. ⌜ ArmIs r (quotientOf (tree (now (book .entry)) id) coeff) ⌝ }
+    ensures { λ r. ⌜ NodeIs r (quotientOf (tree (now (book .entry)) id) coeff) ⌝ }
 {
     let sides = args(book, id);
     if sides.len() / 2 < 2 {
         return leaf(book, id, coeff);
     }
     match as_fraction(book, argument(sides, 1, id)) {
-        Reading::OutOfRange => Arm::OutOfRange,
+        Reading::OutOfRange => Node::OutOfRange,
         Reading::NotNumber => leaf(book, id, coeff),
         Reading::Value(q) => {
             if q.is_zero() {
                 return leaf(book, id, coeff);
             }
             let Checked::Value(c) = coeff.div(q) else {
-                return Arm::OutOfRange;
+                return Node::OutOfRange;
             };
-            Arm::Quotient(argument(sides, 0, id), c)
+            Node::Quotient(argument(sides, 0, id), c)
         }
     }
 }
 
-fn look(book: &[u8], id: usize, coeff: Number) -> Arm
+fn look(book: &[u8], id: usize, coeff: Number) -> Node
     requires { ⌜ Proper coeff ⌝ }
-    ensures { λ r. ⌜ ArmIs r (nodeOf (tree (now (book .entry)) id) coeff) ⌝ }
+    ensures { λ r. ⌜ NodeIs r (nodeOf (tree (now (book .entry)) id) coeff) ⌝ }
 {
     let minus = coeff.neg();
     match operator(book, id) {
-        9 | 14 | 15 => Arm::Args(coeff, coeff),
-        10 => if args(book, id).len() / 2 == 1 {
-            Arm::Args(minus, minus)
+        ADD | TO_REAL | BV_ADD => Node::Args(coeff, coeff),
+        SUB => if args(book, id).len() / 2 == 1 {
+            Node::Args(minus, minus)
         } else {
-            Arm::Args(coeff, minus)
+            Node::Args(coeff, minus)
         },
-        16 => Arm::Args(coeff, minus),
-        17 => Arm::Args(minus, minus),
-        11 | 18 => Arm::Product,
-        13 => quotient(book, id, coeff),
+        BV_SUB => Node::Args(coeff, minus),
+        BV_NEG => Node::Args(minus, minus),
+        MULT | BV_MUL => Node::Product,
+        REAL_DIV => quotient(book, id, coeff),
         _ => leaf(book, id, coeff),
     }
 }
 
 // ---- what is added
 
-fn add_constant(stack: &mut [u8], s: Polynomial, visits: u32, q: Number) -> Filled
-    requires { ⌜ Floors 0 (now stack) × ((s .len ≤ 64) × (Proper (s .constant) × Proper q)) ⌝ }
-    ensures { λ r. ⌜ ((b : Bytes) (m : Map Monomial) → Towers b (now (stack .entry)) (m ∷ []) → PolyHas s m → (l : ℕ) →
-        Fills b (now (stack .exit)) r (addConstant (limited l) q (walked (polyWith s m) visits))) ⌝ }
+fn add_constant(stack: &mut [u8], s: Polynomial, visits: u32, q: Number) -> Walk
+    requires { ⌜ StackHas 0 (now stack) × ((s .len ≤ places) × (Proper (s .constant) × Proper q)) ⌝ }
+    ensures { λ r. ⌜ ((b : Bytes) (m : Map Monomial) → Stacked b (now (stack .entry)) (m ∷ []) → PolyHas s m → (l : ℕ) →
+        Walks b (now (stack .exit)) r (addConstant (limited l) q (walked (polyWith s m) visits))) ⌝ }
 {
     let n = s.len;
     let c = s.constant;
     let Checked::Value(constant) = c.add(q) else {
         clear_at(stack, 0, n);
-        return Filled::Refused(11);
+        return Walk::Refused(NUMBER_RANGE);
     };
-    Filled::Done(Polynomial { len: n, constant }, visits)
+    Walk::Done(Polynomial { len: n, constant }, visits)
 }
 
 // The monomial of one atom.
-fn add_atom(stack: &mut [u8], s: Polynomial, visits: u32, id: usize, value: Number) -> Filled
-    requires { ⌜ Floors 0 (now stack) × ((s .len ≤ 64) × (Proper (s .constant) × ((id < 65536) × Proper value))) ⌝ }
-    ensures { λ r. ⌜ ((b : Bytes) (m : Map Monomial) → Towers b (now (stack .entry)) (m ∷ []) → PolyHas s m → id < count b → (l : ℕ) →
-        Fills b (now (stack .exit)) r (addEntry monomials (limited l) (tree b id ∷ []) value (walked (polyWith s m) visits))) ⌝ }
+fn add_atom(stack: &mut [u8], s: Polynomial, visits: u32, id: usize, value: Number) -> Walk
+    requires { ⌜ StackHas 0 (now stack) ×
+        ((s .len ≤ places) × (Proper (s .constant) × ((id < 65536) × Proper value))) ⌝ }
+    ensures { λ r. ⌜ ((b : Bytes) (m : Map Monomial) → Stacked b (now (stack .entry)) (m ∷ []) → PolyHas s m →
+        id < count b → (l : ℕ) → Walks b (now (stack .exit)) r
+        (addEntry monomials (limited l) (tree b id ∷ []) value (walked (polyWith s m) visits))) ⌝ }
 {
     let n = s.len;
     let constant = s.constant;
-    let mut key = [0u8; 17];
-    key[0] = 1;
-    key[1] = (id % 256) as u8;
-    key[2] = (id / 256) as u8;
-    match insert_at(stack, 0, n, &key, value) {
-        Entered::Refused(c) => Filled::Refused(c),
-        Entered::Length(len) => Filled::Done(Polynomial { len, constant }, visits),
-    }
+    let mut key = [0u8; MONOMIAL_BYTES];
+    put_atom(&mut key, id);
+    let answer = insert_at(stack, 0, n, &key, value);
+    let Inserted::Length(len) = answer else {
+        return Walk::Refused(inserted_refusal(answer));
+    };
+    Walk::Done(Polynomial { len, constant }, visits)
 }
 
 // A product p, in area 1, times a number is added to the polynomial of area 0; area 1 is empty afterwards.
-fn add_scaled(stack: &mut [u8], s: Polynomial, p: Polynomial, coeff: Number, visits: u32) -> Filled
-    requires { ⌜ Floors 1 (now stack) × (((s .len ≤ 64) × (p .len ≤ 64)) × ((Proper (s .constant) × Proper (p .constant)) × Proper coeff)) ⌝ }
-    ensures { λ r. ⌜ ((b : Bytes) (m n : Map Monomial) → Towers b (now (stack .entry)) (m ∷ n ∷ []) → PolyHas s m → PolyHas p n → (l : ℕ) →
-        Fills b (now (stack .exit)) r (addScaled (limited l) coeff (polyWith p n) (walked (polyWith s m) visits))) ⌝ }
+fn add_scaled(stack: &mut [u8], s: Polynomial, p: Polynomial, coeff: Number, visits: u32) -> Walk
+    requires { ⌜ StackHas 1 (now stack) × (((s .len ≤ places) × (p .len ≤ places)) ×
+        ((Proper (s .constant) × Proper (p .constant)) × Proper coeff)) ⌝ }
+    ensures { λ r. ⌜ ((b : Bytes) (m n : Map Monomial) → Stacked b (now (stack .entry)) (m ∷ n ∷ []) → PolyHas s m →
+        PolyHas p n → (l : ℕ) → Walks b (now (stack .exit)) r
+        (addScaled (limited l) coeff (polyWith p n) (walked (polyWith s m) visits))) ⌝ }
 {
     let n = s.len;
     let c = s.constant;
     let k = p.len;
     let d = p.constant;
-    match insert_scaled(stack, 1, k, coeff, 0, n) {
-        Entered::Refused(code) => {
-            clear_at(stack, 1, k);
-            Filled::Refused(code)
-        }
-        Entered::Length(len) => {
-            clear_at(stack, 1, k);
-            let Checked::Value(scaled) = coeff.mul(d) else {
-                clear_at(stack, 0, len);
-                return Filled::Refused(11);
-            };
-            add_constant(stack, Polynomial { len, constant: c }, visits, scaled)
-        }
-    }
+    let answer = insert_scaled(stack, 1, k, coeff, 0, n);
+    clear_at(stack, 1, k);
+    let Inserted::Length(len) = answer else {
+        return Walk::Refused(inserted_refusal(answer));
+    };
+    let Checked::Value(scaled) = coeff.mul(d) else {
+        clear_at(stack, 0, len);
+        return Walk::Refused(NUMBER_RANGE);
+    };
+    add_constant(stack, Polynomial { len, constant: c }, visits, scaled)
 }
 
 // ---- the walk
@@ -190,20 +211,20 @@ pub fn add_term(
     visits: u32,
     limit: u32,
     depth: u8,
-) -> Filled
+) -> Walk
     requires { ⌜ TermPre (now book) (now stack) id coeff s depth ⌝ }
-    ensures { λ r. ⌜ ((m : Map Monomial) → Towers (now (book .entry)) (now (stack .entry)) (m ∷ []) → PolyHas s m →
-        Fills (now (book .entry)) (now (stack .exit)) r
+    ensures { λ r. ⌜ ((m : Map Monomial) → Stacked (now (book .entry)) (now (stack .entry)) (m ∷ []) → PolyHas s m →
+        Walks (now (book .entry)) (now (stack .exit)) r
         (addTerm (tree (now (book .entry)) id) (limited limit) depth coeff (walked (polyWith s m) visits))) ⌝ }
 {
     let n = s.len;
     if limit <= visits {
         clear_at(stack, 0, n);
-        return Filled::Refused(10);
+        return Walk::Refused(VISIT_LIMIT);
     }
     let seen = visits + 1;
     match look(book, id, coeff) {
-        Arm::Args(first, others) => add_args(
+        Node::Args(first, others) => add_args(
             book,
             stack,
             args(book, id),
@@ -215,36 +236,48 @@ pub fn add_term(
             limit,
             depth,
         ),
-        Arm::Product => {
-            if 8 <= depth {
-                clear_at(stack, 0, n);
-                return Filled::Refused(12);
-            }
-            let above = 1600;
-            match factors(
-                book,
-                &mut stack[above..],
-                args(book, id),
-                id,
-                seen,
-                limit,
-                depth + 1,
-            ) {
-                Filled::Refused(c) => {
-                    clear_at(stack, 0, n);
-                    Filled::Refused(c)
-                }
-                Filled::Done(p, v) => add_scaled(stack, s, p, coeff, v),
-            }
-        }
-        Arm::Quotient(x, c) => add_term(book, stack, x, c, s, seen, limit, depth),
-        Arm::Constant(q) => add_constant(stack, s, seen, q),
-        Arm::Atom => add_atom(stack, s, seen, id, coeff),
-        Arm::OutOfRange => {
+        Node::Product => add_product(book, stack, id, coeff, s, seen, limit, depth),
+        Node::Quotient(x, c) => add_term(book, stack, x, c, s, seen, limit, depth),
+        Node::Constant(q) => add_constant(stack, s, seen, q),
+        Node::Atom => add_atom(stack, s, seen, id, coeff),
+        Node::OutOfRange => {
             clear_at(stack, 0, n);
-            Filled::Refused(11)
+            Walk::Refused(NUMBER_RANGE)
         }
     }
+}
+
+// coeff times the product that is the term of record `id`, which is made in the areas above, is added.
+fn add_product(
+    book: &[u8],
+    stack: &mut [u8],
+    id: usize,
+    coeff: Number,
+    s: Polynomial,
+    visits: u32,
+    limit: u32,
+    depth: u8,
+) -> Walk
+    requires { ⌜ TermPre (now book) (now stack) id coeff s depth ⌝ }
+    ensures { λ r. ⌜ ((m : Map Monomial) → Stacked (now (book .entry)) (now (stack .entry)) (m ∷ []) → PolyHas s m →
+        Walks (now (book .entry)) (now (stack .exit)) r
+        (addProduct (argumentsOf (tree (now (book .entry)) id)) (limited limit) depth coeff
+        (walked (polyWith s m) visits))) ⌝ }
+{
+    let n = s.len;
+    if MAX_DEPTH <= depth {
+        clear_at(stack, 0, n);
+        return Walk::Refused(POLYNOMIAL_SIZE);
+    }
+    let deeper = depth + 1;
+    let sides = args(book, id);
+    let above = POLYNOMIAL_BYTES;
+    let product = first_factor(book, &mut stack[above..], sides, id, visits, limit, deeper);
+    let Walk::Done(p, seen) = product else {
+        clear_at(stack, 0, n);
+        return Walk::Refused(walk_refusal(product));
+    };
+    add_scaled(stack, s, p, coeff, seen)
 }
 
 // The arguments of record `id`, from the part of the record that holds them.
@@ -259,12 +292,12 @@ fn add_args(
     visits: u32,
     limit: u32,
     depth: u8,
-) -> Filled
+) -> Walk
     requires { ⌜ ArgsPre (now book) (now stack) (now args) id first others s depth ⌝ }
-    ensures { λ r. ⌜ ((m : Map Monomial) → Towers (now (book .entry)) (now (stack .entry)) (m ∷ []) → PolyHas s m →
-        Fills (now (book .entry)) (now (stack .exit)) r
-        (addEach (forest (tree (now (book .entry))) (arguments id (numbers (now (args .entry))))) (limited limit) depth first others
-        (walked (polyWith s m) visits))) ⌝ }
+    ensures { λ r. ⌜ ((m : Map Monomial) → Stacked (now (book .entry)) (now (stack .entry)) (m ∷ []) → PolyHas s m →
+        Walks (now (book .entry)) (now (stack .exit)) r
+        (addEach (forest (tree (now (book .entry))) (arguments id (numbers (now (args .entry))))) (limited limit) depth
+        first others (walked (polyWith s m) visits))) ⌝ }
 {
     let n = args.len() / 2;
     let mut sum = s;
@@ -273,23 +306,21 @@ fn add_args(
     let mut k = 0;
     while k < n {
         let x = argument(args, k, id);
-        match add_term(book, stack, x, coeff, sum, seen, limit, depth) {
-            Filled::Done(t, v) => {
-                sum = t;
-                seen = v;
-            }
-            Filled::Refused(c) => {
-                return Filled::Refused(c);
-            }
-        }
+        let walk = add_term(book, stack, x, coeff, sum, seen, limit, depth);
+        let Walk::Done(t, v) = walk else {
+            return walk;
+        };
+        sum = t;
+        seen = v;
         coeff = others;
         k += 1;
     }
-    Filled::Done(sum, seen)
+    Walk::Done(sum, seen)
 }
 
-// The product of the arguments of record `id`, in an empty tower: the first two are multiplied before the third is walked.
-fn factors(
+// The product of the arguments of record `id`, in an empty stack: the first two are multiplied before the third is
+// walked.
+fn first_factor(
     book: &[u8],
     stack: &mut [u8],
     args: &[u8],
@@ -297,10 +328,44 @@ fn factors(
     visits: u32,
     limit: u32,
     depth: u8,
-) -> Filled
+) -> Walk
     requires { ⌜ FactorsPre (now book) (now stack) (now args) id depth ⌝ }
-    ensures { λ r. ⌜ Fills (now (book .entry)) (now (stack .exit)) r
-        (firstFactor (forest (tree (now (book .entry))) (arguments id (numbers (now (args .entry))))) (limited limit) depth visits) ⌝ }
+    ensures { λ r. ⌜ Walks (now (book .entry)) (now (stack .exit)) r
+        (firstFactor (forest (tree (now (book .entry))) (arguments id (numbers (now (args .entry))))) (limited limit)
+        depth visits) ⌝ }
+{
+    let none = Polynomial {
+        len: 0,
+        constant: Number::whole(0),
+    };
+    let one = Number::whole(1);
+    if args.len() / 2 == 0 {
+        return Walk::Done(none, visits);
+    }
+    let x = argument(args, 0, id);
+    let first = add_term(book, stack, x, one, none, visits, limit, depth);
+    let Walk::Done(product, seen) = first else {
+        return first;
+    };
+    other_factors(book, stack, args, id, product, seen, limit, depth)
+}
+
+// The product p of the lowest area times each argument of record `id` but the first, which is walked above it.
+fn other_factors(
+    book: &[u8],
+    stack: &mut [u8],
+    args: &[u8],
+    id: usize,
+    p: Polynomial,
+    visits: u32,
+    limit: u32,
+    depth: u8,
+) -> Walk
+    requires { ⌜ OthersPre (now book) (now stack) (now args) id p depth ⌝ }
+    ensures { λ r. ⌜ ((m : Map Monomial) → Stacked (now (book .entry)) (now (stack .entry)) (m ∷ []) → PolyHas p m →
+        Walks (now (book .entry)) (now (stack .exit)) r
+        (otherFactors (othersOf (forest (tree (now (book .entry))) (arguments id (numbers (now (args .entry))))))
+        (limited limit) depth (walked (polyWith p m) visits))) ⌝ }
 {
     let n = args.len() / 2;
     let none = Polynomial {
@@ -308,50 +373,25 @@ fn factors(
         constant: Number::whole(0),
     };
     let one = Number::whole(1);
-    let above = 1600;
-    if n == 0 {
-        return Filled::Done(none, visits);
-    }
-    let mut product = none;
+    let above = POLYNOMIAL_BYTES;
+    let mut product = p;
     let mut seen = visits;
-    match add_term(
-        book,
-        stack,
-        argument(args, 0, id),
-        one,
-        none,
-        visits,
-        limit,
-        depth,
-    ) {
-        Filled::Refused(c) => {
-            return Filled::Refused(c);
-        }
-        Filled::Done(p, v) => {
-            product = p;
-            seen = v;
-        }
-    }
     let mut k = 1;
     while k < n {
         let x = argument(args, k, id);
-        match add_term(book, &mut stack[above..], x, one, none, seen, limit, depth) {
-            Filled::Refused(c) => {
-                let m = product.len;
-                clear_at(stack, 0, m);
-                return Filled::Refused(c);
-            }
-            Filled::Done(q, v) => match mul(stack, product, q) {
-                Made::Refused(c) => {
-                    return Filled::Refused(c);
-                }
-                Made::Is(r) => {
-                    product = r;
-                    seen = v;
-                }
-            },
-        }
+        let factor = add_term(book, &mut stack[above..], x, one, none, seen, limit, depth);
+        let Walk::Done(q, v) = factor else {
+            let m = product.len;
+            clear_at(stack, 0, m);
+            return Walk::Refused(walk_refusal(factor));
+        };
+        let combined = mul(stack, product, q);
+        let Combined::Is(r) = combined else {
+            return Walk::Refused(combined_refusal(combined));
+        };
+        product = r;
+        seen = v;
         k += 1;
     }
-    Filled::Done(product, seen)
+    Walk::Done(product, seen)
 }

@@ -18,8 +18,8 @@ use Rattle.terms.proofs.BookTerms.{recordNumber-tree}
 use Rattle.rules.specs.Refusal.{Result, _>>=_, assert}
 use Rattle.rules.specs.Limits.{limited}
 use Rattle.rules.specs.IndexMap.{Map, get, insert}
-use Rattle.rules.specs.Entries.{terms, slots, sums, keysOf, entriesOf, place, putEntry, blanked, swapped, absent}
-use Rattle.rules.specs.Entries.{Good, Kept, Inserts, CoefficientIs}
+use Rattle.rules.specs.memory.Entries.{terms, slots, sums, keysOf, entriesOf, place, putEntry, blanked, swapped, absent}
+use Rattle.rules.specs.memory.Entries.{Good, Kept, Inserts, CoefficientIs}
 use Rattle.rules.specs.declared.index_map.Inserted.{Inserted}
 use Rattle.rules.specs.declared.index_map.Inserted.the-variants.{Length, OutOfRange}
 use Rattle.rules.specs.declared.index_map.Coefficient.the-variants.{Of, Missing}

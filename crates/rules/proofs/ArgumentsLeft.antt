@@ -12,7 +12,7 @@ use Rattle.numbers.specs.Bytes.{Bytes}
 use Rattle.terms.specs.Term.{Terms, Term}
 use Rattle.terms.specs.Term.Terms.{nil, _▹_}
 use Rattle.terms.specs.Book.{tree, forest, numbers, arguments, argumentAt, nothing, allBelow}
-use Rattle.terms.proofs.Records.{length-numbers, length-arguments}
+use Rattle.terms.proofs.RecordBytes.{length-numbers, length-arguments}
 use Rattle.rules.proofs.RunParts.{below-at}
 use mathlib.Core.List.{List, [], _∷_}
 use mathlib.Core.Option.{Option, some, none}

@@ -12,8 +12,8 @@ use lib.ListN.{length, take, drop, replicate, length-append, length-drop, length
 use lib.Seq.{length-take-le}
 use Rattle.numbers.specs.Rational.{Rational, Proper}
 use Rattle.numbers.specs.Bytes.{Bytes, bytesOf, complement, numberAt, putNumber}
-use Rattle.rules.specs.StoredMaps.{Encoding, size, putEntry, blanked}
-use Rattle.rules.specs.Parts.{blank}
+use Rattle.rules.specs.memory.StoredMaps.{Encoding, size, putEntry, blanked}
+use Rattle.rules.specs.memory.Parts.{blank}
 use Rattle.rules.proofs.Zeros.{zeros-join, zeros-behind}
 use Rattle.rules.proofs.NumberBytes.{parts, length-parts, number-at, number-back}
 

@@ -26,11 +26,11 @@ use Rattle.terms.specs.declared.term.Only.the-variants as only
 use Rattle.rules.specs.Refusal.{_>>=_, orElse}
 use Rattle.rules.specs.Refusal.Outcome.{ok}
 use Rattle.rules.specs.Refusal.Refusal.{termOfWrongForm}
-use Rattle.rules.specs.Parts.{termsIn, after, verdictOf}
+use Rattle.rules.specs.memory.Parts.{termsIn, after, verdictOf}
 use Rattle.rules.specs.declared.verdict.Verdict.the-variants as verdict
 use Rattle.rules.specs.Shapes.{Form, Names, onlyName, matches, hasForm, equationOf, formOf, bind, bindAll, solve}
 use Rattle.rules.specs.Shapes.{solveAll, maxNames, size}
-use Rattle.rules.specs.ShapeRecords.{namesIn, foundNames}
+use Rattle.rules.specs.memory.ShapeRecords.{namesIn, foundNames}
 use Rattle.rules.proofs.ArgumentsLeft.{argsFrom, left-next, left-none, size-forest, arguments-count}
 use Rattle.rules.proofs.ShapeSteps.{same-records, OnlyIn, literal-is, no-literal}
 
@@ -311,7 +311,7 @@ matches-of b x f e = e ∙ ap (solveAll f) (first-name b x)
 
 module _ (b part : Bytes) (n : ℕ) (f : Form) {w : Only} (only-is : OnlyIn part w) where
   pub literal-missing :
-      w ≡ only.Neither → verdict.Refused 22 ≡ verdictOf (after n (hasForm f (termsIn b part)))
+      w ≡ only.NotOne → verdict.Refused 22 ≡ verdictOf (after n (hasForm f (termsIn b part)))
   unfolding hasForm _>>=_
   literal-missing e = rw (no-literal part b only-is e)
 

@@ -17,7 +17,7 @@ use Rattle.rules.specs.Refusal.Outcome.{ok, refused}
 use Rattle.rules.specs.Refusal.Refusal.{numberRange}
 use Rattle.rules.specs.Limits.{Limits, limited, plus}
 use Rattle.rules.specs.IndexMap.{Map, Keys, insert, swapRemove}
-use Rattle.rules.specs.StoredMaps.{Encoding, size, keysOf, place, putEntry, blanked, swapped, Held, All}
+use Rattle.rules.specs.memory.StoredMaps.{Encoding, size, keysOf, place, putEntry, blanked, swapped, Held, All}
 use Rattle.rules.proofs.CheckedNumbers.{plus-value, plus-out}
 use Rattle.rules.proofs.EntryBytes.{Coded}
 use Rattle.rules.proofs.HeldEntries.{Goods, held-keys, read-value, write-value, remove-entry, write-new}

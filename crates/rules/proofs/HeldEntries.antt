@@ -9,8 +9,8 @@ use lib.Seq.{drop-at}
 use Rattle.numbers.specs.Rational.{Rational, Proper}
 use Rattle.numbers.specs.Bytes.{Bytes, numberAt}
 use Rattle.rules.specs.IndexMap.{Map, swapRemove}
-use Rattle.rules.specs.StoredMaps.{Encoding, size, entryBytes, stored, keysOf, putEntry, blanked, swapped, Held}
-use Rattle.rules.specs.StoredMaps.{All, none, more}
+use Rattle.rules.specs.memory.StoredMaps.{Encoding, size, entryBytes, stored, keysOf, putEntry, blanked, swapped, Held}
+use Rattle.rules.specs.memory.StoredMaps.{All, none, more}
 use Rattle.rules.proofs.EntryBytes.{Coded, cell, key-found, value-found}
 use Rattle.rules.proofs.KeySearch.{codes}
 use Rattle.rules.proofs.MapEnds.{Ends, nothing, last, ends, swapRemove-last, all-cut}

@@ -6,7 +6,7 @@ use Prim.Native.Nat.{suc}
 use lib.ListN.{length}
 use Rattle.numbers.specs.Rational.{Rational}
 use Rattle.rules.specs.IndexMap.{Map, Keys}
-use Rattle.rules.specs.StoredMaps.{Encoding, size, keysOf, place, All, none, more}
+use Rattle.rules.specs.memory.StoredMaps.{Encoding, size, keysOf, place, All, none, more}
 use Rattle.rules.proofs.EntrySearch.{Entries}
 use Rattle.rules.proofs.KeyedMaps.{Lacks, nothing, another, sameKey}
 

@@ -27,4 +27,5 @@ pub mod ArgumentsLeft
 pub mod ShapeSteps
 pub mod FormSteps
 pub mod RunParts
+pub mod ExpectedTerms
 pub mod Prepared

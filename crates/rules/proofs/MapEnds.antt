@@ -7,7 +7,7 @@ use native.Mathlib.Omega.{arith}
 use lib.ListN.{length, length-append}
 use Rattle.numbers.specs.Rational.{Rational}
 use Rattle.rules.specs.IndexMap.{Map, lastFirst, swapRemove}
-use Rattle.rules.specs.StoredMaps.{All, none, more}
+use Rattle.rules.specs.memory.StoredMaps.{All, none, more}
 
 module _ {K : Type 0} where
   pub length-middle : (e : K × Rational) (p s : Map K) → length (p ++ e ∷ s) ≡ suc (length (p ++ s))

@@ -15,7 +15,7 @@ use Rattle.terms.specs.Term.{Term, recordNumber}
 use Rattle.terms.specs.Book.{count}
 use Rattle.numbers.proofs.Truths.{both}
 use Rattle.rules.specs.IndexMap.{Map}
-use Rattle.rules.specs.Entries.{absent, Entry, Good}
+use Rattle.rules.specs.memory.Entries.{absent, Entry, Good}
 use Rattle.rules.proofs.KeyedMaps.{Lacks, nothing, another, Look, found, missing, look}
 use Rattle.rules.proofs.MapEnds.{length-middle}
 

@@ -12,9 +12,9 @@ use Rattle.numbers.specs.Rational.{Rational}
 use Rattle.numbers.specs.Bytes.{Bytes, digits, le, put, bytesOf}
 use Rattle.numbers.proofs.LittleEndian.{le-inside, le-outside, length-put}
 use Rattle.numbers.proofs.StoredNumbers.{length-putNumber}
-use Rattle.rules.specs.StoredMaps as maps
-use Rattle.rules.specs.Entries.{sums, putEntry, blanked}
-use Rattle.rules.specs.Parts.{blank}
+use Rattle.rules.specs.memory.StoredMaps as maps
+use Rattle.rules.specs.memory.Entries.{sums, putEntry, blanked}
+use Rattle.rules.specs.memory.Parts.{blank}
 use Rattle.rules.proofs.EntryBytes.{Coded}
 use Rattle.rules.proofs.NumberBytes.{length-bytesOf, put-at, le-at}
 

@@ -16,7 +16,7 @@ use Rattle.terms.specs.declared.book.BookRead.{BookRead}
 use Rattle.terms.specs.declared.book.BookRead.the-variants.{Records}
 use Rattle.terms.proofs.BookReading.{length-putSorts}
 use Rattle.terms.proofs.Accepted.{accepted-count, accepted-layout}
-use Rattle.rules.specs.Parts.{Ready}
+use Rattle.rules.specs.memory.Parts.{Ready}
 
 -- a byte that was written is a sort
 sort-written : (n : ℕ) (b w : Bytes) (j : ℕ) → n ≤ length w → j < n → getD (putSorts n b w) j 0 ≡ sortCode (sort (tree b j))

@@ -1,26 +1,20 @@
--- Laws on results along `>>=`, and on the number of a refusal: it is not 0, so a number that is 0 says that a result is
--- no refusal, and any other says which it is.
+-- Laws on results along `>>=`, on the number of a refusal, and on what an assertion answers.
 --     next, ends, asserts       a first step that is known
 --     bind-same, bind-assoc       a step for a step; steps in a row
 --     refuses, refuses-as, refused-then       a refusal with its number, and what hands it on
---     code-none, code-some       a result by its number
---     stops, goes-on, refused-code       the number of a result behind a first step
---     refused-verdict, refused-with, accepted-with       a step's verdict
-use mathlib.Core.Path.{_≡_, refl, sym, ap, _∙_}
+--     asserted-holds, asserted-refuses, refused-assertion       an assertion by its answer
+--     assertion-ends, assertion-next, stops, goes-on       the first assertion of a row
+--     coded       the number of a refusal under another name
+--     refused-verdict       a step's verdict
+use mathlib.Core.Path.{_≡_, refl, sym, ap, _∙_, subst}
 use mathlib.Core.Bool.{Bool, true}
-use Prim.Native.Nat.{ℕ, _≤_}
-use native.Mathlib.Omega.{arith}
+use Prim.Native.Nat.{ℕ}
 use Rattle.rules.specs.Refusal.{Refusal, Result, _>>=_, assert, number}
 use Rattle.rules.specs.Refusal.Outcome.{ok, refused}
-use Rattle.rules.specs.Refusal.Refusal.{visitLimit, numberRange, polynomialSize, wrongNumberOfArgs}
-use Rattle.rules.specs.Refusal.Refusal.{wrongNumberOfPremises, wrongLengthOfClause, wrongLengthOfPremiseClause}
-use Rattle.rules.specs.Refusal.Refusal.{termOfWrongForm, expectedAnyNumber, invalidDisequalityOp}
-use Rattle.rules.specs.Refusal.Refusal.{tooManyArgsInDisequality, notUnit, coeffNotFound}
-use Rattle.rules.specs.Refusal.Refusal.{disequalityIsNotContradiction, notValidTautologyCase}
-use Rattle.rules.specs.Refusal.Refusal.{disequalityIsNotTautology, expectedEqual, expectedLessThan}
-use Rattle.rules.specs.Refusal.Refusal.{expectedLessEq, polynomialsNotEqual, coeffIsZero, coeffDifferentSignums}
-use Rattle.rules.specs.Refusal.Refusal.{coeffEven, invalidOperators, expectedBitvector, expectedOperationTerm}
-use Rattle.rules.specs.Parts.{Refuses, codeOf, after, verdictOf}
+use Rattle.rules.specs.Refusal.Refusal.{expectedEqual}
+use Rattle.rules.specs.memory.Parts.{Refuses, assertedOf, verdictOf}
+use Rattle.rules.specs.declared.verdict.Asserted.{Asserted}
+use Rattle.rules.specs.declared.verdict.Asserted.the-variants as asserted
 use Rattle.rules.specs.declared.verdict.Verdict.the-variants as verdict
 
 -- ---- along `>>=`
@@ -65,74 +59,57 @@ pub refused-then :
     {A B : Type 0} {c : ℕ} {d : Result A} (f : A → Result B) → Refuses c d → Refuses c (d >>= f)
 refused-then f r = refuses-as r (λ c. ends f)
 
--- ---- their numbers
+-- an assertion that holds is none that is refused
+abbrev holdsAsked : Asserted → Type 0
+holdsAsked asserted.Holds = Unit {0}
+holdsAsked (asserted.Refused c) = ⊥
 
--- a rule's refusals are numbered from 10 on
-pub number-late : (r : Refusal) → 10 ≤ number r
-number-late visitLimit = omega arith
-number-late numberRange = omega arith
-number-late polynomialSize = omega arith
-number-late wrongNumberOfArgs = omega arith
-number-late wrongNumberOfPremises = omega arith
-number-late wrongLengthOfClause = omega arith
-number-late wrongLengthOfPremiseClause = omega arith
-number-late termOfWrongForm = omega arith
-number-late expectedAnyNumber = omega arith
-number-late invalidDisequalityOp = omega arith
-number-late tooManyArgsInDisequality = omega arith
-number-late notUnit = omega arith
-number-late coeffNotFound = omega arith
-number-late disequalityIsNotContradiction = omega arith
-number-late notValidTautologyCase = omega arith
-number-late disequalityIsNotTautology = omega arith
-number-late expectedEqual = omega arith
-number-late expectedLessThan = omega arith
-number-late expectedLessEq = omega arith
-number-late polynomialsNotEqual = omega arith
-number-late coeffIsZero = omega arith
-number-late coeffDifferentSignums = omega arith
-number-late coeffEven = omega arith
-number-late invalidOperators = omega arith
-number-late expectedBitvector = omega arith
-number-late expectedOperationTerm = omega arith
+holds-not-refused : {c : ℕ} → asserted.Holds ≡ asserted.Refused c → ⊥
+holds-not-refused e = subst holdsAsked e tt
 
--- a result by its number
+-- a result that is none of a refusal
 module _ {A : Type 0} where
   pub record Passed (r : Result A) : Type 0 where
     pub value : A
     pub is : r ≡ ok value
 
-  pub code-none : (r : Result A) → 0 ≡ codeOf r → Passed r
-  code-none (ok a) h = record { value = a; is = refl }
-  code-none (refused c) h = absurd (omega (arith, number-late c))
+-- ---- assertions
 
-  pub code-some : (r : Result A) (c : ℕ) → c ≡ codeOf r → (c ≡ 0 → ⊥) → Refuses c r
-  code-some (ok a) c h other = absurd (other h)
-  code-some (refused d) c h other = record { reason = d; is = refl; code = h }
+module _ {A : Type 0} where
+  pub asserted-passes : (d : Result A) → asserted.Holds ≡ assertedOf d → Passed d
+  asserted-passes (ok a) e = record { value = a; is = refl }
+  asserted-passes (refused r) e = absurd (holds-not-refused e)
 
-module _ {A B : Type 0} {code : ℕ} where
-  pub stops : (x : Result A) (f : A → Result B) → code ≡ codeOf x → (code ≡ 0 → ⊥) → code ≡ codeOf (x >>= f)
-  unfolding _>>=_
-  stops (ok a) f e h = absurd (h e)
-  stops (refused r) f e h = e
+  pub asserted-refuses : (d : Result A) {c : ℕ} → asserted.Refused c ≡ assertedOf d → Refuses c d
+  asserted-refuses (ok a) e = record { reason = expectedEqual; is = cc; code = cc }
+  asserted-refuses (refused r) e = record { reason = r; is = refl; code = cc }
 
-  pub goes-on :
-      {r : ℕ} (x : Result A) (f : A → Result B) → code ≡ codeOf x → code ≡ 0 → ((a : A) → r ≡ codeOf (f a)) →
-      r ≡ codeOf (x >>= f)
-  goes-on x f e z k = let passed = code-none x (sym z ∙ e) in k (passed .value) ∙ sym (ap codeOf (next f (passed .is)))
+  pub refused-assertion : {c : ℕ} {d : Result A} → Refuses c d → asserted.Refused c ≡ assertedOf d
+  refused-assertion r = ap asserted.Refused (r .code) ∙ sym (ap assertedOf (r .is))
 
-pub refused-code : {A B : Type 0} {c : ℕ} {d : Result A} (f : A → Result B) → Refuses c d → c ≡ codeOf (d >>= f)
-refused-code f r = r .code ∙ sym (ap codeOf (ends f (r .is)))
+pub asserted-holds : (d : Result (Unit {0})) → asserted.Holds ≡ assertedOf d → d ≡ ok tt
+asserted-holds (ok u) e = refl
+asserted-holds (refused r) e = cc
+
+-- the first of two assertions is refused, or holds
+module _ {A : Type 0} (x : Result (Unit {0})) (f : Unit {0} → Result A) where
+  pub assertion-ends : {c : ℕ} → asserted.Refused c ≡ assertedOf x → Refuses c (x >>= f)
+  assertion-ends e = refused-then f (asserted-refuses x e)
+
+  pub assertion-next : asserted.Holds ≡ assertedOf x → (x >>= f) ≡ f tt
+  assertion-next e = next f (asserted-holds x e)
+
+module _ (x : Result (Unit {0})) (f : Unit {0} → Result (Unit {0})) {a : Asserted} (e : a ≡ assertedOf x) where
+  pub stops : {c : ℕ} → a ≡ asserted.Refused c → a ≡ assertedOf (x >>= f)
+  stops h = h ∙ refused-assertion (assertion-ends x f (sym h ∙ e))
+
+  pub goes-on : {r : Asserted} → a ≡ asserted.Holds → r ≡ assertedOf (f tt) → r ≡ assertedOf (x >>= f)
+  goes-on h k = k ∙ sym (ap assertedOf (assertion-next x f (sym h ∙ e)))
+
+pub coded : {A : Type 0} {d : Result A} {c code : ℕ} → code ≡ c → Refuses c d → Refuses code d
+coded e r = record { reason = r .reason; is = r .is; code = e ∙ r .code }
 
 -- ---- verdicts
 
 pub refused-verdict : {c : ℕ} {d : Result ℕ} → Refuses c d → verdict.Refused c ≡ verdictOf d
 refused-verdict r = ap verdict.Refused (r .code) ∙ sym (ap verdictOf (r .is))
-
--- behind tests with this number
-module _ {code : ℕ} (n : ℕ) (d : Result (Unit {0})) (e : code ≡ codeOf d) where
-  pub refused-with : (code ≡ 0 → ⊥) → verdict.Refused code ≡ verdictOf (after n d)
-  refused-with h = refused-verdict (refused-then _ (code-some d code e h))
-
-  pub accepted-with : code ≡ 0 → verdict.Accepted n ≡ verdictOf (after n d)
-  accepted-with z = sym (ap verdictOf (next _ (code-none d (sym z ∙ e) .is)))

@@ -4,7 +4,7 @@
 --     drop-to-end, drop-past-end       what the function `rest` takes
 --     length-termsIn, named-drop, named-cons, named-past, termsIn-drop       the terms that they name
 --     below-at, inside-drop       each names a record of the book
---     readOf, fraction-read, fraction-number       an argument that is read
+--     readOf, fraction-read, signed-read       an argument that is read
 use mathlib.Core.Path.{_≡_, refl, sym, ap, _∙_}
 use mathlib.Core.Bool.{true}
 use mathlib.Core.List.{List, [], _∷_}
@@ -18,7 +18,7 @@ use Rattle.numbers.specs.Rational.{Rational}
 use Rattle.numbers.specs.Bytes.{Bytes, le}
 use Rattle.terms.specs.Term.{Term}
 use Rattle.terms.specs.Book.{count, tree, allBelow}
-use Rattle.terms.specs.Readers.{asFraction, readingRefusal}
+use Rattle.terms.specs.Readers.{asSignedNumber, asFraction}
 use Rattle.terms.specs.declared.term.Reading.{Reading}
 use Rattle.terms.specs.declared.term.Reading.the-variants.{Value, NotNumber, OutOfRange}
 use Rattle.numbers.proofs.Truths.{both}
@@ -26,8 +26,8 @@ use Rattle.numbers.proofs.LittleEndian.{le-cons, le-of-two}
 use Rattle.rules.specs.Refusal.{Result, _>>=_, orElse}
 use Rattle.rules.specs.Refusal.Outcome.{ok, refused}
 use Rattle.rules.specs.Refusal.Refusal.{numberRange, expectedAnyNumber}
-use Rattle.rules.specs.Limits.{Limits, numberOr, fractionOf, fractionErr}
-use Rattle.rules.specs.Parts.{numbersIn, named, termsIn, Inside, codeOf}
+use Rattle.rules.specs.Limits.{Limits, numberOr, fractionOf, fractionErr, signedNumberErr}
+use Rattle.rules.specs.memory.Parts.{numbersIn, named, termsIn, Inside}
 
 -- ---- the numbers in a part
 
@@ -128,21 +128,18 @@ readOf (Value q) = ok q
 readOf NotNumber = refused expectedAnyNumber
 readOf OutOfRange = refused numberRange
 
+as-read : (r : Reading) → (numberOr r >>= λ q. orElse q expectedAnyNumber) ≡ readOf r
+unfolding _>>=_ orElse
+as-read (Value q) = refl
+as-read NotNumber = refl
+as-read OutOfRange = refl
+
+-- `as_signed_number_err`
+pub signed-read : (t : Term) → signedNumberErr t ≡ readOf (asSignedNumber t)
+unfolding signedNumberErr
+signed-read t = as-read (asSignedNumber t)
+
 module _ (l : Limits) where
   pub fraction-read : (t : Term) → fractionErr l t ≡ readOf (asFraction (l .numbers) t)
-  unfolding fractionErr fractionOf _>>=_ orElse
-  fraction-read t = go (asFraction (l .numbers) t)
-    where
-      go : (r : Reading) → (numberOr r >>= λ q. orElse q expectedAnyNumber) ≡ readOf r
-      go (Value q) = refl
-      go NotNumber = refl
-      go OutOfRange = refl
-
-  -- the number of a refusal is document 01's for the reading
-  pub fraction-number : (t : Term) → codeOf (fractionErr l t) ≡ readingRefusal (asFraction (l .numbers) t)
-  fraction-number t = ap codeOf (fraction-read t) ∙ go (asFraction (l .numbers) t)
-    where
-      go : (r : Reading) → codeOf (readOf r) ≡ readingRefusal r
-      go (Value q) = refl
-      go NotNumber = refl
-      go OutOfRange = refl
+  unfolding fractionErr fractionOf
+  fraction-read t = as-read (asFraction (l .numbers) t)

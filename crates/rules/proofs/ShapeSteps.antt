@@ -24,11 +24,13 @@ use Rattle.rules.specs.Refusal.{Result, assert, orElse}
 use Rattle.rules.specs.Refusal.Outcome.{ok, refused}
 use Rattle.rules.specs.Refusal.Refusal.{wrongLengthOfClause, termOfWrongForm}
 use Rattle.rules.specs.Shapes.{onlyLiteral, binaryErr, assertEq, negatedBinary, both, boundsCase}
-use Rattle.rules.specs.ShapeRecords.{pairOf, foundBounds}
-use Rattle.rules.specs.Parts.{numbersIn, named, termsIn, codeOf}
+use Rattle.rules.specs.memory.ShapeRecords.{pairOf, foundBounds}
+use Rattle.rules.specs.memory.Parts.{numbersIn, named, termsIn, assertedOf}
+use Rattle.rules.specs.declared.verdict.Asserted.{Asserted}
+use Rattle.rules.specs.declared.verdict.Asserted.the-variants as asserted
 use Rattle.rules.specs.declared.shapes.Bounds.{Bounds}
 use Rattle.rules.specs.declared.shapes.Bounds.the-variants as bounds
-use Rattle.rules.proofs.Results.{stops, goes-on}
+use Rattle.rules.proofs.Results.{assertion-ends, assertion-next, refused-assertion}
 use Rattle.rules.proofs.RunParts.{length-numbersIn, number-at}
 
 -- ---- the only literal
@@ -55,7 +57,7 @@ module _ (part : Bytes) where
       let place : x ≡ getD (numbersIn part) 0 0 = e ∙ sym (number-at part 0 0 (omega arith)) in
       ap (λ (i : ℕ). ok (tree b i)) place ∙ one-named b (numbersIn part) (length-numbersIn part ∙ n)
 
-  pub no-literal-found : (length part / 4 ≡ 1 → ⊥) → OnlyIn only.Neither
+  pub no-literal-found : (length part / 4 ≡ 1 → ⊥) → OnlyIn only.NotOne
   unfolding orElse
   no-literal-found n b = more-named b (numbersIn part) (λ h. n (sym (length-numbersIn part) ∙ h))
 
@@ -65,7 +67,7 @@ module _ (part : Bytes) where
   literal-is b h e = sym (h b) ∙ rw e
 
   pub no-literal :
-      {r : Only} (b : Bytes) → OnlyIn r → r ≡ only.Neither →
+      {r : Only} (b : Bytes) → OnlyIn r → r ≡ only.NotOne →
       onlyLiteral (termsIn b part) ≡ refused wrongLengthOfClause
   unfolding orElse
   no-literal b h e = sym (h b) ∙ rw e
@@ -73,7 +75,7 @@ module _ (part : Bytes) where
 -- ---- pairs
 
 module _ (b : Bytes) (i o : ℕ) {r : Only} (c : Child b i r (removeNegation (tree b i))) where
-  pub not-negated : r ≡ only.Neither → none ≡ negatedBinary o (tree b i)
+  pub not-negated : r ≡ only.NotOne → none ≡ negatedBinary o (tree b i)
   unfolding negatedBinary
   not-negated e =
       let there-is : removeNegation (tree b i) ≡ none = sym (c .is) ∙ ap (found b) e in
@@ -103,27 +105,27 @@ module _ (b : Bytes) (i o : ℕ) {w : Two} (c : Children b i w (binary o (tree b
 -- ---- assertions
 
 module _ (b : Bytes) {x y : ℕ} where
-  pub equal-code : x ≡ y → 0 ≡ codeOf (assertEq (tree b x) (tree b y))
+  pub equal-terms : x ≡ y → asserted.Holds ≡ assertedOf (assertEq (tree b x) (tree b y))
   unfolding assertEq assert
-  equal-code e = rw (same-records b x y ∙ eq-eqb x y e)
+  equal-terms e = rw (same-records b x y ∙ eq-eqb x y e)
 
-  pub unequal-code : (x ≡ y → ⊥) → 33 ≡ codeOf (assertEq (tree b x) (tree b y))
+  pub unequal-terms : (x ≡ y → ⊥) → asserted.Refused 33 ≡ assertedOf (assertEq (tree b x) (tree b y))
   unfolding assertEq assert
-  unequal-code h = rw (same-records b x y ∙ ne-eqb x y h)
+  unequal-terms h = rw (same-records b x y ∙ ne-eqb x y h)
 
 -- ---- two bounds
 
-module _ (test : Term → Term → Result (Unit {0})) (s1 d1 s2 d2 : Term) {code : ℕ} where
+module _ (test : Term → Term → Result (Unit {0})) (s1 d1 s2 d2 : Term) {first : Asserted} (e : first ≡ assertedOf (assertEq s1 s2)) where
   pub other-terms :
-      code ≡ codeOf (assertEq s1 s2) → (code ≡ 0 → ⊥) → code ≡ codeOf (boundsCase test ((s1, d1), (s2, d2)))
+      {c : ℕ} → first ≡ asserted.Refused c → first ≡ assertedOf (boundsCase test ((s1, d1), (s2, d2)))
   unfolding boundsCase
-  other-terms e h = stops _ _ e h
+  other-terms h = h ∙ refused-assertion (assertion-ends _ _ (sym h ∙ e))
 
   pub one-term :
-      {r : ℕ} → code ≡ codeOf (assertEq s1 s2) → code ≡ 0 → r ≡ codeOf (test d1 d2) →
-      r ≡ codeOf (boundsCase test ((s1, d1), (s2, d2)))
+      {r : Asserted} → first ≡ asserted.Holds → r ≡ assertedOf (test d1 d2) →
+      r ≡ assertedOf (boundsCase test ((s1, d1), (s2, d2)))
   unfolding boundsCase
-  one-term e h k = goes-on _ _ e h (λ u. k)
+  one-term h k = k ∙ sym (ap assertedOf (assertion-next _ _ (sym h ∙ e)))
 
 module _ (b : Bytes) (p q : Two) where
   pub no-first : p ≡ two.NotTwo → none ≡ both (foundTwo b p) (foundTwo b q)
@@ -152,5 +154,5 @@ module _ (b : Bytes) (r : Bounds) {p : Option ((Term × Term) × (Term × Term))
       {s1 d1 s2 d2 : ℕ} → r ≡ bounds.Are s1 d1 s2 d2 → p ≡ some (pairOf b s1 d1, pairOf b s2 d2)
   bounds-are e = sym h ∙ rw e
 
-  pub no-bounds : r ≡ bounds.Neither → p ≡ none
+  pub no-bounds : r ≡ bounds.NotBoth → p ≡ none
   no-bounds e = sym h ∙ rw e

@@ -9,9 +9,9 @@ use lib.ListN.{length, replicate, length-append, length-replicate}
 use Rattle.numbers.specs.Rational.{Rational, Proper}
 use Rattle.numbers.specs.Bytes.{Bytes, numberAt}
 use Rattle.rules.specs.IndexMap.{Map, swapRemove}
-use Rattle.rules.specs.StoredMaps.{Encoding, size, entryBytes, stored, putEntry, blanked, swapped, All, none}
-use Rattle.rules.specs.StoredMaps.{more}
-use Rattle.rules.specs.Parts.{blank}
+use Rattle.rules.specs.memory.StoredMaps.{Encoding, size, entryBytes, stored, putEntry, blanked, swapped, All, none}
+use Rattle.rules.specs.memory.StoredMaps.{more}
+use Rattle.rules.specs.memory.Parts.{blank}
 use Rattle.rules.proofs.Zeros.{zeros-join}
 use Rattle.rules.proofs.EntryBytes.{Coded, cell, length-cell, entry-at, key-found, value-found, one-more}
 use Rattle.rules.proofs.EntryBytes.{blanked-front}

@@ -12,9 +12,9 @@ use Rattle.terms.specs.Term.{Term, recordNumber}
 use Rattle.terms.specs.Book.{count, tree}
 use Rattle.terms.proofs.BookTerms.{recordNumber-tree}
 use Rattle.rules.specs.IndexMap.{Map}
-use Rattle.rules.specs.StoredMaps as maps
-use Rattle.rules.specs.StoredMaps.{entryBytes, All, none, more}
-use Rattle.rules.specs.Entries.{slots, sums, stored, entriesOf, putEntry, blanked, Entry, Good, Held, Kept}
+use Rattle.rules.specs.memory.StoredMaps as maps
+use Rattle.rules.specs.memory.StoredMaps.{entryBytes, All, none, more}
+use Rattle.rules.specs.memory.Entries.{slots, sums, stored, entriesOf, putEntry, blanked, Entry, Good, Held, Kept}
 use Rattle.rules.proofs.HeldEntries as held
 use Rattle.rules.proofs.HeldEntries.{Goods}
 use Rattle.rules.proofs.KeyedMaps.{Lacks}

@@ -1,6 +1,6 @@
--- `IndexMap<K, Rational>` with a constant beside it, which is what both `LinearComb` and `Polynomial` are: entries in the order of
--- insertion, a removal moving the last entry into the gap (`swap_remove`). Also the walk that fills one, with the visits that it
--- makes.
+-- `IndexMap<K, Rational>` with a constant beside it, which is what both `LinearComb` and `Polynomial` are: entries in
+-- the order of insertion, a removal moving the last entry into the gap (`swap_remove`). Also the walk that fills one,
+-- with the visits that it makes.
 use mathlib.Core.Bool.{Bool, true, false}
 use mathlib.Core.List.{List, [], _∷_}
 use mathlib.Core.Option.{Option, some, none}

@@ -1,15 +1,17 @@
--- The limits that document 01 adds to the Rust, as a parameter: with `limited n` the definitions are what the code must equal
--- under the visit limit n, with `theRust` they are the Rust itself. And the operations on numbers under a limit.
+-- The limits that document 01 adds to the Rust, as a parameter: with `limited n` the definitions are what the code must
+-- equal under the visit limit n, with `theRust` they are the Rust itself. And the operations on numbers under a limit.
 use mathlib.Core.Option.{Option, some, none}
 use Prim.Native.Nat.{ℕ}
 use Rattle.numbers.specs.Rational.{Rational, mulQ, divQ, addQ, limit}
-use Rattle.terms.specs.Term.{Term}
-use Rattle.terms.specs.Readers.{Bound, unbounded, atMost, bounded, asSignedNumber, asFraction}
+use Rattle.terms.specs.Term.{Term, Terms}
+use Rattle.terms.specs.Readers.{Bound, unbounded, atMost, bounded, asSignedNumber, asFraction, asBitvector, asOp}
 use Rattle.terms.specs.declared.term.Reading.{Reading}
 use Rattle.terms.specs.declared.term.Reading.the-variants.{Value, NotNumber, OutOfRange}
+use Rattle.terms.specs.declared.term.BitVector.{BitVector}
+use Rattle.terms.specs.declared.term.BitVector.the-variants.{Bits, NotBitvector}
 use Rattle.rules.specs.Refusal.{Result, _>>=_, orElse}
 use Rattle.rules.specs.Refusal.Outcome.{ok, refused}
-use Rattle.rules.specs.Refusal.Refusal.{numberRange, expectedAnyNumber}
+use Rattle.rules.specs.Refusal.Refusal.{numberRange, expectedAnyNumber, expectedBitvector, expectedOperationTerm}
 
 pub record Limits : Type 0 where
   pub numbers : Bound
@@ -66,3 +68,15 @@ fractionErr l t = fractionOf l t >>= λ q. orElse q expectedAnyNumber
 -- `as_signed_number_err`
 unfoldable pub signedNumberErr : Term → Result Rational
 signedNumberErr t = numberOr (asSignedNumber t) >>= λ q. orElse q expectedAnyNumber
+
+-- `as_bitvector_err`: value and width
+abbrev pub bitsErr : BitVector → Result (ℕ × ℕ)
+bitsErr (Bits v w) = ok (v, w)
+bitsErr NotBitvector = refused expectedBitvector
+
+unfoldable pub bitvectorErr : Term → Result (ℕ × ℕ)
+bitvectorErr t = bitsErr (asBitvector t)
+
+-- `as_op_err`: operator and arguments
+unfoldable pub opErr : Term → Result (ℕ × Terms)
+opErr t = orElse (asOp t) expectedOperationTerm

@@ -5,7 +5,8 @@ use mathlib.Core.Option.{Option, some, none}
 use Prim.Native.Nat.{ℕ}
 use lib.Dec.{leb}
 
--- Refusals of a rule, on one step. Those of what is lent (1 to 8) are another type, of the layer above: so no rule gives them.
+-- Refusals of a rule, on one step. Those of what is lent (1 to 8) are another type, of the layer above: so no rule
+-- gives them.
 pub data Refusal : Type 0 where
   visitLimit numberRange polynomialSize : Refusal
   wrongNumberOfArgs wrongNumberOfPremises wrongLengthOfClause wrongLengthOfPremiseClause : Refusal

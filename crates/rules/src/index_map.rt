@@ -1,6 +1,6 @@
-// `IndexMap<Rc<Term>, Rational>`: entries in the order of insertion, in an area of the lent work area. An entry is a record
-// number in two bytes and a number in eight; after the entries come zeros. How many there are is carried by value.
-// A refusal leaves the area empty.
+// `IndexMap<Rc<Term>, Rational>`: entries in the order of insertion, in an area of the lent work area. An entry is a
+// record number in two bytes and a number in eight; after the entries come zeros. How many there are is carried by
+// value. A refusal leaves the area empty.
 ghost use mathlib.Core.Path.{_≡_};
 ghost use mathlib.Core.Bool.{true};
 ghost use Prim.Native.Nat.{ℕ, _+_, _*_, _-_, _≤_, _<_};
@@ -11,14 +11,23 @@ ghost use Rattle.numbers.specs.Bytes.{Bytes, le, numberAt};
 ghost use Rattle.terms.specs.Book.{count, tree};
 ghost use Rattle.rules.specs.Limits.{limited};
 ghost use Rattle.rules.specs.IndexMap.{insert, get};
-ghost use Rattle.rules.specs.Entries.{terms, keysOf, entriesOf, place, putEntry, blanked, swapped, absent, Kept};
-ghost use Rattle.rules.specs.Entries.{Grown, Inserts, CoefficientIs, EntryPlace, NewEntry};
-ghost use Rattle.rules.specs.Parts.{blank};
+ghost use Rattle.rules.specs.memory.Entries.{terms, keysOf, entriesOf, place, putEntry, blanked, swapped, absent};
+ghost use Rattle.rules.specs.memory.Entries.{Kept};
+ghost use Rattle.rules.specs.memory.Entries.{Grown, Inserts, CoefficientIs, EntryPlace, NewEntry};
+ghost use Rattle.rules.specs.memory.Parts.{blank};
 ghost use Rattle.rules.specs.declared.index_map.Inserted.the-variants as inserted;
 use numbers::bytes::read_u16;
+use numbers::bytes::wide;
 use numbers::bytes::write_u16;
 use numbers::number::Checked;
 use numbers::number::Number;
+use terms::areas::COEFFICIENT_AT;
+use terms::areas::ENTRY_BYTES;
+
+// The bytes of two and of four entries.
+const TWO_ENTRIES: usize = 20;
+
+const FOUR_ENTRIES: usize = 40;
 
 // How many entries there are after an insertion.
 pub enum Inserted {
@@ -37,22 +46,22 @@ pub fn key_at(entries: &[u8], k: usize) -> usize
     requires { ⌜ k ≤ 4096 ⌝ }
     ensures { λ r. ⌜ (r ≡ le 2 (now (entries .entry)) (10 * k)) × (r < 65536) ⌝ }
 {
-    read_u16(entries, 10 * k) as usize
+    read_u16(entries, ENTRY_BYTES * k) as usize
 }
 
 pub fn value_at(entries: &[u8], k: usize) -> Number
     requires { ⌜ k ≤ 4096 ⌝ }
     ensures { λ r. ⌜ Makes r (numberAt (now (entries .entry)) (10 * k + 2)) ⌝ }
 {
-    Number::read(entries, 10 * k + 2)
+    Number::read(entries, ENTRY_BYTES * k + COEFFICIENT_AT)
 }
 
 pub fn put_entry(entries: &mut [u8], k: usize, key: usize, value: Number)
     requires { ⌜ EntryPlace k key ⌝ }
     ensures { λ _. ⌜ now (entries .exit) ≡ putEntry (now (entries .entry)) k key value ⌝ }
 {
-    write_u16(entries, 10 * k, key as u32);
-    value.write(entries, 10 * k + 2);
+    write_u16(entries, ENTRY_BYTES * k, key as u32);
+    value.write(entries, ENTRY_BYTES * k + COEFFICIENT_AT);
 }
 
 fn blank_entry(entries: &mut [u8], k: usize)
@@ -62,19 +71,12 @@ fn blank_entry(entries: &mut [u8], k: usize)
     put_entry(entries, k, 0, Number { num: 0, den: 0 });
 }
 
-// A byte as a count.
-pub(crate) fn wide(x: u8) -> usize
-    ensures { λ r. ⌜ (r ≡ x) × (r < 256) ⌝ }
-{
-    x as usize
-}
-
 // Whether the entry at byte `at` has the key. It is known to be inside, which spares a test for each entry.
 fn has_key(entries: &[u8], at: usize, key: usize) -> bool
     requires { ⌜ at + 10 ≤ length (now entries) ⌝ }
     ensures { λ r. ⌜ r ≡ ltb (place (keysOf (drop at (now (entries .entry))) 1) key) 1 ⌝ }
 {
-    wide(entries[at]) + 256 * wide(entries[at + 1]) == key
+    (wide(entries[at]) + 256 * wide(entries[at + 1])) as usize == key
 }
 
 // Whether one of the two entries from byte `at` on has the key.
@@ -85,7 +87,7 @@ fn one_of_two(entries: &[u8], at: usize, key: usize) -> bool
     if has_key(entries, at, key) {
         return true;
     }
-    has_key(entries, at + 10, key)
+    has_key(entries, at + ENTRY_BYTES, key)
 }
 
 // Whether one of the four from there on has it.
@@ -96,7 +98,7 @@ fn one_of_four(entries: &[u8], at: usize, key: usize) -> bool
     if one_of_two(entries, at, key) {
         return true;
     }
-    one_of_two(entries, at + 20, key)
+    one_of_two(entries, at + TWO_ENTRIES, key)
 }
 
 // Whether one of the eight from there on has it: eight comparisons in a row, without a loop.
@@ -107,7 +109,7 @@ fn one_of_eight(entries: &[u8], at: usize, key: usize) -> bool
     if one_of_four(entries, at, key) {
         return true;
     }
-    one_of_four(entries, at + 40, key)
+    one_of_four(entries, at + FOUR_ENTRIES, key)
 }
 
 // How many entries need no second look: they come in eights of which none has the key.
@@ -116,12 +118,12 @@ fn skipped(entries: &[u8], n: usize, key: usize) -> usize
     ensures { λ r. ⌜ (r ≤ n) × (place (keysOf (now (entries .entry)) n) key ≡
         r + place (keysOf (drop (10 * r) (now (entries .entry))) (n - r)) key) ⌝ }
 {
-    if entries.len() < 10 * n {
+    if entries.len() < ENTRY_BYTES * n {
         return 0;
     }
     let mut k = 0;
     while k + 8 <= n {
-        if one_of_eight(entries, 10 * k, key) {
+        if one_of_eight(entries, ENTRY_BYTES * k, key) {
             return k;
         }
         k += 8;
@@ -203,7 +205,8 @@ pub fn insert(entries: &mut [u8], n: usize, key: usize, value: Number) -> Insert
     requires { ⌜ NewEntry n key value ⌝ }
     ensures { λ r. ⌜ Grown n r ⌝ }
     ensures { λ r. ⌜ ((b : Bytes) → Kept b (now (entries .entry)) n → key < count b → (l : ℕ) →
-        Inserts b (now (entries .exit)) r (insert terms (limited l) (entriesOf b (now (entries .entry)) n) (tree b key) value)) ⌝ }
+        Inserts b (now (entries .exit)) r
+        (insert terms (limited l) (entriesOf b (now (entries .entry)) n) (tree b key) value)) ⌝ }
 {
     if value.is_zero() {
         return Inserted::Length(n);

@@ -1,5 +1,8 @@
-// Layer 2, what all rules share: limits, maps, shapes of terms, parts of a step, verdicts, and the work area before the first step.
+// Layer 2, what all rules share: verdicts, readers that refuse, parts of a run, maps, shapes of terms, and the work
+// area before the first step.
 pub mod index_map;
 pub mod prepare;
+pub mod readers;
+pub mod run_records;
 pub mod shapes;
 pub mod verdict;

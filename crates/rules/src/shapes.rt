@@ -10,12 +10,18 @@ ghost use Rattle.rules.specs.Refusal.{orElse};
 ghost use Rattle.rules.specs.Refusal.Refusal.{wrongLengthOfClause};
 ghost use Rattle.rules.specs.Shapes.{onlyLiteral, negatedBinary, both, boundsCase, assertEq, maxNames, bind};
 ghost use Rattle.rules.specs.Shapes.{bindAll, solve, solveAll, hasForm, equationOf, formOf};
-ghost use Rattle.rules.specs.ShapeRecords.{pairOf, foundBounds, namesIn, foundNames};
-ghost use Rattle.rules.specs.Parts.{termsIn, codeOf, after, verdictOf};
-use crate::index_map::wide;
+ghost use Rattle.rules.specs.memory.ShapeRecords.{pairOf, foundBounds, namesIn, foundNames};
+ghost use Rattle.rules.specs.memory.Parts.{termsIn, assertedOf, after, verdictOf};
+use crate::verdict::Asserted;
 use crate::verdict::Verdict;
 use numbers::bytes::read_u16;
-use terms::book::argument;
+use numbers::bytes::wide;
+use terms::format::NUMBER_AT;
+use terms::format::RUN_RECORD_BYTES;
+use terms::records::argument;
+use terms::refusal::EXPECTED_EQUAL;
+use terms::refusal::TERM_OF_WRONG_FORM;
+use terms::refusal::WRONG_LENGTH_OF_CLAUSE;
 use terms::term::Only;
 use terms::term::Two;
 use terms::term::args;
@@ -26,7 +32,7 @@ use terms::term::remove_negation;
 // The records of s1, d1, s2 and d2, if both parts of a clause bound a term.
 pub enum Bounds {
     Are(usize, usize, usize, usize),
-    Neither,
+    NotBoth,
 }
 
 // The record of the only literal, if there is just one: `assert_clause_len(conclusion, 1)`, and `conclusion[0]`.
@@ -34,10 +40,10 @@ pub fn only_literal(literals: &[u8]) -> Only
     ensures { λ r. ⌜ ((b : Bytes) →
         orElse (found b r) wrongLengthOfClause ≡ onlyLiteral (termsIn b (now (literals .entry)))) ⌝ }
 {
-    if literals.len() / 4 == 1 {
-        return Only::Of(read_u16(literals, 2) as usize);
+    if literals.len() / RUN_RECORD_BYTES == 1 {
+        return Only::Of(read_u16(literals, NUMBER_AT) as usize);
     }
-    Only::Neither
+    Only::NotOne
 }
 
 // (not (o x y)): the records of x and y.
@@ -50,20 +56,24 @@ pub fn negated_binary(book: &[u8], id: usize, o: u8) -> Two
     binary(book, x, o)
 }
 
-pub fn assert_eq(a: usize, b: usize) -> u8
-    ensures { λ r. ⌜ ((book : Bytes) → r ≡ codeOf (assertEq (tree book a) (tree book b))) ⌝ }
+pub fn assert_eq(a: usize, b: usize) -> Asserted
+    ensures { λ r. ⌜ ((book : Bytes) → r ≡ assertedOf (assertEq (tree book a) (tree book b))) ⌝ }
 {
-    if a == b { 0 } else { 33 }
+    if a == b {
+        Asserted::Holds
+    } else {
+        Asserted::Refused(EXPECTED_EQUAL)
+    }
 }
 
 // s1 and s2 are one term, and so are d1 and d2.
-pub fn bounds_eq(s1: usize, d1: usize, s2: usize, d2: usize) -> u8
-    ensures { λ r. ⌜ ((b : Bytes) → r ≡ codeOf (boundsCase assertEq (pairOf b s1 d1, pairOf b s2 d2))) ⌝ }
+pub fn bounds_eq(s1: usize, d1: usize, s2: usize, d2: usize) -> Asserted
+    ensures { λ r. ⌜ ((b : Bytes) → r ≡ assertedOf (boundsCase assertEq (pairOf b s1 d1, pairOf b s2 d2))) ⌝ }
 {
-    let code = assert_eq(s1, s2);
-    if code != 0 {
-        return code;
-    }
+    let terms = assert_eq(s1, s2);
+    let Asserted::Holds = terms else {
+        return terms;
+    };
     assert_eq(d1, d2)
 }
 
@@ -72,13 +82,18 @@ pub fn both(p: Two, q: Two) -> Bounds
     ensures { λ r. ⌜ ((b : Bytes) → foundBounds b r ≡ both (foundTwo b p) (foundTwo b q)) ⌝ }
 {
     let Two::Both(s1, d1) = p else {
-        return Bounds::Neither;
+        return Bounds::NotBoth;
     };
     let Two::Both(s2, d2) = q else {
-        return Bounds::Neither;
+        return Bounds::NotBoth;
     };
     Bounds::Are(s1, d1, s2, d2)
 }
+
+// How many names a form has at most.
+pub const MAX_NAMES: usize = 16;
+// The bytes of an equation: a name, an operator, how many parts, and places for three.
+const EQUATION_BYTES: usize = 6;
 
 // ---- forms: a table holds the record of each name, and n names have one. Each function answers how many have one
 // then, and 0 where the form does not fit.
@@ -96,7 +111,7 @@ fn bind(names: &mut [usize], n: usize, k: usize, x: usize) -> usize
         return 0;
     }
     if k == n {
-        if k < 16 {
+        if k < MAX_NAMES {
             names[k] = x;
             return k + 1;
         }
@@ -117,7 +132,7 @@ fn bind_all(names: &mut [usize], n: usize, args: &[u8], id: usize, parts: &[u8])
     let mut m = n;
     let mut j = 0;
     while j < parts.len() {
-        m = bind(names, m, wide(parts[j]), argument(args, j, id));
+        m = bind(names, m, wide(parts[j]) as usize, argument(args, j, id));
         if m == 0 {
             return 0;
         }
@@ -132,7 +147,7 @@ fn solve(book: &[u8], names: &mut [usize], n: usize, e: &[u8]) -> usize
     ensures { λ r. ⌜ (r ≤ maxNames) × ((d : ℕ) → foundNames (now (book .entry)) d r (now (names .exit))
         ≡ solve (equationOf (now (e .entry))) (namesIn (now (book .entry)) d n (now (names .entry)))) ⌝ }
 {
-    let w = wide(e[0]);
+    let w = wide(e[0]) as usize;
     if w < n {
         let x = names[w];
         if operator(book, x) == e[1] {
@@ -151,8 +166,8 @@ pub fn matches(book: &[u8], names: &mut [usize], form: &[u8]) -> usize
 {
     let mut n = 1;
     let mut at = 0;
-    while form.len() - at >= 6 {
-        let end = at + 6;
+    while form.len() - at >= EQUATION_BYTES {
+        let end = at + EQUATION_BYTES;
         n = solve(book, names, n, &form[at..end]);
         if n == 0 {
             return 0;
@@ -168,11 +183,11 @@ pub fn has_form(book: &[u8], literals: &[u8], form: &[u8], visits: u32) -> Verdi
         (hasForm (formOf (now (form .entry))) (termsIn (now (book .entry)) (now (literals .entry))))) ⌝ }
 {
     let Only::Of(phi) = only_literal(literals) else {
-        return Verdict::Refused(22);
+        return Verdict::Refused(WRONG_LENGTH_OF_CLAUSE);
     };
-    let mut names = [phi; 16];
+    let mut names = [phi; MAX_NAMES];
     if matches(book, &mut names, form) == 0 {
-        return Verdict::Refused(24);
+        return Verdict::Refused(TERM_OF_WRONG_FORM);
     }
     Verdict::Accepted(visits)
 }

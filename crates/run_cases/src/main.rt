@@ -3,13 +3,13 @@
 // left, is compared with what the file says.
 ghost use Prim.Native.Nat.{_≤_};
 ghost use lib.ListN.{length};
-use again::again::elaborate_again;
+use again::again::elaborate_and_mark;
 use elaborate::elaborate::Elaborated;
 use elaborate::elaborate::elaborate;
 use libc::STDOUT_FILENO;
 use numbers::bytes::read_u32;
+use numbers::bytes::same_bytes;
 use runs::check::check;
-use terms::book::same_bytes;
 
 // The bytes in front of a case, and the most that a book, a run and an area of a case may have.
 const HEAD: usize = 48;
@@ -177,7 +177,7 @@ fn repeats(
     let mut joined = [170u8; 65536];
     let mut againrun = [170u8; MOST];
     let mut againtail = [170u8; MOST];
-    let t = elaborate_again(
+    let t = elaborate_and_mark(
         book,
         run,
         limit,

@@ -1,8 +1,6 @@
--- Turns of a marking, in the definition and by value (`stateOf`), as `turn` and `check_steps` make them. A loop that
--- takes turns of its own, with more beside the state, uses the same laws.
---     refused-as, accepted-as       what a verdict says of the answer
---     Turned, turned       a turn stays, ends or goes on
---     turn-reached, turn-less, turn-outcome       what each turn keeps, that it has an end, and where that is
+-- Turns of a marking by value (`stateOf`), as `turn` and `check_steps` make them. A loop that takes turns of its own,
+-- with more beside the state, uses the same laws.
+--     refused-as, refusal-as, accepted-as       what a verdict says of the answer
 --     turn-stands, turn-room, turn-within       a state by value: what a turn asks
 --     turn-same, turn-over, turn-answered       the next state
 --     turn-stays, turn-done, turn-refused, turn-accepted       that state by value
@@ -20,19 +18,23 @@ use Rattle.numbers.proofs.Truths.{never}
 use Rattle.rules.specs.Refusal.{Result, _>>=_}
 use Rattle.rules.specs.Refusal.Outcome.{ok, refused}
 use Rattle.rules.specs.Limits.{limited}
-use Rattle.rules.specs.Parts.{verdictOf, Refuses}
+use Rattle.rules.specs.memory.Parts.{verdictOf, Refuses}
+use Rattle.rules.specs.declared.verdict.Verdict as by-rule
 use Rattle.rules.specs.declared.verdict.Verdict.the-variants as verdict
 use Rattle.rules.proofs.RunParts.{drop-to-end}
 use Rattle.runs.specs.Verdict.{Verdict, verdictNumber}
 use Rattle.runs.specs.Run.{Step, readRun, stepsOf}
 use Rattle.runs.specs.Check.{Accepted, State, state, counter, ended, answered, onward, checkStep, turn, turns}
 use Rattle.runs.specs.Check.{markingOf, checkSteps}
-use Rattle.runs.specs.StepParts.{stepIn, bytesIn, StandsIn}
-use Rattle.runs.specs.Lent.{visitsAfter, markedOf, placeOf, stateOf, Reached, Underway}
+use Rattle.runs.specs.memory.StepParts.{stepIn, bytesIn, StandsIn}
+use Rattle.runs.specs.Answers.{markedOf}
+use Rattle.runs.specs.memory.Lent.{visitsAfter, verdictRefusal, placeOf, stateOf, Reached, Underway}
 use Rattle.runs.specs.declared.check.State as by-value
 use Rattle.runs.specs.declared.check.Marked.{Marked}
 use Rattle.runs.proofs.RunRecords.{partFrom, Begins, begins-first, begins-next, passed-next}
 use Rattle.runs.proofs.Standing.{stands, step-now, no-more}
+use Rattle.runs.proofs.TurnOutcomes.{turn-reached, turnsBy, turnsLeft, outcome, turnBy, turn-ended, turns-ended}
+use Rattle.runs.proofs.TurnOutcomes.{turn-less, turn-outcome}
 
 -- ---- what a verdict says
 
@@ -41,108 +43,20 @@ unfolding _>>=_
 refused-as c (ok a) e = let z : _≡_ {A = ℕ} 0 1 = cc in absurd (omega arith)
 refused-as c (refused r) e = record { reason = r; is = refl; code = cc }
 
+-- v is the answer, and n the number that is handed on
+pub refusal-as :
+    (d : Result Accepted) {v : by-rule.Verdict} {c n : ℕ} → v ≡ verdictOf (visitsAfter d) → v ≡ verdict.Refused c →
+    n ≡ verdictRefusal v → Refuses n d
+refusal-as d {c = c} is stops number-is =
+    let said = refused-as c d (sym stops ∙ is) in
+    record { reason = said .reason; is = said .is; code = number-is ∙ ap verdictRefusal stops ∙ said .code }
+
 pub accepted-as :
     (v : ℕ) (d : Result Accepted) → verdict.Accepted v ≡ verdictOf (visitsAfter d) →
     (a : Accepted) × ((d ≡ ok a) × (v ≡ a .visits))
 unfolding _>>=_
 accepted-as v (ok a) e = (a, (refl, cc))
 accepted-as v (refused r) e = let z : _≡_ {A = ℕ} 0 1 = cc in absurd (omega arith)
-
--- ---- a turn
-
-module _ (run : List Step) (σ : State) where
-  pub data Turned : State → Type 0 where
-    stays : {v : Verdict} → σ .verdict ≡ some v → Turned σ
-    ends : σ .verdict ≡ none → (v : Verdict) → Turned (ended σ v)
-    goes :
-        σ .verdict ≡ none → length (σ .steps) < length run → (x : Step) (a : Accepted) → Turned (answered σ x (ok a))
-
-  pub turned : Turned (turn run σ)
-  unfolding turn
-  turned = by-verdict (σ .verdict) refl
-    where
-      by-answer :
-          σ .verdict ≡ none → length (σ .steps) < length run → (x : Step) (d : Result Accepted) → Turned (answered σ x d)
-      by-answer e h x (refused r) = ends e (Verdict.stopped r)
-      by-answer e h x (ok a) = goes e h x a
-
-      by-steps : σ .verdict ≡ none → (left : List Step) → drop (length (σ .steps)) run ≡ left →
-          Turned (onward run σ left)
-      by-steps e [] f = ends e Verdict.accepted
-      by-steps e (x ∷ left) f =
-          by-answer e (omega (arith, ap length f, length-drop (length (σ .steps)) run)) x
-          (checkStep (σ .counter .limits) run x (σ .counter .visits))
-
-      by-verdict :
-          (v : Option Verdict) → σ .verdict ≡ v →
-          Turned (elim v [ some w ↦ σ | none ↦ onward run σ (drop (length (σ .steps)) run) ])
-      by-verdict (some v) e = stays e
-      by-verdict none e = by-steps e (drop (length (σ .steps)) run) refl
-
-pub turn-reached : {run : List Step} {limit : ℕ} {σ : State} → Reached run limit σ → Reached run limit (turn run σ)
-turn-reached {run} {limit} {σ} reached = go (turned run σ)
-  where
-    go : {τ : State} → Turned run σ τ → Reached run limit τ
-    go (stays e) = reached
-    go (ends e v) = record { limits = reached .limits; place = reached .place }
-    go (goes e h x a) =
-        record {
-          limits = reached .limits;
-          place = omega (arith, h, length-append (σ .steps) ((x, a .inferred) ∷ []));
-        }
-
--- how many turns there are to the end
-abbrev pub turnsBy : ℕ → ℕ → Option Verdict → ℕ
-turnsBy n k v = elim v [ some w ↦ 0 | none ↦ suc (n - k) ]
-
-abbrev pub turnsLeft : List Step → State → ℕ
-turnsLeft run σ = turnsBy (length run) (length (σ .steps)) (σ .verdict)
-
--- the end
-abbrev pub outcome : List Step → State → State
-outcome run σ = turns (turnsLeft run σ) run σ
-
--- by the verdict
-abbrev turnBy : List Step → State → Option Verdict → State
-turnBy run σ v = elim v [ some w ↦ σ | none ↦ onward run σ (drop (length (σ .steps)) run) ]
-
-turn-ended : (run : List Step) (σ : State) {v : Verdict} → σ .verdict ≡ some v → turn run σ ≡ σ
-unfolding turn
-turn-ended run σ e = ap (turnBy run σ) e
-
-turns-ended : (k : ℕ) (run : List Step) (σ : State) {v : Verdict} → σ .verdict ≡ some v → turns k run σ ≡ σ
-unfolding turns
-turns-ended zero run σ e = refl
-turns-ended (suc k) run σ e = ap (turns k run) (turn-ended run σ e) ∙ turns-ended k run σ e
-
-module _ (run : List Step) (σ : State) where
-  pub turn-less : σ .verdict ≡ none → turnsLeft run (turn run σ) < turnsLeft run σ
-  turn-less under = omega (arith, go (turned run σ), ap (turnsBy (length run) (length (σ .steps))) under)
-    where
-      go : {τ : State} → Turned run σ τ → turnsLeft run τ < suc (length run - length (σ .steps))
-      go (stays e) = let z : _≡_ {A = ℕ} 0 1 = cc in absurd (omega arith)
-      go (ends e v) = omega arith
-      go (goes e h x a) = omega (arith, h, length-append (σ .steps) ((x, a .inferred) ∷ []))
-
-  pub turn-outcome : outcome run (turn run σ) ≡ outcome run σ
-  unfolding turns
-  turn-outcome = go (turned run σ) refl
-    where
-      first : σ .verdict ≡ none → outcome run σ ≡ turns (length run - length (σ .steps)) run (turn run σ)
-      first e = ap (λ v. turns (turnsBy (length run) (length (σ .steps)) v) run σ) e
-
-      go : {τ : State} → Turned run σ τ → turn run σ ≡ τ → outcome run (turn run σ) ≡ outcome run σ
-      go (stays e) f = ap (outcome run) f
-      go (ends e v) f =
-          ap (outcome run) f
-          ∙ sym (first e ∙ ap (turns (length run - length (σ .steps)) run) f ∙ turns-ended (length run - length (σ .steps)) run (ended σ v) refl)
-      go (goes e h x a) f =
-          let more = length-append (σ .steps) ((x, a .inferred) ∷ []) in
-          let n : suc (length run - length (σ .steps ++ (x, a .inferred) ∷ [])) ≡ length run - length (σ .steps) =
-          omega (arith, h, more)
-          in
-          ap (outcome run) f ∙ ap (λ k. turns k run (answered σ x (ok a))) n
-          ∙ sym (first e ∙ ap (turns (length run - length (σ .steps)) run) f)
 
 -- ---- by value
 
@@ -348,7 +262,8 @@ abbrev pub markedIn : by-value.State → Marked
 markedIn s = record { verdict = s .verdict; steps = s .steps; visits = s .counter .visits }
 
 marked-is : (run : Bytes) (limit : ℕ) (σ : State) → markedIn (stateOf run limit σ) ≡ markedOf (markingOf σ)
-marked-is run limit σ = ap (λ v. record { verdict = v; steps = length (σ .steps); visits = σ .counter .visits }) (go (σ .verdict))
+marked-is run limit σ =
+    ap (λ v. record { verdict = v; steps = length (σ .steps); visits = σ .counter .visits }) (go (σ .verdict))
   where
     go :
         (v : Option Verdict) →

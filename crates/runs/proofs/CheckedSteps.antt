@@ -15,18 +15,18 @@ use Rattle.rules.specs.Limits.{Limits, limited}
 use Rattle.linear_arithmetic.specs.LinearArithmetic.{Progress, laRwEq, laDisequality, laTotality, laTautology}
 use Rattle.linear_arithmetic.specs.LinearArithmetic.{laGeneric, laGenericPartial}
 use Rattle.rules.specs.Shapes.{Clause}
-use Rattle.linear_arithmetic.specs.LinearSteps.{visitsOf}
-use Rattle.rules.specs.Parts.{numbersIn, termsIn, verdictOf, after}
+use Rattle.linear_arithmetic.specs.memory.LinearSteps.{visitsOf}
+use Rattle.rules.specs.memory.Parts.{numbersIn, termsIn, verdictOf, after}
 use Rattle.poly_simp.specs.PolySimp.{polySimp, polySimpRel}
-use Rattle.poly_simp.specs.PolynomialRel.{PremisesAre}
+use Rattle.poly_simp.specs.memory.PolynomialRel.{PremisesAre}
 use Rattle.rules.specs.declared.verdict.Verdict.{Verdict}
 use Rattle.rules.specs.declared.verdict.Verdict.the-variants.{Accepted}
 use Rattle.rules.proofs.RunParts.{length-numbersIn, number-at, below-at}
 use Rattle.runs.specs.Rule.{Rule, ruleNumber, ruleOf}
 use Rattle.runs.specs.Run.{Step, step, stepsOf}
 use Rattle.runs.specs.Check.{still, moved, traced, clausesOf, checkRule, checkStep}
-use Rattle.runs.specs.Lent.{visitsAfter}
-use Rattle.runs.specs.StepParts.{premisesIn, clauseIn, argsIn, ruleIn, stepIn, stepFrom, StandsIn}
+use Rattle.runs.specs.memory.Lent.{visitsAfter}
+use Rattle.runs.specs.memory.StepParts.{premisesIn, clauseIn, argsIn, ruleIn, stepIn, stepFrom, StandsIn}
 use Rattle.runs.proofs.Rules.{rule-back, rule-number}
 use Rattle.runs.proofs.StepRules.{rule-is}
 use Rattle.runs.proofs.Standing.{stands-steps, stands-rule, stands-premises, stands-named}

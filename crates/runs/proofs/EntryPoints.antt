@@ -1,8 +1,8 @@
 -- What comes before the first step of a run.
 --     lent-short, lent-none, lent-much, lent-right       refusal 1 by its tests
---     opens-unfit, opens-ready, opens-run, opens-refused       what `open` answers and leaves
+--     opens-unfit, opens-ready, opens-steps, opens-stopped, opens-refused       what `open` answers and leaves
 --     RefusedAs, refused-is, refused-marking       the marking where `open` refuses
---     opened-read, opened-marking       the marking where it does not: that of the steps
+--     opened-read, opened-marked, opened-marking       the marking where it does not: that of the steps
 use mathlib.Core.Path.{_≡_, refl, sym, ap, _∙_}
 use mathlib.Core.Bool.{Bool, true, false}
 use mathlib.Core.List.{List, []}
@@ -18,36 +18,46 @@ use Rattle.terms.specs.declared.book.BookRead.the-variants.{Records, RefusedAt}
 use Rattle.rules.specs.Refusal.{Outcome}
 use Rattle.rules.specs.Refusal.Outcome.{ok, refused}
 use Rattle.rules.specs.Limits.{limited}
-use Rattle.rules.specs.Parts.{Ready}
+use Rattle.rules.specs.memory.Parts.{Ready}
 use Rattle.rules.proofs.Prepared.{prepared}
-use Rattle.runs.specs.Verdict.{LentRefusal, lentNumber, lentCode}
+use Rattle.runs.specs.Verdict.{LentRefusal, lentNumber}
 use Rattle.runs.specs.Verdict.LentRefusal.{workAreaOrLimit, ofBook}
 use Rattle.runs.specs.Run.{Step, readRun, stepsOf}
-use Rattle.runs.specs.Check.{Marking, checkSteps, nothingMarked, markRun, mark, lentOk, check}
-use Rattle.runs.specs.Lent.{zeros, markedOf, openCode, openWork, Opens}
+use Rattle.runs.specs.Check.{Marking, checkSteps, nothingMarked, markRun, mark, workBytes, minLimit, maxLimit}
+use Rattle.runs.specs.Check.{lentOk}
+use Rattle.runs.specs.Check.{check}
+use Rattle.runs.specs.Answers.{zeros, markedOf}
+use Rattle.runs.specs.memory.StepParts.{runReadOf, runRefusal}
+use Rattle.runs.specs.memory.Lent.{opening, openedOf, openedRefusal, openWork, Opens}
+use Rattle.runs.specs.declared.run.RunRead.{RunRead}
+use Rattle.runs.specs.declared.run.RunRead.the-variants as runRead
+use Rattle.runs.specs.declared.check.Opened.{Opened}
+use Rattle.runs.specs.declared.check.Opened.the-variants as opened
 use Rattle.runs.specs.declared.check.Marked.{Marked}
-use Rattle.runs.proofs.Verdicts.{book-positive, lent-positive}
 
 -- ---- refusals 1 to 7
 
 module _ (n limit : ℕ) where
-  pub lent-short : (n ≡ 65536 → ⊥) → lentOk n limit ≡ false
-  lent-short h = rw (ne-eqb n 65536 h)
+  pub lent-short : (n ≡ workBytes → ⊥) → lentOk n limit ≡ false
+  lent-short h = rw (ne-eqb n workBytes h)
 
-  module _ (size : n ≡ 65536) where
-    pub lent-none : limit < 1 → lentOk n limit ≡ false
-    lent-none h = rw (eq-eqb n 65536 size, lt-leb 1 limit h)
+  module _ (size : n ≡ workBytes) where
+    pub lent-none : limit < minLimit → lentOk n limit ≡ false
+    lent-none h = rw (eq-eqb n workBytes size, lt-leb minLimit limit h)
 
-    module _ (some : 1 ≤ limit) where
-      pub lent-much : 1000000 < limit → lentOk n limit ≡ false
-      lent-much h = rw (eq-eqb n 65536 size, le-leb 1 limit some, lt-leb limit 1000000 h)
+    module _ (some : minLimit ≤ limit) where
+      pub lent-much : maxLimit < limit → lentOk n limit ≡ false
+      lent-much h = rw (eq-eqb n workBytes size, le-leb minLimit limit some, lt-leb limit maxLimit h)
 
-      pub lent-right : limit ≤ 1000000 → lentOk n limit ≡ true
-      lent-right h = rw (eq-eqb n 65536 size, le-leb 1 limit some, le-leb limit 1000000 h)
+      pub lent-right : limit ≤ maxLimit → lentOk n limit ≡ true
+      lent-right h = rw (eq-eqb n workBytes size, le-leb minLimit limit some, le-leb limit maxLimit h)
 
--- the code, and the marking, by that test and by what reading the book and the run answers
-abbrev codeBy : Bool → BookRead → Outcome LentRefusal (List Step) → ℕ
-codeBy t x y = elim t [ true ↦ elim x [ Records k ↦ lentCode y | RefusedAt c i ↦ bookNumber c ] | false ↦ 1 ]
+-- what opening answers, and the marking, by that test and by what reading the book and the run answers
+abbrev openBy : Bool → BookRead → Outcome LentRefusal (List Step) → Outcome LentRefusal (List Step)
+openBy t x y = elim t [
+  | true ↦ elim x [ Records k ↦ y | RefusedAt c i ↦ refused (ofBook c) ]
+  | false ↦ refused workAreaOrLimit
+]
 
 abbrev markBy : ℕ → Bool → BookRead → Outcome LentRefusal (List Step) → Marking
 markBy limit t x y = elim t [
@@ -55,14 +65,24 @@ markBy limit t x y = elim t [
   | false ↦ nothingMarked workAreaOrLimit
 ]
 
-module _ (b run : Bytes) (limit n : ℕ) {t : Bool} {x : BookRead} (e : lentOk n limit ≡ t) (f : readBook b ≡ x) where
-  code-by : openCode b run limit n ≡ codeBy t x (readRun b run)
-  unfolding openCode
-  code-by = ap (λ s. codeBy s (readBook b) (readRun b run)) e ∙ ap (λ s. codeBy t s (readRun b run)) f
+opening-by :
+    (b run : Bytes) (limit n : ℕ) {t : Bool} {x : BookRead} → lentOk n limit ≡ t → readBook b ≡ x →
+    opening b run limit n ≡ openBy t x (readRun b run)
+unfolding opening
+opening-by b run limit n {t} e f =
+    ap (λ s. openBy s (readBook b) (readRun b run)) e ∙ ap (λ s. openBy t s (readRun b run)) f
 
-  mark-by : check b run limit n ≡ markBy limit t x (readRun b run)
-  unfolding check mark
-  mark-by = ap (λ s. markBy limit s (readBook b) (readRun b run)) e ∙ ap (λ s. markBy limit t s (readRun b run)) f
+-- the marking is that of what opening answers
+mark-by : (b run : Bytes) (limit n : ℕ) → check b run limit n ≡ markRun (limited limit) (opening b run limit n)
+unfolding check mark opening markRun
+mark-by b run limit n = go (lentOk n limit) (readBook b) (readRun b run)
+  where
+    go :
+        (t : Bool) (x : BookRead) (y : Outcome LentRefusal (List Step)) →
+        markBy limit t x y ≡ markRun (limited limit) (openBy t x y)
+    go true (Records k) y = refl
+    go true (RefusedAt c i) y = refl
+    go false x y = refl
 
 -- the work area by the test and by what reading the book answers
 abbrev leftBy : Bytes → Bytes → BookRead → Bool → Bytes
@@ -70,20 +90,23 @@ leftBy b w x t = elim t [ true ↦ putSorts (recordsRead x) b (zeros w) | false 
 
 -- the work area after the book was read
 pub opens-ready :
-    {b w′ : Bytes} {r : BookRead} {n k : ℕ} → n ≡ 65536 → BookDone b (replicate n 0) w′ r → r ≡ Records k → Ready b w′
+    {b w′ : Bytes} {r : BookRead} {n k : ℕ} → n ≡ workBytes → BookDone b (replicate n 0) w′ r → r ≡ Records k →
+    Ready b w′
 opens-ready {b} {w′} {r} {k} size done e = prepared b w′ r k (rw size at done) e
 
--- no book is refused by 0
-book-refused : (c : BookRefusal) → 0 ≡ bookNumber c → ⊥
-book-refused c e = omega (arith, book-positive c, e)
+-- what reading a run answers is what opening does, where book and work area are not refused
+steps-ready : {X : Type 0} (x : Outcome LentRefusal X) → runRead.Steps ≡ runReadOf x → opened.Ready ≡ openedOf x
+steps-ready (ok a) e = refl
+steps-ready (refused r) e = cc
 
--- nor a run
-run-passed : (b run : Bytes) → 0 ≡ lentCode (readRun b run) → readRun b run ≡ ok (stepsOf b run)
-run-passed b run = go (readRun b run)
-  where
-    go : (x : Outcome LentRefusal (List Step)) → 0 ≡ lentCode x → x ≡ ok (elim x [ ok ss ↦ ss | refused r ↦ [] ])
-    go (ok ss) h = refl
-    go (refused r) h = absurd (omega (arith, lent-positive r, h))
+run-stops :
+    {X : Type 0} (x : Outcome LentRefusal X) {c : ℕ} → runRead.Refused c ≡ runReadOf x →
+    opened.Refused c ≡ openedOf x
+run-stops (ok a) e = cc
+run-stops (refused r) e = cc
+
+not-ready : {c : ℕ} {X : Type 0} → opened.Refused c ≡ opened.Ready → X
+not-ready e = let z : _≡_ {A = ℕ} 0 1 = cc in absurd (omega arith)
 
 -- what `open` answers, and what it leaves
 module _ (b run : Bytes) (limit : ℕ) (w : Bytes) where
@@ -91,12 +114,12 @@ module _ (b run : Bytes) (limit : ℕ) (w : Bytes) where
   unfolding openWork
   left-by e = ap (leftBy b w (readBook b)) e
 
-  pub opens-unfit : lentOk (length w) limit ≡ false → Opens b run limit w w 1
+  pub opens-unfit : lentOk (length w) limit ≡ false → Opens b run limit w w (opened.Refused 1)
   opens-unfit e =
       record {
-        code = sym (code-by b run limit (length w) e refl);
+        answered = sym (ap openedOf (opening-by b run limit (length w) e refl));
         left = sym (left-by e);
-        ready = λ h. absurd (omega arith);
+        ready = not-ready;
       }
 
   module _ (right : lentOk (length w) limit ≡ true) {w′ : Bytes} {r : BookRead} (done : BookDone b (zeros w) w′ r) where
@@ -104,22 +127,38 @@ module _ (b run : Bytes) (limit : ℕ) (w : Bytes) where
     left-read =
         done .sorts ∙ ap (λ (x : BookRead). putSorts (recordsRead x) b (zeros w)) (done .is) ∙ sym (left-by right)
 
-    pub opens-run :
-        {k c : ℕ} → length w ≡ 65536 → r ≡ Records k → c ≡ lentCode (readRun b run) → Opens b run limit w w′ c
-    opens-run size e h =
-        record {
-          code = h ∙ sym (code-by b run limit (length w) right (sym (done .is) ∙ e));
-          left = left-read;
-          ready = λ z. opens-ready size done e;
-        }
+    by-book : {x : BookRead} → r ≡ x → opening b run limit (length w) ≡ openBy true x (readRun b run)
+    by-book e = opening-by b run limit (length w) right (sym (done .is) ∙ e)
 
-    pub opens-refused : {c : BookRefusal} {i k : ℕ} → r ≡ RefusedAt c i → k ≡ bookNumber c → Opens b run limit w w′ k
+    pub opens-refused :
+        {c : BookRefusal} {i k : ℕ} → r ≡ RefusedAt c i → k ≡ bookNumber c → Opens b run limit w w′ (opened.Refused k)
     opens-refused {c} e number-is =
         record {
-          code = number-is ∙ sym (code-by b run limit (length w) right (sym (done .is) ∙ e));
+          answered = ap opened.Refused number-is ∙ sym (ap openedOf (by-book e));
           left = left-read;
-          ready = λ z. absurd (book-refused c (sym z ∙ number-is));
+          ready = not-ready;
         }
+
+    module _ {k : ℕ} (e : r ≡ Records k) {x : RunRead} (read : x ≡ runReadOf (readRun b run)) where
+      pub opens-steps : length w ≡ workBytes → x ≡ runRead.Steps → Opens b run limit w w′ opened.Ready
+      opens-steps size steps =
+          record {
+            answered = steps-ready (readRun b run) (sym steps ∙ read) ∙ sym (ap openedOf (by-book e));
+            left = left-read;
+            ready = λ z. opens-ready size done e;
+          }
+
+      pub opens-stopped :
+          {c n : ℕ} → x ≡ runRead.Refused c → n ≡ runRefusal x → Opens b run limit w w′ (opened.Refused n)
+      opens-stopped stops number-is =
+          record {
+            answered =
+                ap opened.Refused (number-is ∙ ap runRefusal stops)
+                ∙ run-stops (readRun b run) (sym stops ∙ read)
+                ∙ sym (ap openedOf (by-book e));
+            left = left-read;
+            ready = not-ready;
+          }
 
 -- ---- the marking, by what `open` answered
 
@@ -134,49 +173,57 @@ module _ (b run : Bytes) (limit n : ℕ) where
   stepsMarked = checkSteps (limited limit) (stepsOf b run)
 
   -- the book and the run were read
-  record Opened : Type 0 where
+  record Opening : Type 0 where
     read : readRun b run ≡ ok (stepsOf b run)
     marked : check b run limit n ≡ stepsMarked
 
-  module _ {r : ℕ} (code : r ≡ openCode b run limit n) where
-    pub refused-is : (r ≡ 0 → ⊥) → RefusedAs r (check b run limit n)
-    unfolding markRun
-    refused-is h =
-        rw (mark-by b run limit n refl refl)
-        (go (lentOk n limit) (readBook b) (readRun b run) (code ∙ code-by b run limit n refl refl))
-      where
-        go : (t : Bool) (x : BookRead) (y : Outcome LentRefusal (List Step)) → r ≡ codeBy t x y →
-            RefusedAs r (markBy limit t x y)
-        go false x y e = record { reason = workAreaOrLimit; is = refl; code = e }
-        go true (RefusedAt c i) y e = record { reason = ofBook c; is = refl; code = e }
-        go true (Records k) (refused q) e = record { reason = q; is = refl; code = e }
-        go true (Records k) (ok ss) e = absurd (h e)
+  module _ {r : Opened} (answered : r ≡ openedOf (opening b run limit n)) where
+    -- v is the number that is answered
+    module _ {c : ℕ} (stops : r ≡ opened.Refused c) {v : ℕ} (number-is : v ≡ openedRefusal r) where
+      pub refused-is : RefusedAs v (check b run limit n)
+      unfolding markRun
+      refused-is = rw (mark-by b run limit n) (go (opening b run limit n) (sym stops ∙ answered))
+        where
+          go :
+              (x : Outcome LentRefusal (List Step)) → opened.Refused c ≡ openedOf x →
+              RefusedAs v (markRun (limited limit) x)
+          go (ok ss) e = not-ready e
+          go (refused q) e =
+              record { reason = q; is = refl; code = number-is ∙ ap openedRefusal stops ∙ ap openedRefusal e }
 
-    pub refused-marking :
-        (r ≡ 0 → ⊥) → record { verdict = r; steps = 0; visits = 0 } ≡ markedOf (check b run limit n)
-    refused-marking h =
-        let refused-as = refused-is h in
-        ap (λ c. record { verdict = c; steps = 0; visits = 0 }) (refused-as .code) ∙ ap markedOf (sym (refused-as .is))
+      pub refused-marking : record { verdict = v; steps = 0; visits = 0 } ≡ markedOf (check b run limit n)
+      refused-marking =
+          let refused-as = refused-is in
+          ap (λ c. record { verdict = c; steps = 0; visits = 0 }) (refused-as .code)
+          ∙ ap markedOf (sym (refused-as .is))
 
-    opened-is : r ≡ 0 → Opened
-    unfolding markRun
-    opened-is z =
-        go (lentOk n limit) refl (readBook b) refl (sym z ∙ code ∙ code-by b run limit n refl refl)
-      where
-        go : (t : Bool) → lentOk n limit ≡ t → (x : BookRead) → readBook b ≡ x →
-            0 ≡ codeBy t x (readRun b run) → Opened
-        go false e x f h = absurd (omega arith)
-        go true e (RefusedAt c i) f h = absurd (book-refused c h)
-        go true e (Records k) f h =
-            let read = run-passed b run h in
-            record { read = read; marked = mark-by b run limit n e f ∙ ap (markRun (limited limit)) read }
+    module _ (ready : r ≡ opened.Ready) where
+      opened-is : Opening
+      unfolding markRun
+      opened-is = go (lentOk n limit) refl (readBook b) refl (readRun b run) refl (sym ready ∙ answered)
+        where
+          go :
+              (t : Bool) → lentOk n limit ≡ t → (x : BookRead) → readBook b ≡ x →
+              (y : Outcome LentRefusal (List Step)) → readRun b run ≡ y →
+              opened.Ready ≡ openedOf (opening b run limit n) → Opening
+          go false e x f y g h = not-ready (sym (h ∙ ap openedOf (opening-by b run limit n e f)))
+          go true e (RefusedAt c i) f y g h = not-ready (sym (h ∙ ap openedOf (opening-by b run limit n e f)))
+          go true e (Records k) f (refused q) g h =
+              not-ready (sym (h ∙ ap openedOf (opening-by b run limit n e f ∙ g)))
+          go true e (Records k) f (ok ss) g h =
+              let same : stepsOf b run ≡ ss = rw (g, stepsOf) in
+              record {
+                read = g ∙ ap ok (sym same);
+                marked =
+                    mark-by b run limit n ∙ ap (markRun (limited limit)) (opening-by b run limit n e f ∙ g)
+                    ∙ ap (checkSteps (limited limit)) (sym same);
+              }
 
-    module _ (z : r ≡ 0) where
       pub opened-read : readRun b run ≡ ok (stepsOf b run)
-      opened-read = opened-is z .read
-
-      pub opened-marking : {a : Marked} → a ≡ markedOf stepsMarked → a ≡ markedOf (check b run limit n)
-      opened-marking h = h ∙ sym (ap markedOf (opened-is z .marked))
+      opened-read = opened-is .read
 
       pub opened-marked : check b run limit n ≡ stepsMarked
-      opened-marked = opened-is z .marked
+      opened-marked = opened-is .marked
+
+      pub opened-marking : {a : Marked} → a ≡ markedOf stepsMarked → a ≡ markedOf (check b run limit n)
+      opened-marking h = h ∙ sym (ap markedOf opened-marked)

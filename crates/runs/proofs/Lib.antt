@@ -11,6 +11,6 @@ pub mod StepReading
 pub mod Standing
 -- steps and runs in memory
 pub mod CheckedSteps
+pub mod TurnOutcomes
 pub mod CheckLoops
-pub mod ClearedAreas
 pub mod EntryPoints

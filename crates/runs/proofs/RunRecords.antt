@@ -6,7 +6,7 @@
 --     rowsIn, ownBytes, length-own, step-taken       the bytes of a step
 --     next-drop, bytes-within, bytes-least, next-shorter, whole-next       where the next step starts
 --     partFrom, Begins, begins-first, begins-behind, begins-next, begins-less       going through a run step by step
---     Passed, passed-first, passed-next       where each step that is passed has some bytes
+--     Passed, passed-next       where each step that is passed has some bytes
 use mathlib.Core.Path.{_≡_, refl, sym, ap, _∙_}
 use mathlib.Core.Bool.{Bool, true, false}
 use mathlib.Core.List.{List, [], _∷_, _++_, append-assoc}
@@ -18,11 +18,11 @@ use lib.ListN.{length, getD, take, drop, length-append, length-take, length-drop
 use lib.Seq.{take-all, take-nil, drop-nil, drop-drop, take-at, drop-at}
 use Rattle.numbers.specs.Bytes.{Bytes, le}
 use Rattle.numbers.proofs.LittleEndian.{le-cons, le-of-two}
-use Rattle.rules.specs.Parts.{numbersIn, named, termsIn}
+use Rattle.rules.specs.memory.Parts.{numbersIn, named, termsIn}
 use Rattle.rules.proofs.RunParts.{drop-to-end}
 use Rattle.runs.specs.Run.{Rec, rec, recs, leading, after, numbersOf, termsOf, P, C, A}
-use Rattle.runs.specs.StepParts.{leadingIn, afterIn, premisesIn, clauseIn, argsIn, nextIn, bytesIn, headIn}
-use Rattle.runs.specs.StepParts.{stepFrom}
+use Rattle.runs.specs.memory.StepParts.{leadingIn, afterIn, premisesIn, clauseIn, argsIn, nextIn, bytesIn, headIn}
+use Rattle.runs.specs.memory.StepParts.{stepFrom}
 
 -- ---- by place
 
@@ -241,9 +241,6 @@ module _ {run : Bytes} {at n : ℕ} (begins : Begins run at n) {m : ℕ} (size :
 pub record Passed (run : Bytes) (at n : ℕ) : Type 0 where
   pub begins : Begins run at n
   pub few : n ≤ at
-
-pub passed-first : (run : Bytes) → Passed run 0 0
-passed-first run = record { begins = begins-first run; few = omega arith }
 
 pub passed-next :
     {run : Bytes} {at n : ℕ} → Passed run at n → at < length run → {m : ℕ} → m ≡ bytesIn (partFrom run at) →

@@ -21,15 +21,16 @@ use Rattle.terms.specs.Book.{count, tree, allBelow}
 use Rattle.numbers.proofs.Truths.{both}
 use Rattle.rules.specs.Refusal.{orElse}
 use Rattle.rules.specs.Refusal.Outcome.{ok}
-use Rattle.rules.specs.Parts.{numbersIn, Inside}
+use Rattle.rules.specs.memory.Parts.{numbersIn, Inside}
 use Rattle.rules.proofs.Yields.{Yields, at-ok, by-answer, guarded, known, through}
 use Rattle.rules.proofs.Yields.Yields.{gives}
 use Rattle.runs.specs.Verdict.LentRefusal.{runRecord}
 use Rattle.runs.specs.Rule.{ruleOf}
 use Rattle.runs.specs.Rule.Rule.{assume}
 use Rattle.runs.specs.Run.{Step, step, recs, allRight, headRule, readStep, readRun, Every, stepsOf, end, also}
-use Rattle.runs.specs.StepParts.{premisesIn, clauseIn, argsIn, nextIn, bytesIn, headIn, readIn, ruleIn, stepIn}
-use Rattle.runs.specs.StepParts.{stepFrom, StandsIn}
+use Rattle.runs.specs.memory.StepParts.{premisesIn, clauseIn, argsIn, nextIn, bytesIn, headIn, readIn, ruleIn}
+use Rattle.runs.specs.memory.StepParts.{stepIn}
+use Rattle.runs.specs.memory.StepParts.{stepFrom, StandsIn}
 use Rattle.runs.proofs.RowRecords.{isLiteral, right-numbers}
 use Rattle.runs.proofs.RunRecords.{length-recs, numbers-of, terms-of, rowsIn, length-own, next-drop}
 use Rattle.runs.proofs.RunRecords.{bytes-within, next-shorter, whole-next, Begins}

@@ -5,7 +5,7 @@
 --     step-tests, not-read       a step is read if all tests hold; otherwise it is refusal 7
 --     readPart, part-done .. part-wrong       the steps of a part are its first step and those of what follows
 --     not-whole, too-long       refusal 6
---     ReadSoFar, read-begin .. read-less       the steps before a place are read, and the others are left
+--     ReadSoFar, read-begin .. read-on       so many steps are read, and the others are left
 use mathlib.Core.Path.{_≡_, refl, sym, ap, _∙_, subst}
 use mathlib.Core.Bool.{Bool, true, false, _&&_, and-assoc}
 use mathlib.Core.List.{List, [], _∷_}
@@ -22,21 +22,26 @@ use Rattle.numbers.specs.Bytes.{Bytes, le}
 use Rattle.terms.specs.Book.{count, SortsBelow}
 use Rattle.terms.proofs.Layouts.{all, Walk, walk-on, walk-fails, walk-end}
 use Rattle.numbers.proofs.Truths.{never}
+use Rattle.linear_arithmetic.specs.memory.LinearSteps.{maxRunBytes}
 use Rattle.rules.specs.Refusal.{Outcome, _>>=_, assert, orElse}
 use Rattle.rules.specs.Refusal.Outcome.{ok, refused}
-use Rattle.rules.proofs.RunParts.{drop-to-end}
-use Rattle.runs.specs.Verdict.{LentRefusal, lentCode}
+use Rattle.runs.specs.Verdict.{LentRefusal}
 use Rattle.runs.specs.Verdict.LentRefusal.{runRecord}
 use Rattle.runs.specs.Rule.{Rule, ruleOf}
 use Rattle.runs.specs.Run.{Step, Rec, rec, P, C, A, recs, leading, after, allRight, isEmpty, shapeOk, headRule}
 use Rattle.runs.specs.Run.{readStep, readSteps, readRun, maxRunRecords}
-use Rattle.runs.specs.StepParts.{afterIn, premisesIn, clauseIn, argsIn, nextIn, bytesIn, headIn, partsOk, readIn}
-use Rattle.runs.specs.StepParts.{ruleIn, isSome, isOk}
+use Rattle.runs.specs.memory.StepParts.{afterIn, premisesIn, clauseIn, argsIn, nextIn, bytesIn, headIn, partsOk}
+use Rattle.runs.specs.memory.StepParts.{readIn}
+use Rattle.runs.specs.memory.StepParts.{partsIn, ruleIn, isOk, runReadOf}
+use Rattle.runs.specs.declared.run.StepParts.{StepParts}
+use Rattle.runs.specs.declared.run.RunRead.{RunRead}
+use Rattle.runs.specs.declared.run.RunRead.the-variants as runRead
+use Rattle.rules.specs.memory.Parts.{isSome}
 use Rattle.runs.proofs.Rules.{rule-number}
 use Rattle.runs.proofs.StepRules.{head-rule, rule-is}
 use Rattle.runs.proofs.RunRecords.{length-recs, recAt, recs-cons, head-is, after-drop, recs-leading, recs-after}
-use Rattle.runs.proofs.RunRecords.{whole-next, partFrom, begins-behind, begins-next, begins-less, Passed}
-use Rattle.runs.proofs.RunRecords.{passed-first, passed-next}
+use Rattle.runs.proofs.RunRecords.{bytes-least, next-drop, whole-next, partFrom}
+use Rattle.runs.proofs.StepAreas.{next-found}
 use Rattle.runs.proofs.RowRecords.{isLiteral}
 
 -- record k
@@ -283,88 +288,83 @@ module _ (b : Bytes) where
     -- the first is read, and the others are left; or it is not
     pub part-read :
         4 ≤ length part → isOk (readIn b n part) ≡ true →
-        lentCode (readPart n part) ≡ lentCode (readPart (suc n) (nextIn part))
+        runReadOf (readPart n part) ≡ runReadOf (readPart (suc n) (nextIn part))
     unfolding _>>=_
-    part-read h e = ap lentCode (part-first h) ∙ go (readIn b n part) e (readPart (suc n) (nextIn part))
+    part-read h e = ap runReadOf (part-first h) ∙ go (readIn b n part) e (readPart (suc n) (nextIn part))
       where
         go :
             (x : Outcome LentRefusal Step) → isOk x ≡ true → (y : Outcome LentRefusal (List Step)) →
-            lentCode (followed x y) ≡ lentCode y
+            runReadOf (followed x y) ≡ runReadOf y
         go (ok s) e (ok ss) = refl
         go (ok s) e (refused r) = refl
         go (refused r) e y = never e
 
-    pub part-wrong : 4 ≤ length part → isOk (readIn b n part) ≡ false → lentCode (readPart n part) ≡ 7
+    pub part-wrong : 4 ≤ length part → isOk (readIn b n part) ≡ false → runReadOf (readPart n part) ≡ runRead.Refused 7
     unfolding _>>=_
     part-wrong h e =
-        ap lentCode (part-first h)
-        ∙ ap (λ x. lentCode (followed x (readPart (suc n) (nextIn part)))) (not-read b n part e)
+        ap runReadOf (part-first h)
+        ∙ ap (λ x. runReadOf (followed x (readPart (suc n) (nextIn part)))) (not-read b n part e)
 
 -- ---- the run
 
 module _ (b run : Bytes) where
-  size-wrong : (eqb (length run % 4) 0 && leb (length run / 4) maxRunRecords) ≡ false → 6 ≡ lentCode (readRun b run)
+  abbrev Answers : RunRead → Type 0
+  Answers r = r ≡ runReadOf (readRun b run)
+
+  size-wrong : (eqb (length run % 4) 0 && leb (length run / 4) maxRunRecords) ≡ false → Answers (runRead.Refused 6)
   unfolding readRun assert _>>=_
   size-wrong e = rw e
 
-  pub not-whole : (length run % 4 ≡ 0 → ⊥) → 6 ≡ lentCode (readRun b run)
+  pub not-whole : (length run % 4 ≡ 0 → ⊥) → Answers (runRead.Refused 6)
   not-whole h = size-wrong (rw (ne-eqb _ _ h))
 
-  pub too-long : length run % 4 ≡ 0 → 16384 < length run → 6 ≡ lentCode (readRun b run)
+  pub too-long : length run % 4 ≡ 0 → maxRunBytes < length run → Answers (runRead.Refused 6)
   too-long h g = size-wrong (rw (eq-eqb _ _ h) (lt-leb (length run / 4) maxRunRecords (omega (arith, h, g))))
 
-  -- the steps before byte `at` are read, n of them
-  pub record ReadSoFar (at n : ℕ) : Type 0 where
-    pub passed : Passed run at n
-    pub whole : length (drop at run) % 4 ≡ 0
-    pub left : lentCode (readRun b run) ≡ lentCode (readPart b n (drop at run))
+  -- n steps are read, none of them empty
+  pub record ReadSoFar (left : Bytes) (n : ℕ) : Type 0 where
+    pub few : n + length left ≤ length run
+    pub whole : length left % 4 ≡ 0
+    pub rest : runReadOf (readRun b run) ≡ runReadOf (readPart b n left)
 
-  pub read-begin : length run % 4 ≡ 0 → length run ≤ 16384 → ReadSoFar 0 0
+  pub read-begin : length run % 4 ≡ 0 → length run ≤ maxRunBytes → ReadSoFar run 0
   unfolding readRun readPart assert _>>=_
   read-begin h g =
       record {
-        passed = passed-first run;
+        few = omega arith;
         whole = h;
-        left =
+        rest =
             rw (eq-eqb _ _ h, le-leb (length run / 4) maxRunRecords (omega (arith, g)))
-            (ap (λ (k : ℕ). lentCode (readSteps k b 0 (recs run))) (sym (length-recs run)));
+            (ap (λ (k : ℕ). runReadOf (readSteps k b 0 (recs run))) (sym (length-recs run)));
       }
 
-  module _ {at n : ℕ} (so : ReadSoFar at n) where
-    pub read-end : length run ≤ at → 0 ≡ lentCode (readRun b run)
-    read-end h = sym (so .left ∙ ap lentCode (part-done b n (drop at run) (omega (arith, h, length-drop at run))))
+  module _ (left : Bytes) (n : ℕ) (so : ReadSoFar left n) where
+    pub read-end : length left ≤ 0 → Answers runRead.Steps
+    read-end h = sym (so .rest ∙ ap runReadOf (part-done b n left (omega (arith, h))))
 
     -- another step is there
-    module _ (h : at < length run) where
-      a-record : 4 ≤ length (drop at run)
-      a-record = omega (arith, so .whole, length-drop at run)
+    module _ (h : 0 < length left) where
+      a-record : 4 ≤ length left
+      a-record = omega (arith, so .whole, h)
 
-      read-here :
-          (x t : Bool) → x ≡ isOk (readIn b n (partFrom run at)) → x ≡ t →
-          isOk (readIn b n (drop at run)) ≡ t
-      read-here x t e f = ap (λ (p : Bytes). isOk (readIn b n p)) (sym (drop-to-end run at)) ∙ sym e ∙ f
+      -- x is whether it can be read
+      module _ {x : Bool} (x-is : x ≡ isOk (readIn b n left)) where
+        pub read-wrong : x ≡ false → Answers (runRead.Refused 7)
+        read-wrong e = sym (so .rest ∙ part-wrong b n left a-record (sym x-is ∙ e))
 
-      -- x is whether the step can be read
-      pub read-wrong :
-          (x : Bool) → x ≡ isOk (readIn b n (partFrom run at)) → x ≡ false → 7 ≡ lentCode (readRun b run)
-      read-wrong x x-is e = sym (so .left ∙ part-wrong b n (drop at run) a-record (read-here x false x-is e))
+        -- p has its parts
+        module _ {p : StepParts} (is : p ≡ partsIn left) where
+          pub read-less : length (partFrom left (p .args)) < length left
+          read-less =
+              let next = next-found left is in
+              let behind = next-drop left in
+              omega (arith, h, ap length next, ap length behind, length-drop (bytesIn left) left, bytes-least left)
 
-      -- m is how many bytes it has
-      module _ (m : ℕ) (m-is : m ≡ bytesIn (partFrom run at)) where
-        on : drop (at + m) run ≡ nextIn (drop at run)
-        on = begins-behind (so .passed .begins) m-is
-
-        pub read-on :
-            (x : Bool) → x ≡ isOk (readIn b n (partFrom run at)) → x ≡ true → ReadSoFar (at + m) (n + 1)
-        read-on x x-is e =
-            record {
-              passed = passed-next (so .passed) h m-is;
-              whole = rw on (whole-next (drop at run) (so .whole));
-              left = rw (on, add-one) (so .left ∙ part-read b n (drop at run) a-record (read-here x true x-is e));
-            }
-
-        pub read-fits : at + m ≤ length run
-        read-fits = begins-next (so .passed .begins) m-is .within
-
-        pub read-less : length run - (at + m) < length run - at
-        read-less = begins-less (so .passed .begins) m-is h
+          pub read-on : x ≡ true → ReadSoFar (partFrom left (p .args)) (n + 1)
+          read-on e =
+              let next = next-found left is in
+              record {
+                few = omega (arith, so .few, read-less);
+                whole = rw next (whole-next left (so .whole));
+                rest = rw (next, add-one) (so .rest ∙ part-read b n left a-record (sym x-is ∙ e));
+              }

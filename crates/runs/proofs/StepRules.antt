@@ -17,7 +17,8 @@ use Rattle.runs.specs.Rule.{Rule, ruleNumber, rules, withNumber, ruleOf}
 use Rattle.runs.specs.Rule.Rule.{assume, laRwEq, laDisequality, laTotality, laTautology, laGeneric, boundedFarkas}
 use Rattle.runs.specs.Rule.Rule.{polySimp, polySimpRel}
 use Rattle.runs.specs.Run.{Rec, S, headRule}
-use Rattle.runs.specs.StepParts.{headIn, ruleIn, isSome}
+use Rattle.runs.specs.memory.StepParts.{headIn, ruleIn}
+use Rattle.rules.specs.memory.Parts.{isSome}
 
 last-number : (r : Rule) → ruleNumber r ≤ 8
 last-number assume = omega arith
@@ -63,7 +64,7 @@ head-tests s e = e ∙ go (eqb (s .mark) S) (leb (s .byte) 8) (eqb (s .number) 0
   where
     go :
         (m l n : Bool) → isSome (ruleOf (s .byte)) ≡ l →
-        (m && (l && n)) ≡ isSome {X = Rule} (elim (m && n) [ true ↦ ruleOf (s .byte) | false ↦ none ])
+        (m && (l && n)) ≡ isSome {A = Rule} (elim (m && n) [ true ↦ ruleOf (s .byte) | false ↦ none ])
     go true true true e = sym e
     go true false true e = sym e
     go true true false e = refl

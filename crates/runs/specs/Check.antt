@@ -137,9 +137,18 @@ mark l book run = elim (readBook book) [
   | RefusedAt c i ↦ nothingMarked (ofBook c)
 ]
 
--- a work area of 65,536 bytes and a limit from 1 to 1,000,000
+abbrev pub workBytes : ℕ
+workBytes = 65536
+
+-- limits are 1 to 1,000,000
+abbrev pub minLimit : ℕ
+minLimit = 1
+
+abbrev pub maxLimit : ℕ
+maxLimit = 1000000
+
 abbrev pub lentOk : ℕ → ℕ → Bool
-lentOk work limit = eqb work 65536 && (leb 1 limit && leb limit 1000000)
+lentOk work limit = eqb work workBytes && (leb minLimit limit && leb limit maxLimit)
 
 unfoldable pub check : Bytes → Bytes → ℕ → ℕ → Marking
 check book run limit work = elim (lentOk work limit) [

@@ -5,7 +5,7 @@ use Prim.Native.Nat.{ℕ}
 use lib.ListN.{length}
 use Rattle.numbers.specs.Bytes.{Bytes}
 use Rattle.runs.specs.Check.{check}
-use Rattle.runs.specs.Lent.{zeros, markedOf}
+use Rattle.runs.specs.Answers.{zeros, markedOf}
 use Rattle.runs.specs.declared.check.Marked.{Marked}
 
 pub record CheckDone (book run : Bytes) (limit : ℕ) (work book′ run′ work′ : Bytes) (r : Marked) : Type 0 where

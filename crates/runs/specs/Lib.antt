@@ -2,6 +2,6 @@ pub mod Verdict
 pub mod Rule
 pub mod Run
 pub mod Check
-pub mod StepParts
-pub mod Lent
+pub mod Answers
 pub mod CheckEntry
+pub mod memory

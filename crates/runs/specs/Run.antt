@@ -28,6 +28,12 @@ step r p c a = record { rule = r; premises = p; clause = c; args = a }
 
 -- ---- records
 
+abbrev pub runRecordBytes : ℕ
+runRecordBytes = 4
+
+abbrev pub maxRunRecords : ℕ
+maxRunRecords = 4096
+
 pub record Rec : Type 0 where
   pub mark : ℕ
   pub byte : ℕ
@@ -116,13 +122,10 @@ readSteps (suc k) book n (r ∷ rs) = do
 
 -- ---- refusal 6, then 7
 
-abbrev pub maxRunRecords : ℕ
-maxRunRecords = 4096
-
 unfoldable pub readRun : Bytes → Bytes → Outcome LentRefusal (List Step)
 readRun book run = do
-  _ ← assert (eqb (length run % 4) 0 && leb (length run / 4) maxRunRecords) runSize
-  readSteps (length run / 4) book 0 (recs run)
+  _ ← assert (eqb (length run % runRecordBytes) 0 && leb (length run / runRecordBytes) maxRunRecords) runSize
+  readSteps (length run / runRecordBytes) book 0 (recs run)
 
 -- P holds of each element
 pub data Every {X : Type 0} (P : X → Type 0) : List X → Type 0 where

@@ -4,8 +4,7 @@ use mathlib.Core.Bool.{Bool, true, false, _||_, not}
 use Prim.Native.Nat.{ℕ}
 use Rattle.terms.specs.Book.{bookNumber}
 use Rattle.terms.specs.declared.book.BookRefusal.{BookRefusal}
-use Rattle.rules.specs.Refusal.{Refusal, Outcome, number, isLimit}
-use Rattle.rules.specs.Refusal.Outcome.{ok, refused}
+use Rattle.rules.specs.Refusal.{Refusal, number, isLimit}
 
 -- of the work area or the limit, of the book, of the run, of the out areas
 pub data LentRefusal : Type 0 where
@@ -31,11 +30,6 @@ abbrev pub verdictNumber : Verdict → ℕ
 verdictNumber accepted = 0
 verdictNumber (lent r) = lentNumber r
 verdictNumber (stopped r) = number r
-
--- reading: 0 is no refusal
-abbrev pub lentCode : {A : Type 0} → Outcome LentRefusal A → ℕ
-lentCode (ok a) = 0
-lentCode (refused r) = lentNumber r
 
 -- ---- classes
 

@@ -11,15 +11,44 @@ ghost use Rattle.numbers.specs.Bytes.{Bytes};
 ghost use Rattle.terms.specs.Term.{sort, sameSort};
 ghost use Rattle.terms.specs.Term.Sort.{bool};
 ghost use Rattle.terms.specs.Book.{count, tree, SortsBelow};
-ghost use Rattle.runs.specs.Verdict.{lentCode};
 ghost use Rattle.runs.specs.Rule.{Rule, ruleOf};
 ghost use Rattle.runs.specs.Run.{headRule, recs, leading, allRight, shapeOk, readRun};
-ghost use Rattle.runs.specs.StepParts.{leadingIn, afterIn, premisesIn, clauseIn, argsIn, nextIn, bytesIn, headIn};
-ghost use Rattle.runs.specs.StepParts.{partsOk, readIn, isOk, isSome, stepFrom};
-use linear_arithmetic::linear_arithmetic::rest;
+ghost use Rattle.runs.specs.memory.StepParts.{afterIn, partsIn, premisesIn, clauseIn, argsIn, headIn, partsOk};
+ghost use Rattle.runs.specs.memory.StepParts.{readIn, isOk, stepFrom, runReadOf, runRefusal};
+ghost use Rattle.rules.specs.memory.Parts.{isSome};
+use crate::rule::ASSUME;
+use crate::rule::POLY_SIMP_REL;
+use numbers::bytes::byte;
 use numbers::bytes::read_u16;
-use terms::book::byte;
-use terms::book::count;
+use rules::run_records::rest;
+use terms::format::ARGUMENT;
+use terms::format::BOOL_SORT;
+use terms::format::BYTE_AT;
+use terms::format::CLAUSE;
+use terms::format::MAX_RUN_BYTES;
+use terms::format::NUMBER_AT;
+use terms::format::PREMISE;
+use terms::format::RUN_RECORD_BYTES;
+use terms::format::STEP;
+use terms::records::count;
+use terms::refusal::RUN_RECORD;
+use terms::refusal::RUN_SIZE;
+
+// Where the parts of a step end, in bytes from its start: its premises, its clause, and its arguments, which end where
+// the step does.
+pub struct StepParts {
+    pub premises: usize,
+    pub clause: usize,
+    pub args: usize,
+}
+
+// What reading a run finds.
+pub enum RunRead {
+    // Its steps.
+    Steps,
+    // Document 01's number of the refusal.
+    Refused(u8),
+}
 
 // ---- the parts of a step
 
@@ -27,10 +56,10 @@ use terms::book::count;
 fn leading_count(part: &[u8], mark: u8) -> usize
     ensures { λ r. ⌜ r ≡ length (leading mark (recs (now (part .entry)))) ⌝ }
 {
-    let n = part.len() / 4;
+    let n = part.len() / RUN_RECORD_BYTES;
     let mut k = 0;
     while k < n {
-        if part[4 * k] != mark {
+        if part[RUN_RECORD_BYTES * k] != mark {
             return k;
         }
         k += 1;
@@ -38,65 +67,67 @@ fn leading_count(part: &[u8], mark: u8) -> usize
     n
 }
 
-// The records at the start of a part that have a mark.
-fn leading(part: &[u8], mark: u8) -> &[u8]
-    ensures { λ r. ⌜ now r ≡ leadingIn mark (now (part .entry)) ⌝ }
-{
-    let end = 4 * leading_count(part, mark);
-    &part[0..end]
-}
-
 // What follows them.
 fn after(part: &[u8], mark: u8) -> &[u8]
     ensures { λ r. ⌜ now r ≡ afterIn mark (now (part .entry)) ⌝ }
 {
-    let start = 4 * leading_count(part, mark);
+    let start = RUN_RECORD_BYTES * leading_count(part, mark);
     &part[start..]
 }
 
-pub fn premises(step: &[u8]) -> &[u8]
+pub fn parts(step: &[u8]) -> StepParts
+    ensures { λ r. ⌜ r ≡ partsIn (now (step .entry)) ⌝ }
+{
+    let behind_premises = after(rest(step, 1), PREMISE);
+    let behind_clause = after(behind_premises, CLAUSE);
+    let next = after(behind_clause, ARGUMENT);
+    StepParts {
+        premises: step.len() - behind_premises.len(),
+        clause: step.len() - behind_clause.len(),
+        args: step.len() - next.len(),
+    }
+}
+
+// The parts themselves, of the step whose parts p has.
+pub fn premises(step: &[u8], p: StepParts) -> &[u8]
+    requires { ⌜ p ≡ partsIn (now step) ⌝ }
     ensures { λ r. ⌜ now r ≡ premisesIn (now (step .entry)) ⌝ }
 {
-    leading(rest(step, 1), b'P')
+    let end = p.premises;
+    rest(&step[0..end], 1)
 }
 
-pub fn clause(step: &[u8]) -> &[u8]
+pub fn clause(step: &[u8], p: StepParts) -> &[u8]
+    requires { ⌜ p ≡ partsIn (now step) ⌝ }
     ensures { λ r. ⌜ now r ≡ clauseIn (now (step .entry)) ⌝ }
 {
-    leading(after(rest(step, 1), b'P'), b'C')
+    let start = p.premises;
+    let end = p.clause;
+    &step[start..end]
 }
 
-pub fn args(step: &[u8]) -> &[u8]
+pub fn args(step: &[u8], p: StepParts) -> &[u8]
+    requires { ⌜ p ≡ partsIn (now step) ⌝ }
     ensures { λ r. ⌜ now r ≡ argsIn (now (step .entry)) ⌝ }
 {
-    leading(after(after(rest(step, 1), b'P'), b'C'), b'A')
-}
-
-// What follows the step.
-fn next(step: &[u8]) -> &[u8]
-    ensures { λ r. ⌜ now r ≡ nextIn (now (step .entry)) ⌝ }
-{
-    after(after(after(rest(step, 1), b'P'), b'C'), b'A')
-}
-
-// How many bytes the step has.
-pub fn bytes(step: &[u8]) -> usize
-    ensures { λ r. ⌜ r ≡ bytesIn (now (step .entry)) ⌝ }
-{
-    step.len() - next(step).len()
+    let start = p.clause;
+    let end = p.args;
+    &step[start..end]
 }
 
 // The run from step k on.
 pub fn step_at(run: &[u8], k: usize) -> &[u8]
     ensures { λ r. ⌜ now r ≡ stepFrom k (now (run .entry)) ⌝ }
 {
-    let mut at = 0;
+    let mut step = run;
     let mut i = 0;
     while i < k {
-        at += bytes(&run[at..]);
+        let p = parts(step);
+        let end = p.args;
+        step = &step[end..];
         i += 1;
     }
-    &run[at..]
+    step
 }
 
 // ---- refusal 7
@@ -105,9 +136,9 @@ pub fn step_at(run: &[u8], k: usize) -> &[u8]
 fn head_ok(step: &[u8]) -> bool
     ensures { λ r. ⌜ r ≡ isSome (headRule (headIn (now (step .entry)))) ⌝ }
 {
-    if byte(step, 0) == b'S' {
-        if byte(step, 1) <= 8 {
-            return read_u16(step, 2) == 0;
+    if byte(step, 0) == STEP {
+        if byte(step, BYTE_AT) <= POLY_SIMP_REL {
+            return read_u16(step, NUMBER_AT) == 0;
         }
     }
     false
@@ -117,14 +148,14 @@ fn head_ok(step: &[u8]) -> bool
 fn all_right(part: &[u8], n: usize) -> bool
     ensures { λ r. ⌜ r ≡ allRight (λ k. ltb k n) (recs (now (part .entry))) ⌝ }
 {
-    let m = part.len() / 4;
+    let m = part.len() / RUN_RECORD_BYTES;
     let mut k = 0;
     while k < m {
-        let at = 4 * k;
-        if part[at + 1] != 0 {
+        let at = RUN_RECORD_BYTES * k;
+        if part[at + BYTE_AT] != 0 {
             return false;
         }
-        if n <= read_u16(part, at + 2) as usize {
+        if n <= read_u16(part, at + NUMBER_AT) as usize {
             return false;
         }
         k += 1;
@@ -138,7 +169,7 @@ fn is_literal(sorts: &[u8], n: usize, c: usize) -> bool
         r ≡ (ltb c (count b) && sameSort (sort (tree b c)) bool)) ⌝ }
 {
     if c < n {
-        return byte(sorts, c) == 1;
+        return byte(sorts, c) == BOOL_SORT;
     }
     false
 }
@@ -151,14 +182,14 @@ fn all_literals(book: &[u8], sorts: &[u8], part: &[u8]) -> bool
         (recs (now (part .entry))) ⌝ }
 {
     let n = count(book);
-    let m = part.len() / 4;
+    let m = part.len() / RUN_RECORD_BYTES;
     let mut k = 0;
     while k < m {
-        let at = 4 * k;
-        if part[at + 1] != 0 {
+        let at = RUN_RECORD_BYTES * k;
+        if part[at + BYTE_AT] != 0 {
             return false;
         }
-        if is_literal(sorts, n, read_u16(part, at + 2) as usize) {
+        if is_literal(sorts, n, read_u16(part, at + NUMBER_AT) as usize) {
             k += 1;
         } else {
             return false;
@@ -172,38 +203,45 @@ fn shape_ok(rule: u8, premises: &[u8], clause: &[u8], args: &[u8]) -> bool
     ensures { λ r. ⌜ ((known : Rule) → ruleOf rule ≡ some known → r ≡ shapeOk known (recs (now (premises .entry)))
         (recs (now (clause .entry))) (recs (now (args .entry)))) ⌝ }
 {
-    if rule != 0 {
+    if rule != ASSUME {
         return true;
     }
-    if premises.len() / 4 == 0 {
-        if clause.len() / 4 == 1 {
-            return args.len() / 4 == 0;
+    if premises.len() / RUN_RECORD_BYTES == 0 {
+        if clause.len() / RUN_RECORD_BYTES == 1 {
+            return args.len() / RUN_RECORD_BYTES == 0;
         }
     }
     false
 }
 
-// Whether the records of step n are in order.
-fn parts_ok(book: &[u8], sorts: &[u8], step: &[u8], n: usize) -> bool
+// Whether the records of step n, whose parts p has, are in order.
+fn parts_ok(book: &[u8], sorts: &[u8], step: &[u8], p: StepParts, n: usize) -> bool
     requires { ⌜ SortsBelow (count (now book)) (now book) (now sorts) ⌝ }
+    requires { ⌜ p ≡ partsIn (now step) ⌝ }
     ensures { λ r. ⌜ r ≡ partsOk (now (book .entry)) n (now (step .entry)) ⌝ }
 {
-    if all_right(premises(step), n) {
-        if all_literals(book, sorts, clause(step)) {
-            return all_right(args(step), count(book));
+    if all_right(premises(step, p), n) {
+        if all_literals(book, sorts, clause(step, p)) {
+            return all_right(args(step, p), count(book));
         }
     }
     false
 }
 
-// Whether step n can be read.
-fn step_ok(book: &[u8], sorts: &[u8], step: &[u8], n: usize) -> bool
+// Whether step n, whose parts p has, can be read.
+fn step_ok(book: &[u8], sorts: &[u8], step: &[u8], p: StepParts, n: usize) -> bool
     requires { ⌜ SortsBelow (count (now book)) (now book) (now sorts) ⌝ }
+    requires { ⌜ p ≡ partsIn (now step) ⌝ }
     ensures { λ r. ⌜ r ≡ isOk (readIn (now (book .entry)) n (now (step .entry))) ⌝ }
 {
     if head_ok(step) {
-        if parts_ok(book, sorts, step, n) {
-            return shape_ok(byte(step, 1), premises(step), clause(step), args(step));
+        if parts_ok(book, sorts, step, p, n) {
+            return shape_ok(
+                byte(step, BYTE_AT),
+                premises(step, p),
+                clause(step, p),
+                args(step, p),
+            );
         }
     }
     false
@@ -211,27 +249,38 @@ fn step_ok(book: &[u8], sorts: &[u8], step: &[u8], n: usize) -> bool
 
 // ---- the run
 
-// Refusal 6 or 7, or 0. The sorts are those of the book's records.
-pub fn read_run(book: &[u8], sorts: &[u8], run: &[u8]) -> u8
-    requires { ⌜ SortsBelow (count (now book)) (now book) (now sorts) ⌝ }
-    ensures { λ r. ⌜ r ≡ lentCode (readRun (now (book .entry)) (now (run .entry))) ⌝ }
+// The number of a refusal.
+pub fn run_refusal(x: RunRead) -> u8
+    ensures { λ r. ⌜ r ≡ runRefusal x ⌝ }
 {
-    if run.len() % 4 != 0 {
-        return 6;
+    match x {
+        RunRead::Steps => 0,
+        RunRead::Refused(code) => code,
     }
-    if 16384 < run.len() {
-        return 6;
+}
+
+// Refusals 6 and 7. The sorts are those of the book's records.
+pub fn read_run(book: &[u8], sorts: &[u8], run: &[u8]) -> RunRead
+    requires { ⌜ SortsBelow (count (now book)) (now book) (now sorts) ⌝ }
+    ensures { λ r. ⌜ r ≡ runReadOf (readRun (now (book .entry)) (now (run .entry))) ⌝ }
+{
+    if run.len() % RUN_RECORD_BYTES != 0 {
+        return RunRead::Refused(RUN_SIZE);
     }
-    let mut at = 0;
+    if MAX_RUN_BYTES < run.len() {
+        return RunRead::Refused(RUN_SIZE);
+    }
+    let mut left = run;
     let mut n = 0;
-    while at < run.len() {
-        let step = &run[at..];
-        if step_ok(book, sorts, step, n) {
-            at += bytes(step);
+    while 0 < left.len() {
+        let p = parts(left);
+        if step_ok(book, sorts, left, p, n) {
+            let end = p.args;
+            left = &left[end..];
             n += 1;
         } else {
-            return 7;
+            return RunRead::Refused(RUN_RECORD);
         }
     }
-    0
+    RunRead::Steps
 }

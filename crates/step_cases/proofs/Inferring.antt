@@ -11,11 +11,11 @@ use lib.IntN.{pos}
 use lib.ListN.{length}
 use Rattle.numbers.specs.Rational.{Rational, whole}
 use Rattle.numbers.specs.Bytes.{Bytes}
-use Rattle.rules.specs.Parts.{Ready, Inside}
-use Rattle.linear_arithmetic.specs.LinearSteps.{AllNumbers}
+use Rattle.rules.specs.memory.Parts.{Ready, Inside}
+use Rattle.linear_arithmetic.specs.memory.LinearSteps.{AllNumbers}
 use Rattle.linear_arithmetic.specs.declared.linear_arithmetic.Folded.{Folded}
 use Rattle.linear_arithmetic.specs.declared.linear_arithmetic.Folded.the-variants as folded
-use Rattle.linear_arithmetic.specs.declared.linear_arithmetic.Progress as by-value
+use Rattle.linear_arithmetic.specs.declared.process_disequality.Progress as by-value
 use Rattle.linear_arithmetic.proofs.FoldedAreas.{Given}
 use Rattle.linear_arithmetic.proofs.PartialFold.{PartSoFar, part-begin, Rested, part-more, part-again}
 

@@ -5,29 +5,31 @@ ghost use mathlib.Core.Path.{_≡_};
 ghost use Prim.Native.Nat.{_≤_, _<_};
 ghost use lib.ListN.{length};
 ghost use Rattle.terms.specs.Book.{count, allBelow};
-ghost use Rattle.rules.specs.Parts.{Ready, numbersIn, Inside};
+ghost use Rattle.rules.specs.memory.Parts.{Ready, numbersIn, Inside};
 use libc::STDOUT_FILENO;
 use linear_arithmetic::linear_arithmetic::Folded;
-use linear_arithmetic::linear_arithmetic::Progress;
 use linear_arithmetic::linear_arithmetic::bounded_farkas;
 use linear_arithmetic::linear_arithmetic::fold_literals;
 use linear_arithmetic::linear_arithmetic::la_generic;
 use linear_arithmetic::linear_arithmetic::la_tautology;
 use linear_arithmetic::linear_arithmetic::read_args;
-use linear_arithmetic::linear_arithmetic::rest;
 use linear_arithmetic::linear_shapes::la_disequality;
 use linear_arithmetic::linear_shapes::la_rw_eq;
 use linear_arithmetic::linear_shapes::la_totality;
+use linear_arithmetic::process_disequality::Progress;
 use linear_comb::linear_comb::LinearComb;
+use numbers::bytes::byte;
 use numbers::bytes::read_u16;
 use numbers::number::Number;
 use poly_simp::poly_simp::poly_simp;
 use poly_simp::polynomial_rel::poly_simp_rel;
 use rules::prepare::prepare;
+use rules::run_records::rest;
+use rules::verdict::Asserted;
 use rules::verdict::Verdict;
 use terms::book::BookRead;
-use terms::book::byte;
-use terms::book::count;
+use terms::operator::EQUALS;
+use terms::records::count;
 
 // A book of 2,048 records, and a work area.
 const MOST: usize = 65536;
@@ -189,15 +191,16 @@ fn agrees(book: &[u8], work: &mut [u8], h: Head, literals: &[u8], args: &[u8]) -
     false
 }
 
-// Whether the arguments of a step are numbers, and those that it infers, each taken as it is found, are those of the file.
+// Whether the arguments of a step are numbers, and those that it infers, each taken as it is found, are those of the
+// file.
 fn infers(book: &[u8], work: &mut [u8], literals: &[u8], args: &[u8], numbers: &[u8]) -> bool
     requires { ⌜ Ready (now book) (now work) × (Inside (now book) (now literals) × (length (now literals) ≤ 16384)) ⌝ }
 {
-    if read_args(book, args) != 0 {
+    let Asserted::Holds = read_args(book, args) else {
         return false;
-    }
+    };
     let mut p = Progress {
-        operator: 4,
+        operator: EQUALS,
         acc: LinearComb {
             len: 0,
             constant: Number::whole(0),

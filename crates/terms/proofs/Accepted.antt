@@ -11,7 +11,8 @@ use borrow.Author.Tests.{leb-true}
 use lib.Dec.{leb, eqb}
 use lib.ListN.{length}
 use Rattle.numbers.specs.Bytes.{Bytes}
-use Rattle.terms.specs.Book.{count, maxRecords, sizeOk, recordOf, tree, layoutOk, sortOk, stands, recordRead}
+use Rattle.terms.specs.Book.{count, sizeOk, recordOf, tree, layoutOk, sortOk, stands, recordRead}
+use Rattle.terms.specs.Format.{maxRecords}
 use Rattle.terms.specs.Book.{readRecords, readBook}
 use Rattle.terms.specs.declared.book.BookRefusal.{BookRefusal}
 use Rattle.terms.specs.declared.book.BookRefusal.the-variants.{BookSize}

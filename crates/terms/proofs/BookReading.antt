@@ -14,7 +14,7 @@ use Rattle.numbers.specs.Bytes.{Bytes}
 use Rattle.terms.specs.Term.{sort, sortCode}
 use Rattle.terms.specs.Book.{recordOf, tree, layoutOk, sortOk, stands, recordRead, readRecords, readBook}
 use Rattle.terms.specs.Book.{putSorts, SortsBelow}
-use Rattle.terms.specs.Sorting.{sorting}
+use Rattle.terms.specs.memory.Sorting.{sorting}
 use Rattle.terms.specs.declared.sort.Sorting.{Sorting}
 use Rattle.terms.specs.declared.sort.Sorting.the-variants.{Of, Broken}
 use Rattle.terms.specs.declared.book.BookRefusal.{BookRefusal}

@@ -12,14 +12,15 @@ use lib.ListN.{length, getD}
 use Rattle.numbers.specs.Bytes.{Bytes}
 use Rattle.terms.specs.Operator.{IntDiv, RealDiv}
 use Rattle.terms.specs.Term.{Term, Terms, argsOf, one?, two?, unary, binary}
-use Rattle.terms.specs.Book.{maxRecords, count, recordOf, kind, operator, argBytes, numbers, nothing, arguments}
+use Rattle.terms.specs.Book.{count, recordOf, kind, operator, argBytes, numbers, nothing, arguments}
+use Rattle.terms.specs.Format.{maxRecords}
 use Rattle.terms.specs.Book.{argumentAt, forest, tree, height}
 use Rattle.terms.specs.Readers.{Child, Children, foundTwo, quotientOf}
-use Rattle.terms.specs.declared.term.Only.the-variants.{Of, Neither}
+use Rattle.terms.specs.declared.term.Only.the-variants.{Of, NotOne}
 use Rattle.terms.specs.declared.term.Two.{Two}
 use Rattle.terms.specs.declared.term.Two.the-variants.{Both, NotTwo}
 use Rattle.terms.proofs.Trees.{earlier-lower, recordOf-outside}
-use Rattle.terms.proofs.Records.{length-numbers, forest-of-one, forest-of-two}
+use Rattle.terms.proofs.RecordBytes.{length-numbers, forest-of-one, forest-of-two}
 use Rattle.terms.proofs.RecordReadings.{argsOf-record, argsOf-other}
 
 -- ---- answers
@@ -32,7 +33,7 @@ pub child :
 child {i = i} {x = x} e h =
     record { is = e; deeper = λ y p. let same : x ≡ y = cc in lower-same i same h }
 
-pub no-child : {b : Bytes} {i : ℕ} {t : Option Term} → t ≡ none → Child b i Neither t
+pub no-child : {b : Bytes} {i : ℕ} {t : Option Term} → t ≡ none → Child b i NotOne t
 no-child e = record { is = sym e; deeper = λ y p. let z : _≡_ {A = ℕ} 0 1 = cc in absurd (omega arith) }
 
 pub children :
@@ -109,7 +110,7 @@ module _ (b : Bytes) (i o : ℕ) {r : Bytes} (r-is : r ≡ recordOf b i) where
         children (sym (asked two? ∙ rw (forest-of-two (tree b) i args n, x-is, y-is)))
         (argument-deeper 0 x-is) (argument-deeper 1 y-is)
 
-    pub other-than-child : (length args / 2 ≡ 1 → ⊥) → Child b i Neither (unary o (tree b i))
+    pub other-than-child : (length args / 2 ≡ 1 → ⊥) → Child b i NotOne (unary o (tree b i))
     unfolding unary
     other-than-child n =
         no-child (asked one? ∙ other-than-one (tree b) i (numbers args) (λ h. n (sym (length-numbers args) ∙ h)))
@@ -123,7 +124,7 @@ module _ (b : Bytes) (i o : ℕ) {r : Bytes} (r-is : r ≡ recordOf b i) where
     unasked : {A : Type 0} (g : Terms → Option A) → ask g o (tree b i) ≡ none
     unasked g = rw (argsOf-other b i r-is o h, ask)
 
-    pub no-operation-child : Child b i Neither (unary o (tree b i))
+    pub no-operation-child : Child b i NotOne (unary o (tree b i))
     unfolding unary
     no-operation-child = no-child (unasked one?)
 

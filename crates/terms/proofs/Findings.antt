@@ -22,7 +22,7 @@ use Rattle.terms.specs.Readers.{asNumber, negated, asSignedNumber, quoti
 use Rattle.numbers.specs.declared.number.Checked.{Checked}
 use Rattle.numbers.specs.declared.number.Checked.the-variants as checked-as
 use Rattle.terms.specs.declared.term.Only.{Only}
-use Rattle.terms.specs.declared.term.Only.the-variants.{Of, Neither}
+use Rattle.terms.specs.declared.term.Only.the-variants.{Of, NotOne}
 use Rattle.terms.specs.declared.term.Two.{Two}
 use Rattle.terms.specs.declared.term.Two.the-variants.{Both, NotTwo}
 use Rattle.terms.specs.declared.term.Reading.{Reading}
@@ -85,7 +85,7 @@ module _ {b : Bytes} {i : ℕ} (f : Term → Reading) {u : Only} (c : Child b i 
       let there-is : unary Sub (tree b i) ≡ some (tree b x) = sym (c .is) ∙ ap (found b) e in
       rw (there-is, signedBy, ← inner .is) outer
 
-  pub signed-itself : {r : Reading} → u ≡ Neither → Finds r (f (tree b i)) → Finds r (signedBy f (tree b i))
+  pub signed-itself : {r : Reading} → u ≡ NotOne → Finds r (f (tree b i)) → Finds r (signedBy f (tree b i))
   signed-itself e h =
       let there-is : unary Sub (tree b i) ≡ none = sym (c .is) ∙ ap (found b) e in
       rw (there-is, signedBy) h

@@ -13,7 +13,7 @@ use lib.ListN.{length, getD, set, length-set}
 use lib.Seq.{ext-getD, getD-set-same, getD-set-other}
 use Rattle.numbers.specs.Bytes.{Bytes}
 use Rattle.terms.specs.Book.{recordRead, readBook, recordsRead, putSorts, SortsBelow, BookDone}
-use Rattle.terms.specs.RecordIndex.{Indexed, Unused, Beside, BookLeft}
+use Rattle.terms.specs.memory.RecordIndex.{Indexed, Unused, Beside, BookLeft}
 use Rattle.terms.specs.declared.book.BookRefusal.{BookRefusal}
 use Rattle.terms.specs.declared.book.BookRefusal.the-variants.{BookSize}
 use Rattle.terms.specs.declared.book.BookRead.{BookRead}

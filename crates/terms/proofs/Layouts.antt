@@ -22,7 +22,7 @@ use Rattle.numbers.specs.Bytes.{Bytes, signed}
 use Rattle.numbers.specs.Choice.{if_then_else_}
 use Rattle.terms.specs.Book.{kind, operator, argCount, sortByte, field1, field2, argBytes, numbers, isVector}
 use Rattle.terms.specs.Book.{isWidth, allZero, unused, allBelow, countOk, integerOk, realOk, vectorOk, atomOk}
-use Rattle.terms.specs.Book.{operationOk, layoutOk}
+use Rattle.terms.specs.Book.{argumentsOk, operationOk, layoutOk}
 use Rattle.numbers.proofs.Truths.{if-either}
 use Rattle.numbers.proofs.Machine.{R}
 
@@ -169,19 +169,20 @@ count-bounded o n =
 
 -- ---- operations and atoms, from what the code reads of them
 
--- what is left to test of an operation after the count of its arguments, and before it
-abbrev pub operationLast : ℕ → ℕ → ℕ → Bytes → Bool
-operationLast n s i r = eqb s 0 && (unused (28 - 2 * n) r (4 + 2 * n) && allBelow i (numbers (argBytes r)))
-
-abbrev pub operationRest : ℕ → ℕ → ℕ → ℕ → Bytes → Bool
-operationRest o n s i r = countOk o n && operationLast n s i r
+-- what is left to test of an operation's arguments after their count
+abbrev pub argumentsLast : ℕ → ℕ → ℕ → Bytes → Bool
+argumentsLast n s i r = eqb s 0 && (unused (28 - 2 * n) r (4 + 2 * n) && allBelow i (numbers (argBytes r)))
 
 -- o, n and s are the bytes of r that the code has read
-pub operation-read :
+pub arguments-read :
     {x : Bool} (o n s i : ℕ) (r : Bytes) → o ≡ operator r → n ≡ argCount r → s ≡ sortByte r →
-    x ≡ (leb 1 o && (leb o 18 && operationRest o n s i r)) → x ≡ operationOk i r
-operation-read o n s i r o-is n-is s-is h =
-    h ∙ (λ j. leb 1 (o-is j) && (leb (o-is j) 18 && operationRest (o-is j) (n-is j) (s-is j) i r))
+    x ≡ (countOk o n && argumentsLast n s i r) → x ≡ argumentsOk i r
+arguments-read o n s i r o-is n-is s-is h = h ∙ (λ j. countOk (o-is j) (n-is j) && argumentsLast (n-is j) (s-is j) i r)
+
+pub operation-read :
+    {x : Bool} (o i : ℕ) (r : Bytes) → o ≡ operator r → x ≡ (leb 1 o && (leb o 18 && argumentsOk i r)) →
+    x ≡ operationOk i r
+operation-read o i r o-is h = h ∙ (λ j. leb 1 (o-is j) && (leb (o-is j) 18 && argumentsOk i r))
 
 unfoldable pub atomAs : ℕ → ℕ → Bool
 atomAs s w = cond (eqb s 4) (isWidth w) (leb 1 s && (leb s 3 && eqb w 0))

@@ -1,6 +1,6 @@
 -- records of a book, and the terms that they are
 pub mod Trees
-pub mod Records
+pub mod RecordBytes
 pub mod Nodes
 pub mod Layouts
 pub mod Operators

@@ -2,26 +2,28 @@
 --   Hashing: the loop over a record's bytes computes the number of its chain.
 --   Searching: the loop along a chain. Every equal record is still ahead on it, so at its end there is none.
 --   entered-all: once a record is entered, the index holds one record more, and the bytes beside it are the same.
---   Emptying: the loop that empties the index.
+--   emptied: the bytes of the index are 0, and those beside it the same.
 use mathlib.Core.Path.{_≡_, refl, sym, _∙_, ap}
 use mathlib.Core.Bool.{Bool, true, false}
 use mathlib.Core.Logic.{_≢_, _⊎_, ⊎-elim, inl, inr}
-use mathlib.Core.List.{[], _∷_}
+use mathlib.Core.List.{[], _∷_, _++_}
 use Prim.Native.Nat.{ℕ, zero, suc, _+_, _*_, _-_, _/_, _%_, _≤_, _<_}
 use native.Mathlib.Numerals.{add-one}
 use native.Mathlib.Omega.{arith}
 use borrow.Author.Tests.{eqb-true, eqb-false, ltb-true, ltb-false}
 use lib.Dec.{eqb, ltb}
-use lib.ListN.{length, getD, set, drop, replicate, length-set, length-replicate, getD-replicate, drop-of-length-le}
-use lib.ListN.{List·getD-eq-default}
-use lib.Seq.{drop-cons, getD-set-same, getD-set-other}
-use Rattle.numbers.specs.Bytes.{Bytes, digits, put}
-use Rattle.terms.specs.Book.{recordOf, sameBytes, stands}
-use Rattle.terms.specs.RecordIndex.{hashFrom, chain, headOf, linkOf, On, Indexed, Unused, Beside}
-use Rattle.terms.specs.RecordIndex.On.{here, later}
+use lib.ListN.{length, getD, set, take, drop, replicate, length-set, length-append, length-drop, length-replicate}
+use lib.ListN.{getD-replicate, drop-of-length-le, List·getD-append, List·getD-eq-default}
+use lib.Seq.{drop-cons, length-take-le, getD-take, getD-drop, getD-append-add, getD-set-same, getD-set-other}
+use Rattle.numbers.specs.Bytes.{Bytes, sameBytes, zeroedFrom, digits, put}
+use Rattle.terms.specs.Book.{recordOf, stands}
+use Rattle.terms.specs.memory.RecordIndex.{hashFrom, chain, headOf, linkOf, On, Indexed, Unused, Beside}
+use Rattle.terms.specs.memory.RecordIndex.On.{here, later}
 use Rattle.numbers.proofs.LittleEndian.{le-inside, le-agree, le-put-elsewhere, byte-put-elsewhere, length-put}
 use Rattle.numbers.proofs.LittleEndian.{read-after-write-small}
-use Rattle.terms.proofs.Records.{sameBytes-true, stands-found}
+use Rattle.terms.proofs.RecordBytes.{stands-found}
+use Rattle.numbers.proofs.SameBytes.{sameBytes-true}
+use Rattle.numbers.proofs.ClearedBytes.{cleared-zeros}
 
 -- ---- the hash
 
@@ -288,47 +290,58 @@ entered-all i b w start r is c chained k first v v′ linked entered =
 
 -- ---- emptying the index
 
--- the bytes of the index before k are 0
-pub record Emptying (w₀ w : Bytes) (k : ℕ) : Type 0 where
-  pub from : 2048 ≤ k
-  pub inside : k ≤ 8192
-  pub zero : (j : ℕ) → 2048 ≤ j → j < k → getD w j 0 ≡ 0
-  pub beside : Beside w w₀
+-- the bytes of the index are cleared, and v stands in their place
+module _ (w v : Bytes) (room : 8192 ≤ length w) (cleared : v ≡ zeroedFrom 0 (take 6144 (drop 2048 w))) where
+  e : v ≡ replicate 6144 0
+  e =
+      let size : length (take 6144 (drop 2048 w)) ≡ 6144 =
+      length-take-le 6144 (drop 2048 w) (simp length-drop (omega arith)) in
+      cleared-zeros (take 6144 (drop 2048 w)) cleared size
 
-pub emptying-none : (w : Bytes) → Emptying w w 2048
-emptying-none w =
+  abbrev left : Bytes
+  left = take 2048 w ++ (v ++ drop 6144 (drop 2048 w))
+
+  front : length (take 2048 w) ≡ 2048
+  front = length-take-le 2048 w (omega arith)
+
+  middle : length v ≡ 6144
+  middle = rw e (length-replicate {A = ℕ} 6144 0)
+
+  -- byte i behind the first 2048
+  after-front : (i : ℕ) → getD left (2048 + i) 0 ≡ getD (v ++ drop 6144 (drop 2048 w)) i 0
+  after-front i =
+      ap (λ k. getD left (k + i) 0) (sym front) ∙ getD-append-add (take 2048 w) (v ++ drop 6144 (drop 2048 w)) i 0
+
+  emptied-zero : (i : ℕ) → i < 6144 → getD left (2048 + i) 0 ≡ 0
+  emptied-zero i h =
+      after-front i ∙ List·getD-append v (drop 6144 (drop 2048 w)) 0 i (omega (arith, middle))
+      ∙ ap (λ (x : Bytes). getD x i 0) e ∙ getD-replicate 6144 i 0 0 h
+
+  emptied-past : (m : ℕ) → getD left (2048 + (6144 + m)) 0 ≡ getD w (2048 + (6144 + m)) 0
+  emptied-past m =
+      after-front (6144 + m)
+      ∙ ap (λ k. getD (v ++ drop 6144 (drop 2048 w)) (k + m) 0) (sym middle)
+      ∙ getD-append-add v (drop 6144 (drop 2048 w)) m 0
+      ∙ getD-drop 6144 (drop 2048 w) m 0
+      ∙ getD-drop 2048 w (6144 + m) 0
+
+  emptied-front : (j : ℕ) → j < 2048 → getD left j 0 ≡ getD w j 0
+  emptied-front j h =
+      List·getD-append (take 2048 w) (v ++ drop 6144 (drop 2048 w)) 0 j (omega (arith, front)) ∙ getD-take 2048 w j 0 h
+
+  pub emptied : Unused left × Beside left w
+  emptied = (
+    record { zero = λ j p q. ap (λ k. getD left k 0) (omega arith) ∙ emptied-zero (j - 2048) (omega arith) },
     record {
-      from = omega arith;
-      inside = omega arith;
-      zero = λ j p q. absurd (omega arith);
-      beside = beside-same w;
-    }
-
-module _ (w₀ w : Bytes) (k : ℕ) (emptying : Emptying w₀ w k) where
-  pub emptying-next : 8192 ≤ length w₀ → k < 8192 → Emptying w₀ (set w k 0) (k + 1)
-  emptying-next room h =
-      record {
-        from = omega (arith, emptying .from);
-        inside = omega arith;
-        zero = λ j p q. go j p q (eqb j k) refl;
-        beside =
-            record {
-              long = length-set w k 0 ∙ emptying .beside .long;
-              same =
-                  λ j apart.
-                  getD-set-other w k j 0 0 (λ e. ⊎-elim (λ p. omega (arith, emptying .from)) (λ p. omega arith) apart)
-                  ∙ emptying .beside .same j apart;
-            };
-      }
+      long = simp (length-append, length-drop) (omega (arith, front, middle));
+      same = λ j apart. ⊎-elim (emptied-front j) (beyond j) apart;
+    },
+  )
     where
-      go : (j : ℕ) → 2048 ≤ j → j < k + 1 → (t : Bool) → eqb j k ≡ t → getD (set w k 0) j 0 ≡ 0
-      go j p q true e = rw (eqb-true j k e) (getD-set-same w k 0 0 (omega (arith, emptying .beside .long)))
-      go j p q false e =
-          let other : j ≢ k = eqb-false j k e in
-          getD-set-other w k j 0 0 other ∙ emptying .zero j p (omega arith)
-
-  pub emptying-end : 8192 ≤ k → Unused w × Beside w w₀
-  emptying-end end = (record { zero = λ j p q. emptying .zero j p (omega arith) }, emptying .beside)
+      beyond : (j : ℕ) → 8192 ≤ j → getD left j 0 ≡ getD w j 0
+      beyond j h =
+          let there : j ≡ 2048 + (6144 + (j - 8192)) = omega arith in
+          ap (λ k. getD left k 0) there ∙ emptied-past (j - 8192) ∙ ap (λ k. getD w k 0) (sym there)
 
 pub unused-zeros : (n : ℕ) → Unused (replicate n 0)
 unused-zeros n = record { zero = λ j p q. go j (ltb j n) refl }

@@ -16,7 +16,7 @@ use Rattle.terms.specs.Term.Sort.{bool, bits}
 use Rattle.terms.specs.Book.{recordOf, operator, sortByte, field2, unused, isWidth, atomSort, numbers, argBytes}
 use Rattle.terms.specs.Book.{nothing, earlier, arguments, node, forest, tree, atomOk, layoutOk, sortOk}
 use Rattle.terms.specs.Book.{SortsBelow}
-use Rattle.terms.specs.Sorting.{sortAt, argSorts, common, sortRule, widthCode, atomCode, sorting}
+use Rattle.terms.specs.memory.Sorting.{sortAt, argSorts, common, sortRule, widthCode, atomCode, sorting}
 use Rattle.terms.specs.declared.sort.Sorting.{Sorting}
 use Rattle.terms.specs.declared.sort.Sorting.the-variants.{Of, Broken}
 use Rattle.terms.proofs.Trees.{recordOf-outside, tree-node}

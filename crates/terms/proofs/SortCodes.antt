@@ -13,11 +13,11 @@ use lib.Seq.{take-suc, take-all}
 use Rattle.numbers.specs.Bytes.{Bytes, le}
 use Rattle.numbers.specs.Choice.{if_then_else_}
 use Rattle.terms.specs.Book.{kind, operator, argBytes, numbers}
-use Rattle.terms.specs.Sorting.{sortAt, argSorts, allCodes, firstCode, numericCode, common, takesBy, givesBy}
-use Rattle.terms.specs.Sorting.{sortRule, sorting}
+use Rattle.terms.specs.memory.Sorting.{sortAt, argSorts, allCodes, firstCode, numericCode, common, takesBy, givesBy}
+use Rattle.terms.specs.memory.Sorting.{sortRule, sorting}
 use Rattle.terms.specs.declared.sort.Sorting.{Sorting}
 use Rattle.terms.specs.declared.sort.ArgSorts.{ArgSorts}
-use Rattle.terms.proofs.Records.{length-numbers, number-at}
+use Rattle.terms.proofs.RecordBytes.{length-numbers, number-at}
 use Rattle.terms.proofs.SortRules.{either}
 
 -- ---- the case of an operator

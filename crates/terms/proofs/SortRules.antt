@@ -12,7 +12,7 @@ use Rattle.terms.specs.Operator.{GreaterEq, Mult, IntDiv, ToReal, Equals
 use Rattle.terms.specs.Term.{Sort, sortCode, sameSort, isNumeric, isBits, all, first, takes, gives}
 use Rattle.numbers.specs.Choice.{if_then_else_}
 use Rattle.terms.specs.Term.Sort.{bool, int, real, bits}
-use Rattle.terms.specs.Sorting.{allCodes, firstCode, numericCode, common, takesBy, givesBy, sortRule}
+use Rattle.terms.specs.memory.Sorting.{allCodes, firstCode, numericCode, common, takesBy, givesBy, sortRule}
 use Rattle.terms.specs.declared.sort.Sorting.the-variants.{Of, Broken}
 
 -- a bit-vector has at least one bit

@@ -14,7 +14,8 @@ use lib.Seq.{take-append-le, drop-append-le}
 use Rattle.numbers.specs.Bytes.{Bytes}
 use Rattle.terms.specs.Term.{Term}
 use Rattle.terms.specs.Term.Terms.{nil, _▹_}
-use Rattle.terms.specs.Book.{maxRecords, count, recordOf, argBytes, numbers, arguments, earlier, nothing, node}
+use Rattle.terms.specs.Book.{count, recordOf, argBytes, numbers, arguments, earlier, nothing, node}
+use Rattle.terms.specs.Format.{maxRecords}
 use Rattle.terms.specs.Book.{forest, treeWithin, tree, height}
 
 -- a record number is below the most that there are, or the record has no bytes

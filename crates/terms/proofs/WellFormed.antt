@@ -25,7 +25,7 @@ use Rattle.terms.specs.Book.{allBelow, operationOk, sortOk, readBook}
 use Rattle.terms.specs.declared.book.BookRead.the-variants.{Records}
 use Rattle.terms.proofs.Trees.{tree-node}
 use Rattle.numbers.proofs.Truths.{both}
-use Rattle.terms.proofs.Records.{length-numbers}
+use Rattle.terms.proofs.RecordBytes.{length-numbers}
 use Rattle.terms.proofs.Nodes.{Laid, an-integer, a-rational, a-vector, an-atom, an-operation, laid, node-integer}
 use Rattle.terms.proofs.Nodes.{node-rational, node-vector, node-atom, node-operation, integer-number}
 use Rattle.terms.proofs.Nodes.{real-number, vector-fields}

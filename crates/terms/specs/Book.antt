@@ -11,7 +11,9 @@ use lib.IntN.{pos, natAbs}
 use lib.ListN.{length, getD, set, take, drop}
 use lib.Signed.{ltZ}
 use Rattle.numbers.specs.Rational.{Rational, frac, whole, gcd, inRange}
-use Rattle.numbers.specs.Bytes.{Bytes, le, signed}
+use Rattle.numbers.specs.Bytes.{Bytes, sameBytes, le, signed}
+use Rattle.terms.specs.Format.{recordBytes, maxRecords, maxArgs, maxWidth, boolSort, intSort, realSort, bitsSort}
+use Rattle.terms.specs.Format.{integerKind, realKind, vectorKind, atomKind, operationKind}
 use Rattle.terms.specs.Operator.{Not, Sub, IntDiv, RealDiv, ToReal, BvSub, BvNeg, BvMul}
 use Rattle.terms.specs.Term.{Sort, Term, Terms, sort, sorts, sortCode, takes}
 use Rattle.numbers.specs.Choice.{if_then_else_}
@@ -27,16 +29,13 @@ use Rattle.terms.specs.declared.book.RecordRead.the-variants.{Sorted, Re
 
 -- ---- a record's fields
 
-abbrev pub maxRecords : ℕ
-maxRecords = 2048
-
 -- how many records are there
 abbrev pub count : Bytes → ℕ
-count b = min (length b / 32) maxRecords
+count b = min (length b / recordBytes) maxRecords
 
 -- the bytes of a record; none where there is no such record
 unfoldable pub recordOf : Bytes → ℕ → Bytes
-recordOf b i = cond (ltb i (count b)) (take 32 (drop (32 * i) b)) []
+recordOf b i = cond (ltb i (count b)) (take recordBytes (drop (recordBytes * i) b)) []
 
 abbrev pub kind : Bytes → ℕ
 kind r = getD r 0 0
@@ -68,16 +67,16 @@ abbrev pub isNumber : Rational → Bool
 isNumber q = inRange q && ltZ (pos 0) (q .den)
 
 abbrev pub isWidth : ℕ → Bool
-isWidth w = leb 1 w && leb w 30
+isWidth w = leb 1 w && leb w maxWidth
 
 abbrev pub isVector : Bytes → Bool
 isVector r = isWidth (field2 r) && ltb (field1 r) (2 ^ field2 r)
 
 abbrev pub atomSort : Bytes → Sort
 atomSort r =
-    if eqb (sortByte r) 2 then int else
-    if eqb (sortByte r) 3 then real else
-    if eqb (sortByte r) 4 then bits (field2 r) else
+    if eqb (sortByte r) intSort then int else
+    if eqb (sortByte r) realSort then real else
+    if eqb (sortByte r) bitsSort then bits (field2 r) else
     bool
 
 -- two bytes a number
@@ -88,7 +87,7 @@ numbers (x ∷ y ∷ l) = (x + 256 * y) ∷ numbers l
 
 -- the part of a record that holds its arguments
 abbrev pub argBytes : Bytes → Bytes
-argBytes r = cond (eqb (kind r) 5) (take (2 * argCount r) (drop 4 r)) []
+argBytes r = cond (eqb (kind r) operationKind) (take (2 * argCount r) (drop 4 r)) []
 
 -- ---- the term below a record
 
@@ -111,10 +110,10 @@ arguments i (a ∷ l) = earlier i a ∷ arguments i l
 -- record i with bytes r and arguments ts
 unfoldable pub node : ℕ → Bytes → Terms → Term
 node i r ts =
-    if eqb (kind r) 1 && isNumber (integerOf r) then integer i (signed 8 (field1 r)) else
-    if eqb (kind r) 2 && isNumber (realOf r) then rational i (realOf r) else
-    if eqb (kind r) 3 && isVector r then bitvector i (field1 r) (field2 r) else
-    if eqb (kind r) 5 then op i (operator r) ts else
+    if eqb (kind r) integerKind && isNumber (integerOf r) then integer i (signed 8 (field1 r)) else
+    if eqb (kind r) realKind && isNumber (realOf r) then rational i (realOf r) else
+    if eqb (kind r) vectorKind && isVector r then bitvector i (field1 r) (field2 r) else
+    if eqb (kind r) operationKind then op i (operator r) ts else
     atom i (atomSort r) (field1 r)
 
 unfoldable pub forest : (ℕ → Term) → List ℕ → Terms
@@ -149,7 +148,7 @@ unfoldable pub countOk : ℕ → ℕ → Bool
 countOk o n =
     if eqb o Not || (eqb o ToReal || eqb o BvNeg) then eqb n 1 else
     if eqb o IntDiv || (eqb o RealDiv || eqb o BvSub) then eqb n 2 else
-    leb n 14 && leb (if eqb o Sub then 1 else 2) n
+    leb n maxArgs && leb (if eqb o Sub then 1 else 2) n
 
 -- each argument is an earlier record
 unfoldable pub allBelow : ℕ → List ℕ → Bool
@@ -171,23 +170,26 @@ abbrev pub atomOk : Bytes → Bool
 atomOk r =
     unused 2 r 1
     && (unused 12 r 20
-    && cond (eqb (sortByte r) 4) (isWidth (field2 r)) (leb 1 (sortByte r) && (leb (sortByte r) 3 && eqb (field2 r) 0)))
+    && cond (eqb (sortByte r) bitsSort) (isWidth (field2 r))
+    (leb boolSort (sortByte r) && (leb (sortByte r) realSort && eqb (field2 r) 0)))
+
+-- an operation's arguments are as many as its operator takes, and earlier records
+abbrev pub argumentsOk : ℕ → Bytes → Bool
+argumentsOk i r =
+    countOk (operator r) (argCount r)
+    && (eqb (sortByte r) 0
+    && (unused (28 - 2 * argCount r) r (4 + 2 * argCount r) && allBelow i (numbers (argBytes r))))
 
 abbrev pub operationOk : ℕ → Bytes → Bool
-operationOk i r =
-    leb 1 (operator r)
-    && (leb (operator r) BvMul
-    && (countOk (operator r) (argCount r)
-    && (eqb (sortByte r) 0
-    && (unused (28 - 2 * argCount r) r (4 + 2 * argCount r) && allBelow i (numbers (argBytes r))))))
+operationOk i r = leb Not (operator r) && (leb (operator r) BvMul && argumentsOk i r)
 
 unfoldable pub layoutOk : ℕ → Bytes → Bool
 layoutOk i r =
-    if eqb (kind r) 1 then integerOk r else
-    if eqb (kind r) 2 then realOk r else
-    if eqb (kind r) 3 then vectorOk r else
-    if eqb (kind r) 4 then atomOk r else
-    if eqb (kind r) 5 then operationOk i r else
+    if eqb (kind r) integerKind then integerOk r else
+    if eqb (kind r) realKind then realOk r else
+    if eqb (kind r) vectorKind then vectorOk r else
+    if eqb (kind r) atomKind then atomOk r else
+    if eqb (kind r) operationKind then operationOk i r else
     false
 
 -- ---- refusal 4: sorts
@@ -200,12 +202,6 @@ sortOk (atom i s n) = true
 sortOk (op i o ts) = takes o (sorts ts)
 
 -- ---- refusal 5: equality
-
-unfoldable pub sameBytes : Bytes → Bytes → Bool
-sameBytes [] [] = true
-sameBytes [] (y ∷ s) = false
-sameBytes (x ∷ r) [] = false
-sameBytes (x ∷ r) (y ∷ s) = elim (eqb x y) [ true ↦ sameBytes r s | false ↦ false ]
 
 -- whether one of the first n records has the bytes r
 unfoldable pub stands : ℕ → Bytes → Bytes → Bool

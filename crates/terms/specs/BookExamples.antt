@@ -18,7 +18,8 @@ use Rattle.terms.specs.Operator.{Not, And, Equals, LessThan, Add, Sub, I
 use Rattle.terms.specs.Term.{sort, sorts, sortCode, takes, gives, all, unary, binary}
 use Rattle.numbers.specs.Choice.{if_then_else_}
 use Rattle.terms.specs.Book.{recordOf, numbers, arguments, node, forest, treeWithin, tree, allZero, countOk}
-use Rattle.terms.specs.Book.{allBelow, layoutOk, sameBytes, stands, recordRead, readRecords, readBook, refusalOf}
+use Rattle.terms.specs.Book.{allBelow, layoutOk, stands, recordRead, readRecords, readBook, refusalOf}
+use Rattle.numbers.specs.Bytes.{sameBytes}
 use Rattle.terms.specs.Book.{recordsRead}
 use Rattle.terms.specs.Readers.{asNumber, asSignedNumber, quotientOf, asUnsignedFraction, asFraction, asBitvector}
 use Rattle.terms.specs.Readers.{removeNegation, bounded, ranged}
@@ -88,7 +89,11 @@ book =
 
 -- one name that opens all that computing with a book goes through
 unfoldable pub reads : Unit {0}
-unfolding blank integerRecord realRecord vectorRecord atomRecord putArgs operationRecord joined put putDigits complement le digits signed inRange gcd gcdWithin lowest divQ negQ isZero isInteger recordOf numbers arguments node forest treeWithin tree allZero countOk allBelow layoutOk sameBytes stands recordRead readRecords readBook sort sorts takes gives all if_then_else_ unary binary asNumber asSignedNumber quotientOf asUnsignedFraction asFraction asBitvector removeNegation bounded
+unfolding blank integerRecord realRecord vectorRecord atomRecord putArgs operationRecord joined put putDigits complement
+    le digits signed inRange gcd gcdWithin lowest divQ negQ isZero isInteger recordOf numbers arguments node forest
+    treeWithin tree allZero countOk allBelow layoutOk sameBytes stands recordRead readRecords readBook sort sorts takes
+    gives all if_then_else_ unary binary asNumber asSignedNumber quotientOf asUnsignedFraction asFraction asBitvector
+    removeNegation bounded
 reads = tt
 
 unfoldable sortsOf : ℕ → Bytes → ℕ → List ℕ
@@ -113,7 +118,10 @@ abbrev readings : List ℕ → List Reading
 readings [] = []
 readings (i ∷ l) = reading i ∷ readings l
 
-what-is-read : readings (4 ∷ 5 ∷ 6 ∷ 7 ∷ 11 ∷ 12 ∷ 16 ∷ 17 ∷ 18 ∷ []) ≡ Value (whole (pos 3)) ∷ Value (whole (negsuc 6)) ∷ Value (frac (pos 1) (pos 2)) ∷ NotNumber ∷ Value (whole (negsuc 2)) ∷ Value (whole (negsuc 5)) ∷ Value (frac (negsuc 6) (pos 3)) ∷ NotNumber ∷ NotNumber ∷ []
+what-is-read :
+    readings (4 ∷ 5 ∷ 6 ∷ 7 ∷ 11 ∷ 12 ∷ 16 ∷ 17 ∷ 18 ∷ [])
+    ≡ Value (whole (pos 3)) ∷ Value (whole (negsuc 6)) ∷ Value (frac (pos 1) (pos 2)) ∷ NotNumber
+    ∷ Value (whole (negsuc 2)) ∷ Value (whole (negsuc 5)) ∷ Value (frac (negsuc 6) (pos 3)) ∷ NotNumber ∷ NotNumber ∷ []
 unfolding reads book reading
 what-is-read = refl
 

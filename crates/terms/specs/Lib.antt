@@ -1,9 +1,9 @@
+pub mod Format
 pub mod Book
-pub mod RecordIndex
-pub mod Sorting
 pub mod Readers
 pub mod Smtlib
 pub mod BookExamples
 pub mod MeaningExamples
 pub mod Operator
 pub mod Term
+pub mod memory

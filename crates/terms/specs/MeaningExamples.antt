@@ -197,7 +197,8 @@ itsValues =
     ∷ []
 
 values-agree : allAgree itsValues ≡ true
-unfolding reads itsValues x u s p q v b large half third ρ value meaning every any chain foldLeft sumZ productZ Rational.value
+unfolding reads itsValues x u s p q v b large half third ρ value meaning every any chain foldLeft sumZ productZ
+    Rational.value
 values-agree = refl
 
 -- ---- clauses: a true literal makes a clause true, wherever it stands; the empty clause is false

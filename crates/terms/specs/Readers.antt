@@ -18,7 +18,7 @@ use Rattle.terms.specs.declared.term.Reading.the-variants.{Value, NotNum
 use Rattle.terms.specs.declared.term.BitVector.{BitVector}
 use Rattle.terms.specs.declared.term.BitVector.the-variants.{Bits, NotBitvector}
 use Rattle.terms.specs.declared.term.Only.{Only}
-use Rattle.terms.specs.declared.term.Only.the-variants.{Of, Neither}
+use Rattle.terms.specs.declared.term.Only.the-variants.{Of, NotOne}
 use Rattle.terms.specs.declared.term.Two.{Two}
 use Rattle.terms.specs.declared.term.Two.the-variants.{Both, NotTwo}
 
@@ -138,11 +138,11 @@ pub record ArgumentPart (b : Bytes) (i : ℕ) (part : Bytes) : Type 0 where
   -- the terms that they stand for
   pub terms : forest (tree b) (arguments i (numbers part)) ≡ argumentsOf (tree b i)
 
--- The terms that record numbers stand for. `Neither` and `NotTwo` are no refusals: what a rule makes of a term of
+-- The terms that record numbers stand for. `NotOne` and `NotTwo` are no refusals: what a rule makes of a term of
 -- another form is the rule's own (`termOfWrongForm` and others).
 abbrev pub found : Bytes → Only → Option Term
 found b (Of x) = some (tree b x)
-found b Neither = none
+found b NotOne = none
 
 abbrev pub foundTwo : Bytes → Two → Option (Term × Term)
 foundTwo b (Both x y) = some (tree b x, tree b y)

@@ -1,5 +1,5 @@
--- What a term means: document 01's 'Meaning', from SMT-LIB's theories Core, Ints, Reals and FixedSizeBitVectors. Numbers
--- are pairs of any size, compared by cross products.
+-- What a term means: document 01's 'Meaning', from SMT-LIB's theories Core, Ints, Reals and FixedSizeBitVectors.
+-- Numbers are pairs of any size, compared by cross products.
 use mathlib.Core.Bool.{Bool, true, false, not, _&&_, _||_, cond}
 use mathlib.Core.List.{List, [], _∷_}
 use mathlib.Core.Option.{Option, some, none}
@@ -42,8 +42,8 @@ isTrue (truth t) = t
 isTrue (number p) = false
 isTrue (vector n) = false
 
--- An assignment of the right sorts: for each record number a value of each sort, and the sort of the term says which one
--- counts. A bit-vector's is taken modulo 2^width, so that every number below 2^width can be given and no other.
+-- An assignment of the right sorts: for each record number a value of each sort, and the sort of the term says which
+-- one counts. A bit-vector's is taken modulo 2^width, so that every number below 2^width can be given and no other.
 pub record Assignment : Type 0 where
   pub truths : ℕ → Bool
   pub integers : ℕ → ℤ

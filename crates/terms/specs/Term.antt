@@ -7,6 +7,7 @@ use Prim.Native.Nat.{ℕ, _+_}
 use lib.Dec.{leb, eqb}
 use lib.IntN.{ℤ}
 use Rattle.numbers.specs.Rational.{Rational}
+use Rattle.terms.specs.Format.{boolSort, intSort, realSort, bitsCode}
 use Rattle.terms.specs.Operator.{GreaterEq, Mult, IntDiv, ToReal, Equals, Or}
 use Rattle.numbers.specs.Choice.{if_then_else_}
 
@@ -45,10 +46,10 @@ same s t = eqb (recordNumber s) (recordNumber t)
 
 -- a sort as one number: 1 Bool, 2 Int, 3 Real, and 3 + w for a bit-vector of w bits
 abbrev pub sortCode : Sort → ℕ
-sortCode bool = 1
-sortCode int = 2
-sortCode real = 3
-sortCode (bits w) = 3 + w
+sortCode bool = boolSort
+sortCode int = intSort
+sortCode real = realSort
+sortCode (bits w) = bitsCode + w
 
 abbrev pub sameSort : Sort → Sort → Bool
 sameSort s t = eqb (sortCode s) (sortCode t)

@@ -1,18 +1,22 @@
-// The book of terms: records of 32 bytes, numbered from 0. It replaces the Rust's `Pool` and `Rc<Term>`: a term is a
-// record number. Every function takes any bytes and any number; a record that is not there has no bytes.
+// Reading a book of terms: refusals 2 to 5, record by record.
 ghost use mathlib.Core.Path.{_≡_};
 ghost use Prim.Native.Nat.{_≤_};
-ghost use lib.ListN.{getD, length};
-ghost use Rattle.terms.specs.Book.{count, recordOf, argBytes, argumentAt, sameBytes, bookNumber, recordRead};
-ghost use Rattle.terms.specs.Book.{SortsBelow, BookDone};
-ghost use Rattle.terms.specs.RecordIndex.{Indexed, Unused, BookLeft};
+ghost use lib.ListN.{length};
+ghost use Rattle.terms.specs.Book.{bookNumber, recordRead, SortsBelow, BookDone};
+ghost use Rattle.terms.specs.memory.RecordIndex.{Indexed, Unused, BookLeft};
+use crate::format::MAX_RECORDS;
+use crate::format::RECORD_BYTES;
 use crate::index::clear;
 use crate::index::enter;
 use crate::index::found;
 use crate::layout::layout_ok;
+use crate::records::record;
+use crate::refusal::BOOK_SIZE;
+use crate::refusal::RECORD_LAYOUT;
+use crate::refusal::RECORD_REPEATED;
+use crate::refusal::SORT_BROKEN;
 use crate::sort::Sorting;
 use crate::sort::sort_of;
-use numbers::bytes::read_u16;
 
 // What is wrong with a book: document 01's refusals 2 to 5, in order.
 pub enum BookRefusal {
@@ -46,88 +50,11 @@ pub fn book_number(r: BookRefusal) -> u8
     ensures { λ n. ⌜ n ≡ bookNumber r ⌝ }
 {
     match r {
-        BookRefusal::BookSize => 2,
-        BookRefusal::RecordLayout => 3,
-        BookRefusal::SortBroken => 4,
-        BookRefusal::RecordRepeated => 5,
+        BookRefusal::BookSize => BOOK_SIZE,
+        BookRefusal::RecordLayout => RECORD_LAYOUT,
+        BookRefusal::SortBroken => SORT_BROKEN,
+        BookRefusal::RecordRepeated => RECORD_REPEATED,
     }
-}
-
-// ---- a record's bytes
-
-// How many records are there, 2048 at most.
-pub fn count(book: &[u8]) -> usize
-    ensures { λ r. ⌜ r ≡ count (now (book .entry)) ⌝ }
-{
-    let n = book.len() / 32;
-    if n <= 2048 { n } else { 2048 }
-}
-
-// The bytes of a record.
-pub fn record(book: &[u8], id: usize) -> &[u8]
-    ensures { λ r. ⌜ now r ≡ recordOf (now (book .entry)) id ⌝ }
-{
-    if id < count(book) {
-        let a = 32 * id;
-        let e = a + 32;
-        return &book[a..e];
-    }
-    &book[0..0]
-}
-
-// Byte k; 0 past the end.
-pub fn byte(s: &[u8], k: usize) -> u8
-    ensures { λ r. ⌜ r ≡ getD (now (s .entry)) k 0 ⌝ }
-{
-    if k < s.len() { s[k] } else { 0 }
-}
-
-// The part of a record that holds its arguments, two bytes each.
-pub fn arg_bytes(r: &[u8]) -> &[u8]
-    ensures { λ x. ⌜ now x ≡ argBytes (now (r .entry)) ⌝ }
-{
-    if byte(r, 0) == 5 {
-        if 4 <= r.len() {
-            let n = 2 * (byte(r, 2) as usize);
-            if n <= r.len() - 4 {
-                let e = 4 + n;
-                return &r[4..e];
-            }
-            return &r[4..];
-        }
-    }
-    &r[0..0]
-}
-
-// Argument k of record `id`, from the part that holds its arguments; 65535, the number of no record, where it is not an
-// earlier record.
-pub fn argument(args: &[u8], k: usize, id: usize) -> usize
-    ensures { λ r. ⌜ r ≡ argumentAt (now (args .entry)) k id ⌝ }
-{
-    if k < args.len() / 2 {
-        let a = read_u16(args, 2 * k) as usize;
-        if a < id {
-            return a;
-        }
-    }
-    65535
-}
-
-// Whether two parts have the same bytes.
-pub fn same_bytes(a: &[u8], b: &[u8]) -> bool
-    ensures { λ r. ⌜ r ≡ sameBytes (now (a .entry)) (now (b .entry)) ⌝ }
-{
-    if a.len() != b.len() {
-        return false;
-    }
-    let mut k = 0;
-    while k < a.len() {
-        if a[k] != b[k] {
-            return false;
-        }
-        k += 1;
-    }
-    true
 }
 
 // ---- reading
@@ -158,11 +85,11 @@ fn read_records(book: &[u8], work: &mut [u8]) -> BookRead
     requires { ⌜ (8192 ≤ length (now work)) × Unused (now work) ⌝ }
     ensures { λ r. ⌜ BookLeft (now (book .entry)) (now (work .entry)) (now (work .exit)) r ⌝ }
 {
-    if book.len() % 32 != 0 {
+    if book.len() % RECORD_BYTES != 0 {
         return BookRead::RefusedAt(BookRefusal::BookSize, 0);
     }
-    let n = book.len() / 32;
-    if 2048 < n {
+    let n = book.len() / RECORD_BYTES;
+    if MAX_RECORDS < n {
         return BookRead::RefusedAt(BookRefusal::BookSize, 0);
     }
     let mut i = 0;

@@ -1,16 +1,21 @@
 // The index of a book's records while it is read, so that a record is compared with few of the earlier ones. The work
 // area holds the sorts in bytes 0 to 2047 and the index in bytes 2048 to 8191: 1024 chains of records, by a hash of
 // their bytes. A chain's first number lies in two bytes from 2048 on, the number after record m in two bytes from 4096
-// on; a number k stands for record k - 1, and 0 ends a chain. Records enter at the front, so the numbers on a chain fall.
+// on; a number k stands for record k - 1, and 0 ends a chain. Records enter at the front, so the numbers on a chain
+// fall.
 ghost use mathlib.Core.Path.{_≡_};
 ghost use Prim.Native.Nat.{_+_, _≤_, _<_};
 ghost use lib.ListN.{length};
 ghost use Rattle.terms.specs.Book.{recordOf, stands};
-ghost use Rattle.terms.specs.RecordIndex.{chain, Indexed, Beside, Unused};
-use crate::book::byte;
-use crate::book::record;
-use crate::book::same_bytes;
+ghost use Rattle.terms.specs.memory.RecordIndex.{chain, Indexed, Beside, Unused};
+use crate::areas::HEADS_AT;
+use crate::areas::INDEX_END;
+use crate::areas::LINKS_AT;
+use crate::records::record;
+use numbers::bytes::byte;
+use numbers::bytes::clear_from;
 use numbers::bytes::read_u16;
+use numbers::bytes::same_bytes;
 use numbers::bytes::write_u16;
 
 // The chain of a record's bytes, by a hash of them.
@@ -32,12 +37,12 @@ pub(crate) fn found(book: &[u8], work: &[u8], id: usize) -> bool
     ensures { λ x. ⌜ x ≡ stands id (now (book .entry)) (recordOf (now (book .entry)) id) ⌝ }
 {
     let r = record(book, id);
-    let mut k = read_u16(work, 2048 + 2 * chain(r)) as usize;
+    let mut k = read_u16(work, HEADS_AT + 2 * chain(r)) as usize;
     while 0 < k {
         if same_bytes(record(book, k - 1), r) {
             return true;
         }
-        k = read_u16(work, 4096 + 2 * (k - 1)) as usize;
+        k = read_u16(work, LINKS_AT + 2 * (k - 1)) as usize;
     }
     false
 }
@@ -48,9 +53,9 @@ pub(crate) fn enter(book: &[u8], work: &mut [u8], id: usize)
     ensures { λ _. ⌜ Indexed (id + 1) (now (book .entry)) (now (work .exit))
         × Beside (now (work .exit)) (now (work .entry)) ⌝ }
 {
-    let at = 2048 + 2 * chain(record(book, id));
+    let at = HEADS_AT + 2 * chain(record(book, id));
     let first = read_u16(work, at);
-    write_u16(work, 4096 + 2 * id, first);
+    write_u16(work, LINKS_AT + 2 * id, first);
     write_u16(work, at, (id + 1) as u32);
 }
 
@@ -59,9 +64,7 @@ pub(crate) fn clear(work: &mut [u8])
     requires { ⌜ 8192 ≤ length (now work) ⌝ }
     ensures { λ _. ⌜ Unused (now (work .exit)) × Beside (now (work .exit)) (now (work .entry)) ⌝ }
 {
-    let mut k = 2048;
-    while k < 8192 {
-        work[k] = 0;
-        k += 1;
-    }
+    let start = HEADS_AT;
+    let end = INDEX_END;
+    clear_from(&mut work[start..end], 0);
 }

@@ -3,9 +3,35 @@ ghost use mathlib.Core.Path.{_≡_};
 ghost use lib.ListN.{take};
 ghost use Rattle.numbers.specs.Rational.{frac};
 ghost use Rattle.terms.specs.Book.{allZero, unused, countOk, allBelow, numbers, isNumber, isWidth, integerOk};
-ghost use Rattle.terms.specs.Book.{realOk, vectorOk, isVector, atomOk, operationOk, layoutOk};
-use crate::book::arg_bytes;
-use crate::book::byte;
+ghost use Rattle.terms.specs.Book.{realOk, vectorOk, isVector, atomOk, argumentsOk, operationOk, layoutOk};
+use crate::format::ARGS_AT;
+use crate::format::ATOM;
+use crate::format::BIT_VECTOR;
+use crate::format::BITS_SORT;
+use crate::format::BOOL_SORT;
+use crate::format::COUNT_AT;
+use crate::format::FIELDS_END;
+use crate::format::FIRST_AT;
+use crate::format::INTEGER;
+use crate::format::MAX_ARGS;
+use crate::format::MAX_WIDTH;
+use crate::format::OPERATION;
+use crate::format::OPERATOR_AT;
+use crate::format::REAL;
+use crate::format::REAL_SORT;
+use crate::format::RECORD_BYTES;
+use crate::format::SECOND_AT;
+use crate::format::SORT_AT;
+use crate::operator::BV_MUL;
+use crate::operator::BV_NEG;
+use crate::operator::BV_SUB;
+use crate::operator::INT_DIV;
+use crate::operator::NOT;
+use crate::operator::REAL_DIV;
+use crate::operator::SUB;
+use crate::operator::TO_REAL;
+use crate::records::arg_bytes;
+use numbers::bytes::byte;
 use numbers::bytes::read_u16;
 use numbers::bytes::read_u64;
 use numbers::bytes::signed_u64;
@@ -55,9 +81,9 @@ pub fn is_number(n: i64, d: i64) -> bool
 fn integer_ok(r: &[u8]) -> bool
     ensures { λ x. ⌜ x ≡ integerOk (now (r .entry)) ⌝ }
 {
-    if unused(r, 1, 3) {
-        if unused(r, 12, 20) {
-            return is_number(signed_u64(read_u64(r, 4)), 1);
+    if unused(r, OPERATOR_AT, 3) {
+        if unused(r, SECOND_AT, 20) {
+            return is_number(signed_u64(read_u64(r, FIRST_AT)), 1);
         }
     }
     false
@@ -66,10 +92,10 @@ fn integer_ok(r: &[u8]) -> bool
 fn real_ok(r: &[u8]) -> bool
     ensures { λ x. ⌜ x ≡ realOk (now (r .entry)) ⌝ }
 {
-    if unused(r, 1, 3) {
-        if unused(r, 20, 12) {
-            let n = signed_u64(read_u64(r, 4));
-            let d = signed_u64(read_u64(r, 12));
+    if unused(r, OPERATOR_AT, 3) {
+        if unused(r, FIELDS_END, 12) {
+            let n = signed_u64(read_u64(r, FIRST_AT));
+            let d = signed_u64(read_u64(r, SECOND_AT));
             if is_number(n, d) {
                 return gcd(magnitude(n), magnitude(d)) == 1;
             }
@@ -81,16 +107,16 @@ fn real_ok(r: &[u8]) -> bool
 fn is_width(w: u64) -> bool
     ensures { λ r. ⌜ r ≡ isWidth w ⌝ }
 {
-    if 1 <= w { w <= 30 } else { false }
+    if 1 <= w { w <= MAX_WIDTH } else { false }
 }
 
 // Whether the fields are a bit-vector's width and a value below 2^width.
 pub fn is_vector(r: &[u8]) -> bool
     ensures { λ x. ⌜ x ≡ isVector (now (r .entry)) ⌝ }
 {
-    let w = read_u64(r, 12);
+    let w = read_u64(r, SECOND_AT);
     if is_width(w) {
-        return read_u64(r, 4) < 1 << w;
+        return read_u64(r, FIRST_AT) < 1 << w;
     }
     false
 }
@@ -98,8 +124,8 @@ pub fn is_vector(r: &[u8]) -> bool
 fn vector_ok(r: &[u8]) -> bool
     ensures { λ x. ⌜ x ≡ vectorOk (now (r .entry)) ⌝ }
 {
-    if unused(r, 1, 3) {
-        if unused(r, 20, 12) {
+    if unused(r, OPERATOR_AT, 3) {
+        if unused(r, FIELDS_END, 12) {
             return is_vector(r);
         }
     }
@@ -109,13 +135,13 @@ fn vector_ok(r: &[u8]) -> bool
 fn atom_ok(r: &[u8]) -> bool
     ensures { λ x. ⌜ x ≡ atomOk (now (r .entry)) ⌝ }
 {
-    if unused(r, 1, 2) {
-        if unused(r, 20, 12) {
-            let s = byte(r, 3);
-            let w = read_u64(r, 12);
+    if unused(r, OPERATOR_AT, 2) {
+        if unused(r, FIELDS_END, 12) {
+            let s = byte(r, SORT_AT);
+            let w = read_u64(r, SECOND_AT);
             return match s {
-                4 => is_width(w),
-                1..=3 => w == 0,
+                BITS_SORT => is_width(w),
+                BOOL_SORT..=REAL_SORT => w == 0,
                 _ => false,
             };
         }
@@ -128,12 +154,12 @@ fn count_ok(o: u8, n: u8) -> bool
     ensures { λ r. ⌜ r ≡ countOk o n ⌝ }
 {
     let least = match o {
-        1 | 14 | 17 => return n == 1,
-        12 | 13 | 16 => return n == 2,
-        10 => 1,
+        NOT | TO_REAL | BV_NEG => return n == 1,
+        INT_DIV | REAL_DIV | BV_SUB => return n == 2,
+        SUB => 1,
         _ => 2,
     };
-    if n <= 14 { least <= n } else { false }
+    if n <= MAX_ARGS { least <= n } else { false }
 }
 
 // Whether each argument is a record before `id`.
@@ -151,26 +177,30 @@ fn all_below(args: &[u8], id: usize) -> bool
     true
 }
 
-fn operation_ok(r: &[u8], id: usize) -> bool
-    ensures { λ x. ⌜ x ≡ operationOk id (now (r .entry)) ⌝ }
+// Whether an operation's arguments are as many as its operator takes, and earlier records.
+fn arguments_ok(r: &[u8], id: usize) -> bool
+    ensures { λ x. ⌜ x ≡ argumentsOk id (now (r .entry)) ⌝ }
 {
-    let o = byte(r, 1);
-    let n = byte(r, 2);
-    if o < 1 {
-        return false;
-    }
-    if 18 < o {
-        return false;
-    }
-    if count_ok(o, n) {
-        if byte(r, 3) == 0 {
+    let n = byte(r, COUNT_AT);
+    if count_ok(byte(r, OPERATOR_AT), n) {
+        if byte(r, SORT_AT) == 0 {
             let used = 2 * (n as usize);
-            if unused(r, 4 + used, 28 - used) {
+            if unused(r, ARGS_AT + used, RECORD_BYTES - ARGS_AT - used) {
                 return all_below(arg_bytes(r), id);
             }
         }
     }
     false
+}
+
+fn operation_ok(r: &[u8], id: usize) -> bool
+    ensures { λ x. ⌜ x ≡ operationOk id (now (r .entry)) ⌝ }
+{
+    let o = byte(r, OPERATOR_AT);
+    match o {
+        NOT..=BV_MUL => arguments_ok(r, id),
+        _ => false,
+    }
 }
 
 // Whether record `id` with bytes r is laid out as document 01 says.
@@ -179,11 +209,11 @@ pub fn layout_ok(r: &[u8], id: usize) -> bool
 {
     let k = byte(r, 0);
     match k {
-        1 => integer_ok(r),
-        2 => real_ok(r),
-        3 => vector_ok(r),
-        4 => atom_ok(r),
-        5 => operation_ok(r, id),
+        INTEGER => integer_ok(r),
+        REAL => real_ok(r),
+        BIT_VECTOR => vector_ok(r),
+        ATOM => atom_ok(r),
+        OPERATION => operation_ok(r, id),
         _ => false,
     }
 }

@@ -1,11 +1,34 @@
-// The sort rules, the stand-in for the Rust's `Pool::sort`. A sort is one number: 1 Bool, 2 Int, 3 Real, 3 + w for a
-// bit-vector of w bits.
+// The sort rules, the stand-in for the Rust's `Pool::sort`. A sort is one number (`format`).
 ghost use mathlib.Core.Path.{_≡_};
 ghost use Rattle.terms.specs.Book.{numbers};
-ghost use Rattle.terms.specs.Sorting.{argSorts, common, sortAt, takesBy, givesBy, sortRule, widthCode, atomCode};
-ghost use Rattle.terms.specs.Sorting.{sorting};
-use crate::book::arg_bytes;
-use crate::book::byte;
+ghost use Rattle.terms.specs.memory.Sorting.{argSorts, common, sortAt, takesBy, givesBy, sortRule, widthCode};
+ghost use Rattle.terms.specs.memory.Sorting.{atomCode};
+ghost use Rattle.terms.specs.memory.Sorting.{sorting};
+use crate::format::BIT_VECTOR;
+use crate::format::BITS_CODE;
+use crate::format::BITS_SORT;
+use crate::format::BOOL_SORT;
+use crate::format::INT_SORT;
+use crate::format::INTEGER;
+use crate::format::MAX_WIDTH;
+use crate::format::OPERATION;
+use crate::format::OPERATOR_AT;
+use crate::format::REAL;
+use crate::format::REAL_SORT;
+use crate::format::SECOND_AT;
+use crate::format::SORT_AT;
+use crate::operator::ADD;
+use crate::operator::EQUALS;
+use crate::operator::GREATER_EQ;
+use crate::operator::INT_DIV;
+use crate::operator::LESS_THAN;
+use crate::operator::MULT;
+use crate::operator::NO_OPERATOR;
+use crate::operator::OR;
+use crate::operator::REAL_DIV;
+use crate::operator::TO_REAL;
+use crate::records::arg_bytes;
+use numbers::bytes::byte;
 use numbers::bytes::read_u16;
 use numbers::bytes::read_u64;
 
@@ -31,7 +54,7 @@ pub struct ArgSorts {
 fn sort_at(a: usize, id: usize, sorts: &[u8]) -> u8
     ensures { λ r. ⌜ r ≡ sortAt id (now (sorts .entry)) a ⌝ }
 {
-    if a < id { byte(sorts, a) } else { 1 }
+    if a < id { byte(sorts, a) } else { BOOL_SORT }
 }
 
 // Over the arguments of record `id`.
@@ -39,7 +62,7 @@ fn common(args: &[u8], id: usize, sorts: &[u8]) -> ArgSorts
     ensures { λ r. ⌜ r ≡ common (argSorts id (now (sorts .entry)) (numbers (now (args .entry)))) ⌝ }
 {
     let n = args.len() / 2;
-    let mut first = 1;
+    let mut first = BOOL_SORT;
     if 0 < n {
         first = sort_at(read_u16(args, 0) as usize, id, sorts);
     }
@@ -50,14 +73,14 @@ fn common(args: &[u8], id: usize, sorts: &[u8]) -> ArgSorts
     while k < n {
         let s = sort_at(read_u16(args, 2 * k) as usize, id, sorts);
         same = if s == first { same } else { false };
-        numeric = if s == 2 {
+        numeric = if s == INT_SORT {
             numeric
-        } else if s == 3 {
+        } else if s == REAL_SORT {
             numeric
         } else {
             false
         };
-        int = if s == 2 { int } else { false };
+        int = if s == INT_SORT { int } else { false };
         k += 1;
     }
     ArgSorts {
@@ -77,11 +100,11 @@ fn takes(o: u8, c: ArgSorts) -> bool
     let numeric = c.numeric;
     let int = c.int;
     match o {
-        0..=3 => if first == 1 { same } else { false },
-        4 => if same { true } else { numeric },
-        5..=11 | 13 | 14 => numeric,
-        12 => int,
-        _ => if 4 <= first { same } else { false },
+        NO_OPERATOR..=OR => if first == BOOL_SORT { same } else { false },
+        EQUALS => if same { true } else { numeric },
+        LESS_THAN..=MULT | REAL_DIV | TO_REAL => numeric,
+        INT_DIV => int,
+        _ => if BITS_SORT <= first { same } else { false },
     }
 }
 
@@ -92,10 +115,10 @@ fn gives(o: u8, c: ArgSorts) -> u8
     let first = c.first;
     let int = c.int;
     match o {
-        0..=8 => 1,
-        9..=11 => if int { 2 } else { 3 },
-        12 => 2,
-        13 | 14 => 3,
+        NO_OPERATOR..=GREATER_EQ => BOOL_SORT,
+        ADD..=MULT => if int { INT_SORT } else { REAL_SORT },
+        INT_DIV => INT_SORT,
+        REAL_DIV | TO_REAL => REAL_SORT,
         _ => first,
     }
 }
@@ -113,19 +136,23 @@ fn sort_rule(o: u8, c: ArgSorts) -> Sorting
 fn width_code(r: &[u8]) -> u8
     ensures { λ x. ⌜ x ≡ widthCode (now (r .entry)) ⌝ }
 {
-    let w = read_u64(r, 12);
-    if w <= 30 { 3 + w as u8 } else { 3 }
+    let w = read_u64(r, SECOND_AT);
+    if w <= MAX_WIDTH {
+        BITS_CODE + w as u8
+    } else {
+        BITS_CODE
+    }
 }
 
 fn atom_code(r: &[u8]) -> u8
     ensures { λ x. ⌜ x ≡ atomCode (now (r .entry)) ⌝ }
 {
-    let s = byte(r, 3);
+    let s = byte(r, SORT_AT);
     match s {
-        2 => 2,
-        3 => 3,
-        4 => width_code(r),
-        _ => 1,
+        INT_SORT => INT_SORT,
+        REAL_SORT => REAL_SORT,
+        BITS_SORT => width_code(r),
+        _ => BOOL_SORT,
     }
 }
 
@@ -135,10 +162,10 @@ pub fn sort_of(r: &[u8], id: usize, sorts: &[u8]) -> Sorting
 {
     let k = byte(r, 0);
     match k {
-        1 => Sorting::Of(2),
-        2 => Sorting::Of(3),
-        3 => Sorting::Of(width_code(r)),
-        5 => sort_rule(byte(r, 1), common(arg_bytes(r), id, sorts)),
+        INTEGER => Sorting::Of(INT_SORT),
+        REAL => Sorting::Of(REAL_SORT),
+        BIT_VECTOR => Sorting::Of(width_code(r)),
+        OPERATION => sort_rule(byte(r, OPERATOR_AT), common(arg_bytes(r), id, sorts)),
         _ => Sorting::Of(atom_code(r)),
     }
 }

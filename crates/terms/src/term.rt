@@ -6,12 +6,25 @@ ghost use Rattle.terms.specs.Book.{node, tree};
 ghost use Rattle.terms.specs.Readers.{ranged, asNumber, negated, asSignedNumber, quotientOf, asUnsignedFraction};
 ghost use Rattle.terms.specs.Readers.{asFraction, asBitvector, operatorOf, removeNegation, Finds, FindsVector};
 ghost use Rattle.terms.specs.Readers.{ArgumentPart, Child, Children};
-use crate::book::arg_bytes;
-use crate::book::argument;
-use crate::book::byte;
-use crate::book::record;
+use crate::format::ATOM;
+use crate::format::BIT_VECTOR;
+use crate::format::FIRST_AT;
+use crate::format::INTEGER;
+use crate::format::OPERATION;
+use crate::format::OPERATOR_AT;
+use crate::format::REAL;
+use crate::format::SECOND_AT;
 use crate::layout::is_number;
 use crate::layout::is_vector;
+use crate::operator::INT_DIV;
+use crate::operator::NO_OPERATOR;
+use crate::operator::NOT;
+use crate::operator::REAL_DIV;
+use crate::operator::SUB;
+use crate::records::arg_bytes;
+use crate::records::argument;
+use crate::records::record;
+use numbers::bytes::byte;
 use numbers::bytes::read_u64;
 use numbers::bytes::signed_u64;
 use numbers::number::Checked;
@@ -36,7 +49,7 @@ pub enum BitVector {
 // The record of the one argument of an operation, if it is such an operation.
 pub enum Only {
     Of(usize),
-    Neither,
+    NotOne,
 }
 
 // The records of its two arguments.
@@ -50,13 +63,13 @@ fn constant(r: &[u8]) -> Reading
     ensures { λ x. ⌜ Finds x (asNumber (node 0 (now (r .entry)) nil)) ⌝ }
 {
     let k = byte(r, 0);
-    if k == 4 {
+    if k == ATOM {
         return Reading::NotNumber;
     }
-    let n = signed_u64(read_u64(r, 4));
+    let n = signed_u64(read_u64(r, FIRST_AT));
     let d = match k {
-        1 => 1,
-        2 => signed_u64(read_u64(r, 12)),
+        INTEGER => 1,
+        REAL => signed_u64(read_u64(r, SECOND_AT)),
         _ => 0,
     };
     if is_number(n, d) {
@@ -76,15 +89,15 @@ pub fn unary(book: &[u8], id: usize, o: u8) -> Only
     ensures { λ r. ⌜ Child (now (book .entry)) id r (unary o (tree (now (book .entry)) id)) ⌝ }
 {
     let r = record(book, id);
-    if byte(r, 0) == 5 {
-        if byte(r, 1) == o {
+    if byte(r, 0) == OPERATION {
+        if byte(r, OPERATOR_AT) == o {
             let args = arg_bytes(r);
             if args.len() / 2 == 1 {
                 return Only::Of(argument(args, 0, id));
             }
         }
     }
-    Only::Neither
+    Only::NotOne
 }
 
 // (o x y): the records of x and y.
@@ -92,8 +105,8 @@ pub fn binary(book: &[u8], id: usize, o: u8) -> Two
     ensures { λ r. ⌜ Children (now (book .entry)) id r (binary o (tree (now (book .entry)) id)) ⌝ }
 {
     let r = record(book, id);
-    if byte(r, 0) == 5 {
-        if byte(r, 1) == o {
+    if byte(r, 0) == OPERATION {
+        if byte(r, OPERATOR_AT) == o {
             let args = arg_bytes(r);
             if args.len() / 2 == 2 {
                 return Two::Both(argument(args, 0, id), argument(args, 1, id));
@@ -117,9 +130,9 @@ fn negated(x: Reading) -> Reading
 pub fn as_signed_number(book: &[u8], id: usize) -> Reading
     ensures { λ r. ⌜ Finds r (asSignedNumber (tree (now (book .entry)) id)) ⌝ }
 {
-    match unary(book, id, 10) {
+    match unary(book, id, SUB) {
         Only::Of(x) => negated(as_number(book, x)),
-        Only::Neither => as_number(book, id),
+        Only::NotOne => as_number(book, id),
     }
 }
 
@@ -127,9 +140,9 @@ pub fn as_signed_number(book: &[u8], id: usize) -> Reading
 fn quotient_of(book: &[u8], id: usize) -> Two
     ensures { λ r. ⌜ Children (now (book .entry)) id r (quotientOf (tree (now (book .entry)) id)) ⌝ }
 {
-    match binary(book, id, 12) {
+    match binary(book, id, INT_DIV) {
         Two::Both(x, y) => Two::Both(x, y),
-        Two::NotTwo => binary(book, id, 13),
+        Two::NotTwo => binary(book, id, REAL_DIV),
     }
 }
 
@@ -159,9 +172,9 @@ fn as_unsigned_fraction(book: &[u8], id: usize) -> Reading
 fn as_operation(book: &[u8], id: usize) -> Reading
     ensures { λ r. ⌜ Finds r (asFraction ranged (tree (now (book .entry)) id)) ⌝ }
 {
-    match unary(book, id, 10) {
+    match unary(book, id, SUB) {
         Only::Of(x) => negated(as_unsigned_fraction(book, x)),
-        Only::Neither => as_unsigned_fraction(book, id),
+        Only::NotOne => as_unsigned_fraction(book, id),
     }
 }
 
@@ -169,7 +182,7 @@ fn as_operation(book: &[u8], id: usize) -> Reading
 pub fn as_fraction(book: &[u8], id: usize) -> Reading
     ensures { λ r. ⌜ Finds r (asFraction ranged (tree (now (book .entry)) id)) ⌝ }
 {
-    if operator(book, id) == 0 {
+    if operator(book, id) == NO_OPERATOR {
         return as_number(book, id);
     }
     as_operation(book, id)
@@ -179,20 +192,24 @@ pub fn as_bitvector(book: &[u8], id: usize) -> BitVector
     ensures { λ r. ⌜ FindsVector r (asBitvector (tree (now (book .entry)) id)) ⌝ }
 {
     let r = record(book, id);
-    if byte(r, 0) == 3 {
+    if byte(r, 0) == BIT_VECTOR {
         if is_vector(r) {
-            return BitVector::Bits(read_u64(r, 4), read_u64(r, 12));
+            return BitVector::Bits(read_u64(r, FIRST_AT), read_u64(r, SECOND_AT));
         }
     }
     BitVector::NotBitvector
 }
 
-// The operator of `as_op`; 0 where the term is no operation.
+// The operator of `as_op`; `NO_OPERATOR` where the term is no operation.
 pub fn operator(book: &[u8], id: usize) -> u8
     ensures { λ r. ⌜ r ≡ operatorOf (tree (now (book .entry)) id) ⌝ }
 {
     let r = record(book, id);
-    if byte(r, 0) == 5 { byte(r, 1) } else { 0 }
+    if byte(r, 0) == OPERATION {
+        byte(r, OPERATOR_AT)
+    } else {
+        NO_OPERATOR
+    }
 }
 
 // The arguments of `as_op`, as the part of the record that holds them.
@@ -206,5 +223,5 @@ pub fn args(book: &[u8], id: usize) -> &[u8]
 pub fn remove_negation(book: &[u8], id: usize) -> Only
     ensures { λ r. ⌜ Child (now (book .entry)) id r (removeNegation (tree (now (book .entry)) id)) ⌝ }
 {
-    unary(book, id, 1)
+    unary(book, id, NOT)
 }

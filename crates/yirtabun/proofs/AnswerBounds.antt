@@ -14,7 +14,8 @@ use mir.Syntax.{w32}
 use mir.Val.{Fits}
 use Rattle.numbers.specs.Bytes.{Bytes}
 use Rattle.numbers.proofs.Truths.{both}
-use Rattle.terms.specs.Book.{maxRecords, readBook}
+use Rattle.terms.specs.Book.{readBook}
+use Rattle.terms.specs.Format.{maxRecords}
 use Rattle.terms.specs.declared.book.BookRead.{BookRead}
 use Rattle.terms.specs.declared.book.BookRead.the-variants.{Records, RefusedAt}
 use Rattle.rules.specs.Refusal.{Outcome}
@@ -24,11 +25,11 @@ use Rattle.rules.proofs.Yields.Yields.{gives, refuses}
 use Rattle.runs.specs.Verdict.{LentRefusal}
 use Rattle.runs.specs.Run.{Step, Rec, maxRunRecords, readSteps, readRun}
 use Rattle.runs.specs.Check.{Marking, markRun, mark, lentOk, check}
-use Rattle.runs.specs.Lent.{markedOf}
+use Rattle.runs.specs.Answers.{markedOf}
 use Rattle.runs.specs.declared.check.Marked.{Marked}
 use Rattle.runs.proofs.Turns.{Marks, ends, stops, goes-on, marks, checkSteps-from, markBook}
 use Rattle.elaborate.specs.Elaborate.{Written, written, addSteps, fits, Answer, elaborated, elaborate}
-use Rattle.elaborate.specs.OutMemory.{elaboratedOf}
+use Rattle.elaborate.specs.LentMemory.{elaboratedOf}
 use Rattle.elaborate.specs.declared.elaborate.Elaborated.{Elaborated}
 use Rattle.elaborate.proofs.Memory.{tailBytes-length}
 use Rattle.elaborate.proofs.OutAreas.{fit-of}

@@ -9,8 +9,8 @@ use Prim.Native.Nat.{ℕ, zero, suc, _-_, _≤_}
 use native.Mathlib.Omega.{arith}
 use lib.ListN.{length, getD, replicate, length-append, length-replicate}
 use Rattle.numbers.specs.Bytes.{Bytes, put, putDigits, bytesOf}
-use Rattle.polynomial.proofs.CopiedBytes.{Copied, front-all}
-use Rattle.runs.specs.Lent.{area}
+use Rattle.numbers.proofs.CopiedBytes.{Copied, front-all}
+use Rattle.runs.specs.Answers.{area}
 use Rattle.runs.specs.declared.check.Marked.{Marked}
 use Rattle.elaborate.specs.declared.elaborate.Elaborated.{Elaborated}
 use Rattle.yirtabun.specs.Answers.{numberBytes, shown}

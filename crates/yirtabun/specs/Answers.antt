@@ -8,9 +8,9 @@ use Rattle.numbers.specs.Bytes.{Bytes, bytesOf}
 use Rattle.runs.specs.Verdict.{verdictNumber}
 use Rattle.runs.specs.Check.{Marking, check}
 use Rattle.elaborate.specs.Elaborate.{Answer, writtenPart}
-use Rattle.runs.specs.Lent.{area, zeros}
-use Rattle.elaborate.specs.Memory.{Memory, answerTo}
-use Rattle.elaborate.specs.OutMemory.{elaboratedOf}
+use Rattle.runs.specs.Answers.{area, zeros}
+use Rattle.elaborate.specs.LentMemory.{Memory, answerTo}
+use Rattle.elaborate.specs.LentMemory.{elaboratedOf}
 use Rattle.elaborate.specs.ElaborateEntry.{ElaborateDone}
 
 unfoldable pub numberBytes : List ℕ → Bytes

@@ -7,13 +7,13 @@
 ghost use mathlib.Core.Path.{_≡_};
 ghost use mathlib.Core.List.{[], _∷_};
 ghost use lib.ListN.{length};
-ghost use Rattle.elaborate.specs.Memory.{lent};
+ghost use Rattle.elaborate.specs.LentMemory.{lent};
 ghost use Rattle.yirtabun.specs.Answers.{numberBytes, shown, CheckShown, ElaborateShown, WrittenShown};
 use elaborate::elaborate::elaborate;
 use elaborate::elaborate::written;
+use numbers::bytes::byte;
 use numbers::bytes::write_u32;
 use runs::check::check;
-use terms::book::byte;
 
 // Puts as many bytes of a text as it takes into a slice, and zeros behind them.
 fn show(text: &[u8], answer: &mut [u8])

@@ -1,7 +1,7 @@
 -- The answer leaves the work area as it found it, so that others can be asked.
 use mathlib.Core.Path.{sym, subst}
 use borrow.Author.Needs.{needs}
-use Rattle.rules.specs.Parts.{Ready}
+use Rattle.rules.specs.memory.Parts.{Ready}
 use Rattle.step_cases.proofs.agrees.Statement.{statement}
 use Rattle.step_cases.proofs.agrees.Tie as tie
 

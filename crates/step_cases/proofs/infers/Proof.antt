@@ -4,7 +4,7 @@ use mathlib.Core.Path.{sym, _∙_}
 use Prim.Native.Nat.{_-_, _/_}
 use borrow.Author.Needs.{needs}
 use lib.ListN.{length}
-use Rattle.linear_arithmetic.specs.LinearSteps.{AllNumbers}
+use Rattle.linear_arithmetic.specs.memory.LinearSteps.{AllNumbers}
 use Rattle.linear_arithmetic.proofs.FoldedAreas.{Given}
 use Rattle.linear_arithmetic.proofs.PartialFold.{part-length, part-few, rest-folds, part-less, part-fits, Rested}
 use Rattle.linear_arithmetic.proofs.PartialFold.{part-more}
@@ -23,10 +23,10 @@ abbrev μ-loop : tie.MeasureT-loop
 
 loop-holds : tie.Need-loop-holds Inv-loop μ-loop
 loop-holds c =
-    let s = c .before .before .before .before .before .before .before .before in
+    let s = c .before .before .before .before .before .before .before .before .before in
     let pre = s .pre in
     let numbers : AllNumbers 1000000 (s .args .book .now) (s .args .args .now) =
-    sym (c .before .before .read-args .ensures 1000000) ∙ c .before .if1 .left in
+    sym (c .before .enum-told .given .1) ∙ c .before .before .before .read-args .ensures 1000000 in
     inferred-begin _ numbers (pre .0) (pre .1 .0) (pre .1 .1) _ (c .whole .ensures)
 
 rest-requires : tie.Need-rest-requires Inv-loop μ-loop
@@ -45,7 +45,7 @@ turn c = c .before .before .before .before
 
 abbrev given : tie.At-loop Inv-loop μ-loop → Given
 given c =
-    let args = c .before .before .before .before .before .before .before .before .before .args in
+    let args = c .before .before .before .before .before .before .before .before .before .before .args in
     record {
       book = args .book .now;
       literals = args .literals .now;
@@ -77,7 +77,7 @@ mul-read : tie.Need-mul-read Inv-loop μ-loop
 mul-read c = inferred-place (turn (c .before .before .before .before .before) .loop .inv)
 
 -- a number was inferred, and it is that of the file
-abbrev folded : tie.Then2 Inv-loop μ-loop → tie.After-fold-literals Inv-loop μ-loop
+abbrev folded : tie.Then1 Inv-loop μ-loop → tie.After-fold-literals Inv-loop μ-loop
 folded c = c .before .before .before .before .before .before .before .before
 
 add-done : tie.Need-add-done Inv-loop μ-loop
@@ -117,6 +117,8 @@ infers-spec =
     Inv-loop
     μ-loop
     (λ c κs. search needs)
+    (λ c. search needs)
+    (λ c. search needs)
     (λ c. search needs)
     (λ c κs. search needs)
     loop-holds

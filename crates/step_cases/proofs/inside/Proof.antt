@@ -7,7 +7,7 @@ use lib.Dec.{ltb}
 use lib.ListN.{getD}
 use Rattle.terms.specs.Book.{allBelow, count}
 use Rattle.terms.proofs.Layouts.{Walk, walk-on, walk-fails, walk-end, allBelow-all}
-use Rattle.rules.specs.Parts.{numbersIn}
+use Rattle.rules.specs.memory.Parts.{numbersIn}
 use Rattle.rules.proofs.RunParts.{length-numbersIn, number-at}
 use Rattle.step_cases.proofs.inside.Statement.{statement}
 use Rattle.step_cases.proofs.inside.Tie as tie

@@ -1,7 +1,7 @@
 -- The literals name records of the book where `inside` says so, and `agrees` leaves the work area as it found it.
 use mathlib.Core.Path.{sym, subst, _∙_}
 use borrow.Author.Needs.{needs}
-use Rattle.rules.specs.Parts.{Ready, Inside}
+use Rattle.rules.specs.memory.Parts.{Ready, Inside}
 use Rattle.step_cases.proofs.is_same.Statement.{statement}
 use Rattle.step_cases.proofs.is_same.Tie as tie
 

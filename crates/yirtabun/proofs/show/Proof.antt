@@ -5,8 +5,8 @@ use Prim.Native.Nat.{_-_}
 use native.Mathlib.Omega.{arith}
 use borrow.Author.Needs.{needs}
 use lib.ListN.{length}
-use Rattle.polynomial.proofs.CopiedBytes.{Copied, copied-none, front-more}
-use Rattle.runs.specs.Lent.{area}
+use Rattle.numbers.proofs.CopiedBytes.{Copied, copied-none, front-more}
+use Rattle.runs.specs.Answers.{area}
 use Rattle.yirtabun.proofs.AnswerBytes.{padded-byte, padded-long, copied-shown}
 use Rattle.yirtabun.proofs.show.Statement.{statement}
 use Rattle.yirtabun.proofs.show.Tie as tie

@@ -1,8 +1,10 @@
--- `negate_disequality` fills area 1 with the left side and area 2 with the right; where the right side is refused,
--- area 1 is emptied again.
-use mathlib.Core.Path.{_∙_}
+-- `negate_disequality` fills the area of the left side and then that of the right; where the right side is refused, the
+-- first is emptied again.
+use mathlib.Core.Path.{_∙_, ap}
 use native.Mathlib.Omega.{arith}
 use borrow.Author.Needs.{needs}
+use Rattle.linear_comb.specs.memory.WorkArea.{walkRefusal}
+use Rattle.disequality.specs.memory.DisequalitySteps.{relationRefusal}
 use Rattle.rules.proofs.StoredEntries.{kept-small}
 use Rattle.linear_comb.proofs.Areas.{empty-held}
 use Rattle.linear_comb.proofs.AreaSteps.{answer-kept}
@@ -15,7 +17,7 @@ from-term-requires : tie.Need-from-term-requires
 from-term-requires c κs =
     let begun = c .before .before .before .before in
     let between = begun .before .before .before .pre .0 in
-    let found = rw (c .before .before .o .given .1) at (begun .relation-of .ensures) in
+    let found = rw (c .before .before .relation .given .1) at (begun .relation-of .ensures) in
     (between-both between .first, (between .laid, (found .1 .0, empty-held (between .left))))
 
 right-side-requires : tie.Need-right-side-requires
@@ -23,7 +25,7 @@ right-side-requires c κs =
     let first = c .before .before .before .before .before .before in
     let begun = first .before .before .before .before .before in
     let between = begun .before .before .before .pre .0 in
-    let found = rw (first .before .before .before .o .given .1) at (begun .relation-of .ensures) in
+    let found = rw (first .before .before .before .relation .given .1) at (begun .relation-of .ensures) in
     let m = first .from-term in (
       in-both (m .kept .1 .0 ∙ between .size) .second,
       (between .laid, (found .1 .1, right-empty between (m .ensures .0))),
@@ -31,10 +33,10 @@ right-side-requires c κs =
 
 clear-in-requires : tie.Need-clear-in-requires
 clear-in-requires c κs =
-    let second = c .before .before .before .before .before .before in
+    let second = c .before .before .before .before .before in
     let first = second .before .before .before .before .before .before .before in
     let m = first .from-term in
-    let left = rw (second .before .before .before .s .given .1) at (m .ensures .1) in
+    let left = rw (second .before .before .before .first .given .1) at (m .ensures .1) in
     let few = kept-small (answer-kept (left .held) (left .is .1) .kept) in
     let size = first .before .before .before .before .before .before .before .before .pre .0 .size in
     (in-both (second .right-side .kept .1 .0 ∙ m .kept .1 .0 ∙ size) .first, omega arith)
@@ -42,17 +44,20 @@ clear-in-requires c κs =
 returns : tie.Need-returns
 returns c =
     let begun = c .before .before .before in
-    no-relation (begun .before .before .before .pre .0) _ _ _
-    (rw (c .before .c .given .1) at (begun .relation-of .ensures))
+    let told = c .before .enum-told .given .1 in
+    rw (c .relation-refusal .ensures ∙ ap relationRefusal told)
+    (no-relation (begun .before .before .before .pre .0) _ _ _ (rw told at (begun .relation-of .ensures)))
 
 returns-2 : tie.Need-returns-2
 returns-2 c =
     let first = c .before .before .before .before .before in
     let begun = first .before .before .before .before .before in
     let between = begun .before .before .before .pre .0 in
-    let found = rw (first .before .before .before .o .given .1) at (begun .relation-of .ensures) in
+    let found = rw (first .before .before .before .relation .given .1) at (begun .relation-of .ensures) in
     let m = first .from-term in
-    left-refused between _ _ _ found (m .ensures .0) (rw (c .before .c2 .given .1) at (m .ensures .1))
+    let told = c .before .enum-told2 .given .1 in
+    rw (c .walk-refusal .ensures ∙ ap walkRefusal told)
+    (left-refused between _ _ _ found (m .ensures .0) (rw told at (m .ensures .1)))
 
 returns-3 : tie.Need-returns-3
 returns-3 c =
@@ -60,13 +65,14 @@ returns-3 c =
     let first = second .before .before .before .before .before .before .before in
     let begun = first .before .before .before .before .before in
     let between = begun .before .before .before .pre .0 in
-    let found = rw (first .before .before .before .o .given .1) at (begun .relation-of .ensures) in
+    let found = rw (first .before .before .before .relation .given .1) at (begun .relation-of .ensures) in
     let m = first .from-term in
-    let left = rw (second .before .before .before .s .given .1) at (m .ensures .1) in
+    let left = rw (second .before .before .before .first .given .1) at (m .ensures .1) in
     let n = second .right-side in
-    right-refused between _ _ _ found (m .ensures .0) left (n .ensures .0)
-    (rw (c .before .before .before .before .before .c3 .given .1) at (n .ensures .1))
-    (c .before .before .clear-in .ensures)
+    let told = c .before .before .before .before .before .enum-told3 .given .1 in
+    rw (c .walk-refusal2 .ensures ∙ ap walkRefusal told)
+    (right-refused between _ _ _ found (m .ensures .0) left (n .ensures .0) (rw told at (n .ensures .1))
+    (c .before .before .before .clear-in .ensures))
 
 returns-4 : tie.Need-returns-4
 returns-4 c =
@@ -74,12 +80,12 @@ returns-4 c =
     let first = second .before .before .before .before .before .before .before in
     let begun = first .before .before .before .before .before in
     let between = begun .before .before .before .pre .0 in
-    let found = rw (first .before .before .before .o .given .1) at (begun .relation-of .ensures) in
+    let found = rw (first .before .before .before .relation .given .1) at (begun .relation-of .ensures) in
     let m = first .from-term in
-    let left = rw (second .before .before .before .s .given .1) at (m .ensures .1) in
+    let left = rw (second .before .before .before .first .given .1) at (m .ensures .1) in
     let n = second .right-side in
     both-sides between _ _ _ found (m .ensures .0) left (n .ensures .0)
-    (rw (c .before .t .given .1) at (n .ensures .1))
+    (rw (c .before .second .given .1) at (n .ensures .1))
 
 pub negate-disequality-spec : {M : Type 1} → statement M
 negate-disequality-spec =
@@ -88,16 +94,19 @@ negate-disequality-spec =
     (λ c κs. search needs)
     (λ c. search needs)
     (λ c. search needs)
+    (λ c κs. search needs)
+    returns
     from-term-requires
     (λ c. search needs)
     (λ c. search needs)
-    right-side-requires
-    (λ c. search needs)
-    clear-in-requires
-    (λ c. search needs)
-    returns
+    (λ c κs. search needs)
     (λ c. search needs)
     returns-2
+    right-side-requires
+    (λ c. search needs)
+    (λ c. search needs)
+    clear-in-requires
+    (λ c κs. search needs)
     (λ c. search needs)
     returns-3
     (λ c. search needs)

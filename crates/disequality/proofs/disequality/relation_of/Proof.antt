@@ -17,8 +17,8 @@ returns-3 : tie.Need-returns-3
 returns-3 c =
     let found = c .before .before .before .before in
     two-sides _ _ (found .before .before .before .inner .ensures) (found .before .o .given .1) _
-    (c .before .before .before .args2 .ensures .terms) (found .before .before .before .before .before .pre .0) (search needs)
-    (c .before .argument .ensures) (c .argument2 .ensures)
+    (c .before .before .before .args2 .ensures .terms) (found .before .before .before .before .before .pre .0)
+    (search needs) (c .before .argument .ensures) (c .argument2 .ensures)
 
 pub relation-of-spec : {M : Type 1} → statement M
 relation-of-spec =

@@ -7,7 +7,8 @@ use Rattle.disequality.proofs.disequality.subtracted.Statement.{stateme
 use Rattle.disequality.proofs.disequality.subtracted.Tie as tie
 use Rattle.rules.proofs.StoredEntries.{kept-small}
 use Rattle.linear_comb.proofs.AreaSteps.{answer-kept}
-use Rattle.disequality.proofs.SidesAreas.{in-both, out-of-range, subtracted-left}
+use Rattle.disequality.proofs.SidesAreas.{in-both}
+use Rattle.disequality.proofs.SubtractedSides.{out-of-range, subtracted-left}
 use Rattle.disequality.proofs.ConstantSides.{none-held, none-comb}
 
 bounded-requires : tie.Need-bounded-requires

@@ -1,6 +1,6 @@
 -- `turned` negates the combination in area 1 where the operator is < or <=, and leaves it elsewhere.
 use borrow.Author.Needs.{needs}
-use Rattle.disequality.proofs.SidesAreas.{as-it-is, from-less, from-less-eq}
+use Rattle.disequality.proofs.SubtractedSides.{as-it-is, from-less, from-less-eq}
 use Rattle.disequality.proofs.disequality.turned.Statement.{statement}
 use Rattle.disequality.proofs.disequality.turned.Tie as tie
 

@@ -1,7 +1,7 @@
 -- The loop's invariant is `AllInt` of IntAtoms. The measure is how many entries are left.
 use Prim.Native.Nat.{_-_}
 use borrow.Author.Needs.{needs}
-use Rattle.linear_comb.specs.WorkArea.{areaOf}
+use Rattle.linear_comb.specs.memory.WorkArea.{areaOf}
 use Rattle.disequality.proofs.IntAtoms.{AllInt, all-int-none, all-int-more, all-int-not, all-int-done}
 use Rattle.disequality.proofs.work_area.all_int.Statement.{statement}
 use Rattle.disequality.proofs.work_area.all_int.Tie as tie

@@ -1,7 +1,7 @@
 -- `clear_in` lends area j to `clear`: what comes back stands in its place.
 use mathlib.Core.Path.{ap, _∙_}
 use borrow.Author.Needs.{needs}
-use Rattle.linear_comb.specs.WorkArea.{withArea}
+use Rattle.linear_comb.specs.memory.WorkArea.{withArea}
 use Rattle.linear_comb.proofs.Areas.{lent-back}
 use Rattle.disequality.proofs.work_area.clear_in.Statement.{statement}
 use Rattle.disequality.proofs.work_area.clear_in.Tie as tie

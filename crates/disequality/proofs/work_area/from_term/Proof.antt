@@ -12,9 +12,9 @@ use Rattle.numbers.specs.Rational.{whole, Proper, limit}
 use Rattle.numbers.specs.Bytes.{Bytes}
 use Rattle.terms.specs.Book.{count}
 use Rattle.linear_comb.specs.LinearComb.{fromTerm}
-use Rattle.linear_comb.specs.LinearNodes.{WalkPre, Noted}
-use Rattle.rules.specs.Entries.{Held, entriesOf}
-use Rattle.rules.specs.Parts.{Laid}
+use Rattle.linear_comb.specs.memory.LinearNodes.{noteWords, KeysNoted, WalkPre}
+use Rattle.rules.specs.memory.Entries.{Held, entriesOf}
+use Rattle.rules.specs.memory.Parts.{Laid}
 use Rattle.linear_comb.proofs.Areas.{Back, lent-is, lent-back}
 use Rattle.linear_comb.proofs.WalkSteps.{filled-walks}
 use Rattle.disequality.proofs.work_area.from_term.Statement.{statement}
@@ -25,16 +25,16 @@ small n h = record { numerator = h; positive = record { lt = tt }; denominator =
 
 -- a walk starts with no entries, the constant 0 and the coefficient 1
 starts :
-    {b w : Bytes} {id : ℕ} {ns : List ℕ} → length ns ≡ 32 → Laid b → id < count b → Held b w [] →
+    {b w : Bytes} {id : ℕ} {ns : List ℕ} → length ns ≡ noteWords → Laid b → id < count b → Held b w [] →
     WalkPre b w id (whole (pos 1)) (record { len = 0; constant = whole (pos 0) }) ns
-unfolding entriesOf Noted
+unfolding entriesOf KeysNoted
 starts long laid inside held =
     record {
       laid = laid;
       inside = inside;
       proper = small 1 (lit≤ tt);
       sum = record { kept = record { map = []; held = held; size = refl }; proper = small 0 (lit≤ tt) };
-      atoms = long;
+      atoms = record { size = long; keys = tt };
     }
 
 add-term-requires : tie.Need-add-term-requires

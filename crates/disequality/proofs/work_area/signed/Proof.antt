@@ -2,7 +2,7 @@
 use mathlib.Core.Path.{sym, subst}
 use borrow.Author.Needs.{needs}
 use Rattle.numbers.specs.Rational.{Makes}
-use Rattle.linear_comb.specs.WorkArea.{signedQ}
+use Rattle.linear_comb.specs.memory.WorkArea.{signedQ}
 use Rattle.disequality.proofs.work_area.signed.Statement.{statement}
 use Rattle.disequality.proofs.work_area.signed.Tie as tie
 

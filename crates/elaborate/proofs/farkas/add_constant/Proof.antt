@@ -21,16 +21,16 @@ add-t23 c =
 returns-2 : tie.Need-returns-2
 returns-2 c o =
     let tested = c .before .before .before .before .before .before .before .before in
-    let counted = tested .before .before in
-    constant-written _ o _ _ _ (counted .before .before .if1 .left) _ (counted .count .ensures)
+    let counted = tested .before .before .before in
+    constant-written _ o _ _ _ (counted .before .if1 .left) _ (counted .count .ensures)
     (tested .before .goes-in .ensures)
     (tested .before .before .before .before .before .before .before .pre) (tested .if2 .taken)
     (c .before .before .before .before .before .before .put-real .ensures) (c .before .before .paste .ensures)
 
 returns-3 : tie.Need-returns-3
 returns-3 c o =
-    let counted = c .before .before in
-    constant-unwritten _ o _ _ _ (counted .before .before .if1 .left) _ (counted .count .ensures)
+    let counted = c .before .before .before in
+    constant-unwritten _ o _ _ _ (counted .before .if1 .left) _ (counted .count .ensures)
     (c .before .goes-in .ensures) (c .if2 .left)
 
 pub add-constant-spec : {M : Type 1} → statement M

@@ -13,12 +13,12 @@ use Rattle.elaborate.proofs.farkas.bounded_farkas.Statement.{statement}
 use Rattle.elaborate.proofs.farkas.bounded_farkas.Tie as tie
 
 abbrev Inv-loop : tie.InvT-loop
-Inv-loop book work₀ literals args visits limit outrun₀ outtail₀ code p₀ done₀ written₀ work outrun outtail p done written =
+Inv-loop book work₀ literals args visits limit outrun₀ outtail₀ p₀ done₀ written₀ work outrun outtail p done written =
     TracedSoFar (record { book = book; literals = literals; args = args; limit = limit; work = work₀ }) visits outrun₀
     outtail₀ written₀ work p done outrun outtail written
 
 abbrev μ-loop : tie.MeasureT-loop
-μ-loop book work₀ literals args visits limit outrun₀ outtail₀ code p₀ done₀ written₀ work outrun outtail p done written =
+μ-loop book work₀ literals args visits limit outrun₀ outtail₀ p₀ done₀ written₀ work outrun outtail p done written =
     length literals / 4 - done
 
 abbrev start : tie.After-read-args Inv-loop μ-loop → tie.Start Inv-loop μ-loop
@@ -37,14 +37,15 @@ given c =
 
 returns : tie.Need-returns Inv-loop μ-loop
 returns c =
-    traced-unread (given (c .before)) _ _ (c .before .read-args .ensures) (c .if1 .taken) _ _ _
+    let read = c .before .before .before in
+    traced-unread (given read) _ (read .read-args .ensures) (c .before .code .given .1) _ _ _
 
 loop-holds : tie.Need-loop-holds Inv-loop μ-loop
 loop-holds c =
-    let read = c .before .before in
+    let read = c .before .before .before in
     let pre = start read .pre in
-    traced-begin (given read) _ _ (read .read-args .ensures) (c .before .if1 .left) (pre .0) (pre .1 .0) (pre .1 .1) _
-    (c .whole .ensures) _ _ _
+    traced-begin (given read) _ (read .read-args .ensures) (c .before .enum-told .given .1) (pre .0) (pre .1 .0)
+    (pre .1 .1) _ (c .whole .ensures) _ _ _
 
 rest-requires : tie.Need-rest-requires Inv-loop μ-loop
 rest-requires c κs = part-few (c .before .loop .inv .far)
@@ -62,7 +63,7 @@ turn c = c .before .before .before .before
 
 rested :
     (c : tie.After-fold-literals Inv-loop μ-loop) →
-    Rested (given (turn c .before .before .before)) (turn c .loop .work) (turn c .loop .p) (turn c .loop .done)
+    Rested (given (turn c .before .before .before .before)) (turn c .loop .work) (turn c .loop .p) (turn c .loop .done)
     (c .fold-literals .last .1 .0) (c .fold-literals .result)
 rested c =
     let rests = c .before in
@@ -149,7 +150,7 @@ same-length-6 c = turn (c .before .before .before .before .before) .loop .inv .w
 returns-3 : tie.Need-returns-3 Inv-loop μ-loop
 returns-3 c =
     let folded = c .before .before .before .before .before in
-    traced-refused (turn folded .loop .inv) (rested folded) _ (c .before .c .given .1)
+    traced-refused (turn folded .loop .inv) (rested folded) _ (c .before .code2 .given .1)
 
 pub bounded-farkas-spec : {M : Type 1} → statement M
 bounded-farkas-spec =
@@ -158,7 +159,9 @@ bounded-farkas-spec =
     Inv-loop
     μ-loop
     (λ c κs. search needs)
+    (λ c. search needs)
     returns
+    (λ c. search needs)
     (λ c κs. search needs)
     loop-holds
     rest-requires

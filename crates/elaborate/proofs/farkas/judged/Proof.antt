@@ -1,6 +1,6 @@
 use mathlib.Core.Path.{ap, sym}
 use borrow.Author.Needs.{needs}
-use Rattle.elaborate.specs.OutAreas.{judgedAs}
+use Rattle.elaborate.specs.memory.OutAreas.{judgedAs}
 use Rattle.elaborate.proofs.farkas.judged.Statement.{statement}
 use Rattle.elaborate.proofs.farkas.judged.Tie as tie
 

@@ -15,18 +15,18 @@ returns c =
     let numbered = read .before in
     let value = c .before .q .given .1 in (
       λ n qs all.
-          argument-of _ _ _ _ (numbered .before .if1 .taken) (numbered .number-in .ensures) _
-          (read .as-fraction .ensures) n qs all _ value,
-      read .as-fraction .ensures .proper _ value,
+          argument-of _ _ _ _ (numbered .before .if1 .taken) (numbered .number-in .ensures)
+          (read .as-fraction-err .ensures) n qs all value,
+      read .as-fraction-err .ensures 0 .proper _ value,
     )
 
 returns-2 : tie.Need-returns-2
 returns-2 c =
-    let read = c .before in
+    let read = c .before .before in
     let numbered = read .before in (
       λ n qs all.
-          argument-none _ _ _ _ (numbered .before .if1 .taken) (numbered .number-in .ensures) _
-          (read .as-fraction .ensures) n qs all (c .match .keys2),
+          argument-none _ _ _ _ (numbered .before .if1 .taken) (numbered .number-in .ensures)
+          (read .as-fraction-err .ensures) n qs all (c .enum-told .given .1),
       tt,
     )
 
@@ -36,4 +36,11 @@ returns-3 c = (argument-beyond _ _ _ (c .if1 .left), tt)
 pub argument-at-spec : {M : Type 1} → statement M
 argument-at-spec =
     tie.close
-    (tie.spec number-in-requires (λ c κs. search needs) (λ c. search needs) returns returns-2 returns-3)
+    (tie.spec
+    number-in-requires
+    (λ c κs. search needs)
+    (λ c. search needs)
+    returns
+    (λ c. search needs)
+    returns-2
+    returns-3)

@@ -5,7 +5,10 @@ use Rattle.linear_arithmetic.proofs.linear_arithmetic.contradiction.Sta
 use Rattle.linear_arithmetic.proofs.linear_arithmetic.contradiction.Tie as tie
 
 returns : tie.Need-returns
-returns c =
+returns c = (contradicts-left _ (c .if1 .taken), c .before .before .before .clear-in .ensures)
+
+returns-2 : tie.Need-returns-2
+returns-2 c =
     let asked = c .before in
     let cleared = asked .before .before .before .before in
     let start = cleared .before .before .before .before .before in (
@@ -13,26 +16,23 @@ returns c =
       cleared .clear-in .ensures,
     )
 
-returns-2 : tie.Need-returns-2
-returns-2 c =
+returns-3 : tie.Need-returns-3
+returns-3 c =
     let asked = c .before in
     let cleared = asked .before .before .before .before in
     let start = cleared .before .before .before .before .before in (
-      contradicts-empty (start .args .p) _ (asked .is-true-at-zero .ensures) (c .if2 .left) (search needs),
+      contradicts-empty (start .args .p) _ (asked .is-true-at-zero .ensures) (c .if2 .left) (asked .before .if1 .left),
       cleared .clear-in .ensures,
     )
-
-returns-3 : tie.Need-returns-3
-returns-3 c = (contradicts-left _ (c .if1 .left), c .before .before .before .clear-in .ensures)
 
 pub contradiction-spec : {M : Type 1} → statement M
 contradiction-spec =
     tie.close
     (tie.spec
     (λ c κs. search needs)
-    (λ c κs. search needs)
     (λ c. search needs)
     returns
+    (λ c κs. search needs)
     (λ c. search needs)
     returns-2
     (λ c. search needs)

@@ -72,19 +72,19 @@ taken c =
 returns : tie.Need-returns Inv-loop μ-loop
 returns c =
     let made = c .before .before .before .before .before in
-    step-refused (turn made .loop .inv) (taken made) _ (c .before .c .given .1)
+    step-refused (turn made .loop .inv) (taken made) (c .before .enum-told .given .1) (c .processed-refusal .ensures)
 
 returns-2 : tie.Need-returns-2 Inv-loop μ-loop
 returns-2 c =
     let next = c .before .before .before .before in
     let made = next .before .before .before .before in
-    step-inferred (turn made .loop .inv) (taken made) _ _ (next .next .given .1) _ (c .before .found .given .1)
+    step-inferred (turn made .loop .inv) (taken made) _ _ (next .processed .given .1) _ (c .before .found .given .1)
 
 loop-again : tie.Need-loop-again Inv-loop μ-loop
 loop-again c =
     let next = c .before .before .before in
     let made = next .before .before .before .before in
-    step-again (turn made .loop .inv) (taken made) _ _ (next .next .given .1) (c .enum-told .given .1)
+    step-again (turn made .loop .inv) (taken made) _ _ (next .processed .given .1) (c .enum-told2 .given .1)
 
 returns-3 : tie.Need-returns-3 Inv-loop μ-loop
 returns-3 c = so-far-end (c .before .loop .inv) (c .loop-test .left)
@@ -92,14 +92,9 @@ returns-3 c = so-far-end (c .before .loop .inv) (c .loop-test .left)
 next-fits : (c : tie.In-loop Inv-loop μ-loop) → Fits w64 (c .before .loop .k + 1)
 next-fits c = search needs
 
-add-t21 : tie.Need-add-t21 Inv-loop μ-loop
-add-t21 c =
-    let made = c .before .before .before .before .before .before .before .before in
-    next-fits (made .before .before .before .before)
-
 add-k : tie.Need-add-k Inv-loop μ-loop
 add-k c =
-    let made = c .before .before .before .before .before .before .before in
+    let made = c .before .before .before .before .before in
     next-fits (made .before .before .before .before)
 
 same-length : tie.Need-same-length Inv-loop μ-loop
@@ -126,15 +121,15 @@ fold-literals-spec =
     (λ c κs. search needs)
     process-disequality-requires
     (λ c. search needs)
+    (λ c. search needs)
+    (λ c κs. search needs)
     same-length
     returns
+    add-k
     (λ c. search needs)
-    (λ c. search needs)
-    add-t21
     same-length-2
     returns-2
     (λ c. search needs)
-    add-k
     (λ c. search needs)
     loop-again
     same-length-3

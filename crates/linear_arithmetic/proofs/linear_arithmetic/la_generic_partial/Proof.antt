@@ -15,13 +15,13 @@ use Rattle.linear_arithmetic.proofs.linear_arithmetic.la_generic_partia
 use Rattle.linear_arithmetic.proofs.linear_arithmetic.la_generic_partial.Tie as tie
 
 abbrev Inv-loop : tie.InvT-loop
-Inv-loop book work₀ literals args visits limit code p₀ done₀ work p done =
+Inv-loop book work₀ literals args visits limit p₀ done₀ work p done =
     (t : List Rational)
     × PartSoFar (record { book = book; literals = literals; args = args; limit = limit; work = work₀ }) visits t work p
     done
 
 abbrev μ-loop : tie.MeasureT-loop
-μ-loop book work₀ literals args visits limit code p₀ done₀ work p done = length literals / 4 - done
+μ-loop book work₀ literals args visits limit p₀ done₀ work p done = length literals / 4 - done
 
 abbrev given : tie.After-read-args Inv-loop μ-loop → Given
 given c =
@@ -35,13 +35,15 @@ given c =
     }
 
 returns : tie.Need-returns Inv-loop μ-loop
-returns c = part-unread (given (c .before)) _ _ (c .before .read-args .ensures) (c .if1 .taken)
+returns c =
+    let read = c .before .before .before in
+    part-unread (given read) _ (read .read-args .ensures) (c .before .code .given .1)
 
 loop-holds : tie.Need-loop-holds Inv-loop μ-loop
 loop-holds c =
-    let read = c .before .before in
+    let read = c .before .before .before in
     let start = read .before .before .before .before .before in
-    let numbers = sym (read .read-args .ensures (start .args .limit)) ∙ c .before .if1 .left in
+    let numbers = sym (c .before .enum-told .given .1) ∙ read .read-args .ensures (start .args .limit) in
     (_, part-begin (given read) _ numbers (start .pre .0) (start .pre .1 .0) (start .pre .1 .1) _ (c .whole .ensures))
 
 rest-requires : tie.Need-rest-requires Inv-loop μ-loop
@@ -60,7 +62,7 @@ turn c = c .before .before .before .before
 
 rested :
     (c : tie.After-fold-literals Inv-loop μ-loop) →
-    Rested (given (turn c .before .before .before)) (turn c .loop .work) (turn c .loop .p) (turn c .loop .done)
+    Rested (given (turn c .before .before .before .before)) (turn c .loop .work) (turn c .loop .p) (turn c .loop .done)
     (c .fold-literals .last .1 .0) (c .fold-literals .result)
 rested c =
     let rests = c .before in
@@ -117,7 +119,7 @@ same-length-2 c =
 returns-3 : tie.Need-returns-3 Inv-loop μ-loop
 returns-3 c =
     let folded = c .before .before .before .before .before in
-    part-refused (turn folded .loop .inv .1) (rested folded) _ (c .before .c .given .1)
+    part-refused (turn folded .loop .inv .1) (rested folded) _ (c .before .code2 .given .1)
 
 pub la-generic-partial-spec : {M : Type 1} → statement M
 la-generic-partial-spec =
@@ -126,7 +128,9 @@ la-generic-partial-spec =
     Inv-loop
     μ-loop
     (λ c κs. search needs)
+    (λ c. search needs)
     returns
+    (λ c. search needs)
     (λ c κs. search needs)
     loop-holds
     rest-requires

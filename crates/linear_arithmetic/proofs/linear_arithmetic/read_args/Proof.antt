@@ -1,12 +1,11 @@
--- The invariant is `ReadSoFar` of RunParts: the arguments before k are numbers, so that the whole is read as what is
+-- The invariant is `ReadSoFar` of ReadParts: the arguments before k are numbers, so that the whole is read as what is
 -- left. The measure is how many arguments are left.
 use Prim.Native.Nat.{_-_, _/_}
 use native.Mathlib.Omega.{arith}
 use borrow.Author.Needs.{needs}
 use lib.ListN.{length}
 use Rattle.rules.proofs.RunParts.{length-numbersIn}
-use Rattle.linear_arithmetic.proofs.ReadParts.{ReadSoFar, read-begin, read-again, read-nothing, read-outside}
-use Rattle.linear_arithmetic.proofs.ReadParts.{read-end}
+use Rattle.linear_arithmetic.proofs.ReadParts.{ReadSoFar, read-begin, read-again, read-refused, read-end}
 use Rattle.linear_arithmetic.proofs.linear_arithmetic.read_args.Statement.{statement}
 use Rattle.linear_arithmetic.proofs.linear_arithmetic.read_args.Tie as tie
 
@@ -19,29 +18,22 @@ abbrev μ-loop : tie.MeasureT-loop
 number-in-requires : tie.Need-number-in-requires Inv-loop μ-loop
 number-in-requires c κs = omega (arith, length-numbersIn (c .before .before .before .before .args .args .now))
 
+returns : tie.Need-returns Inv-loop μ-loop
+returns c =
+    let read = c .before .before .before in
+    let inside = read .before .before in
+    read-refused _ _ _ _ (search needs) (read .before .number-in .ensures) (read .as-fraction-err .ensures)
+    (inside .before .loop .inv) (c .before .code .given .1)
+
 loop-again : tie.Need-loop-again Inv-loop μ-loop
 loop-again c =
     let read = c .before .before in
     let inside = read .before .before in
-    read-again _ _ _ _ (inside .loop-test .taken) (read .before .number-in .ensures) _ (read .as-fraction .ensures)
-    (inside .before .loop .inv) _ (c .enum-told .given .1)
-
-returns : tie.Need-returns Inv-loop μ-loop
-returns c =
-    let read = c .before .before in
-    let inside = read .before .before in
-    read-nothing _ _ _ _ (inside .loop-test .taken) (read .before .number-in .ensures) _ (read .as-fraction .ensures)
-    (inside .before .loop .inv) (c .enum-told2 .given .1)
+    read-again _ _ _ _ (search needs) (read .before .number-in .ensures) (read .as-fraction-err .ensures)
+    (inside .before .loop .inv) (c .enum-told .given .1)
 
 returns-2 : tie.Need-returns-2 Inv-loop μ-loop
-returns-2 c =
-    let read = c .before .before in
-    let inside = read .before .before in
-    read-outside _ _ _ _ (inside .loop-test .taken) (read .before .number-in .ensures) _ (read .as-fraction .ensures)
-    (inside .before .loop .inv) (c .enum-told3 .given .1)
-
-returns-3 : tie.Need-returns-3 Inv-loop μ-loop
-returns-3 c = read-end _ _ _ (c .before .loop .inv) (c .loop-test .left)
+returns-2 c = read-end _ _ _ (c .before .loop .inv) (c .loop-test .left)
 
 pub read-args-spec : {M : Type 1} → statement M
 read-args-spec =
@@ -53,11 +45,9 @@ read-args-spec =
     number-in-requires
     (λ c κs. search needs)
     (λ c. search needs)
+    returns
+    (λ c. search needs)
     (λ c. search needs)
     (λ c. search needs)
     loop-again
-    (λ c. search needs)
-    returns
-    (λ c. search needs)
-    returns-2
-    returns-3)
+    returns-2)

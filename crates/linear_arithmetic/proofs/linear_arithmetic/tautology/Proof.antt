@@ -11,18 +11,19 @@ disequality-of-requires c κs =
     let start = c .before .before .before in
     (ready-between (start .pre .0), start .pre .1)
 
+returns : tie.Need-returns
+returns c =
+    let made = c .before .before .before .before .before in
+    let start = made .before .before .before .before in
+    tautology-refused _ _ _ (start .pre .0) _ (made .disequality-of .ensures) (c .before .enum-told .given .1)
+    (c .literal-refusal .ensures)
+
 clear-in-requires : tie.Need-clear-in-requires
 clear-in-requires c κs =
     let told = c .before .before .before in
     let made = told .before .before .before .before in
     let start = made .before .before .before .before in
-    tautology-clear _ _ _ (start .pre .0) _ (made .disequality-of .ensures) _ (told .d .given .1)
-
-returns : tie.Need-returns
-returns c =
-    let made = c .before .before .before .before .before in
-    let start = made .before .before .before .before in
-    tautology-refused _ _ _ (start .pre .0) _ (made .disequality-of .ensures) _ (c .before .c .given .1)
+    tautology-clear _ _ _ (start .pre .0) _ (made .disequality-of .ensures) _ (told .literal .given .1)
 
 returns-2 : tie.Need-returns-2
 returns-2 c =
@@ -31,7 +32,7 @@ returns-2 c =
     let told = clear .before .before .before .before in
     let made = told .before .before .before .before in
     let start = made .before .before .before .before in
-    tautology-holds _ _ _ (start .pre .0) _ (made .disequality-of .ensures) _ (told .d .given .1)
+    tautology-holds _ _ _ (start .pre .0) _ (made .disequality-of .ensures) _ (told .literal .given .1)
     _ (asked .is-tautology .ensures) _ (clear .clear-in .ensures) (c .if1 .taken)
 
 returns-3 : tie.Need-returns-3
@@ -41,7 +42,7 @@ returns-3 c =
     let told = clear .before .before .before .before in
     let made = told .before .before .before .before in
     let start = made .before .before .before .before in
-    tautology-fails _ _ _ (start .pre .0) _ (made .disequality-of .ensures) _ (told .d .given .1)
+    tautology-fails _ _ _ (start .pre .0) _ (made .disequality-of .ensures) _ (told .literal .given .1)
     _ (asked .is-tautology .ensures) _ (clear .clear-in .ensures) (c .if1 .left)
 
 pub tautology-spec : {M : Type 1} → statement M
@@ -51,10 +52,11 @@ tautology-spec =
     disequality-of-requires
     (λ c. search needs)
     (λ c. search needs)
-    clear-in-requires
     (λ c κs. search needs)
     (λ c. search needs)
     returns
+    clear-in-requires
+    (λ c κs. search needs)
     (λ c. search needs)
     returns-2
     (λ c. search needs)

@@ -9,21 +9,24 @@ use Rattle.linear_arithmetic.proofs.linear_shapes.assert_less_than.Tie 
 
 returns : tie.Need-returns
 unfolding assertLessThan
-returns c = no-left lessQ expectedLessThan _ _ (c .before .as-signed-number .ensures) (c .match .keys2)
+returns c =
+    no-left lessQ expectedLessThan _ _ (c .before .before .before .as-signed-number-err .ensures)
+    (c .before .enum-told .given .1) (c .expected-refusal .ensures)
 
 returns-2 : tie.Need-returns-2
 unfolding assertLessThan
 returns-2 c =
-    let left = c .before .before .before in
-    no-right lessQ expectedLessThan _ _ (left .before .before .as-signed-number .ensures) (left .p .given .1)
-    (c .before .as-signed-number2 .ensures) (c .match2 .keys2)
+    let left = c .before .before .before .before .before in
+    no-right lessQ expectedLessThan _ _ (left .before .before .as-signed-number-err .ensures) (left .left .given .1)
+    (c .before .before .before .as-signed-number-err2 .ensures) (c .before .enum-told2 .given .1)
+    (c .expected-refusal2 .ensures)
 
 less-requires : tie.Need-less-requires
 less-requires c κs =
     let right = c .before in
     let left = right .before .before .before .before in (
-      left .before .before .as-signed-number .ensures .proper _ (left .p .given .1),
-      right .before .before .as-signed-number2 .ensures .proper _ (right .q .given .1),
+      left .before .before .as-signed-number-err .ensures .proper _ (left .left .given .1),
+      right .before .before .as-signed-number-err2 .ensures .proper _ (right .right .given .1),
     )
 
 returns-3 : tie.Need-returns-3
@@ -31,8 +34,8 @@ unfolding assertLessThan
 returns-3 c =
     let right = c .before .before .before in
     let left = right .before .before .before .before in
-    compared lessQ expectedLessThan _ _ (left .before .before .as-signed-number .ensures) (left .p .given .1)
-    (right .before .before .as-signed-number2 .ensures) (right .q .given .1)
+    compared lessQ expectedLessThan _ _ (left .before .before .as-signed-number-err .ensures) (left .left .given .1)
+    (right .before .before .as-signed-number-err2 .ensures) (right .right .given .1)
     (c .before .less .ensures) (c .if1 .taken)
 
 returns-4 : tie.Need-returns-4
@@ -40,8 +43,8 @@ unfolding assertLessThan
 returns-4 c =
     let right = c .before .before .before in
     let left = right .before .before .before .before in
-    not-compared lessQ expectedLessThan _ _ (left .before .before .as-signed-number .ensures) (left .p .given .1)
-    (right .before .before .as-signed-number2 .ensures) (right .q .given .1)
+    not-compared lessQ expectedLessThan _ _ (left .before .before .as-signed-number-err .ensures) (left .left .given .1)
+    (right .before .before .as-signed-number-err2 .ensures) (right .right .given .1)
     (c .before .less .ensures) (c .if1 .left)
 
 pub assert-less-than-spec : {M : Type 1} → statement M
@@ -50,9 +53,13 @@ assert-less-than-spec =
     (tie.spec
     (λ c κs. search needs)
     (λ c. search needs)
+    (λ c. search needs)
+    (λ c κs. search needs)
     returns
     (λ c κs. search needs)
     (λ c. search needs)
+    (λ c. search needs)
+    (λ c κs. search needs)
     returns-2
     less-requires
     returns-3

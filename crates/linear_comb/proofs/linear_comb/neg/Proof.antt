@@ -3,7 +3,7 @@
 use Prim.Native.Nat.{_-_}
 use mathlib.Core.Path.{refl}
 use borrow.Author.Needs.{needs}
-use Rattle.rules.specs.Entries.{entriesOf}
+use Rattle.rules.specs.memory.Entries.{entriesOf}
 use Rattle.linear_comb.proofs.EntryLoops.{Loop, begin, put, over}
 use Rattle.linear_comb.proofs.CombinationLoops.{Negates, negates-next, negates-all}
 use Rattle.linear_comb.proofs.linear_comb.neg.Statement.{statement}

@@ -3,7 +3,7 @@
 use Prim.Native.Nat.{_-_}
 use mathlib.Core.Path.{sym, _∙_}
 use borrow.Author.Needs.{needs}
-use Rattle.rules.specs.Entries.{entriesOf}
+use Rattle.rules.specs.memory.Entries.{entriesOf}
 use Rattle.linear_comb.proofs.EntryLoops.{Loop, begin, at, put, over, cleared}
 use Rattle.linear_comb.proofs.CombinationLoops.{Scales, scales-first, scales-next, scales-out, scales-all}
 use Rattle.linear_comb.proofs.linear_comb.scale_all.Statement.{statement}

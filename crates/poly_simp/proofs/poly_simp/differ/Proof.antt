@@ -1,9 +1,9 @@
--- The two polynomials are reduced and subtracted, and the difference is emptied: the laws are in PolynomialSides.
+-- The two polynomials are reduced and subtracted, and the difference is emptied: the laws are in PolynomialDifferences.
 use mathlib.Core.Path.{sym, _∙_}
 use native.Mathlib.Omega.{arith}
 use borrow.Author.Needs.{needs}
-use Rattle.poly_simp.proofs.PolynomialSides.{two-floors, first-few, second-few, reduced-ready, clear-ready}
-use Rattle.poly_simp.proofs.PolynomialSides.{differ-refused, differ-equal, differ-constant, differ-entries}
+use Rattle.poly_simp.proofs.PolynomialDifferences.{two-areas, first-few, second-few, reduced-ready, clear-ready}
+use Rattle.poly_simp.proofs.PolynomialDifferences.{differ-refused, differ-equal, differ-constant, differ-entries}
 use Rattle.poly_simp.proofs.poly_simp.differ.Statement.{statement}
 use Rattle.poly_simp.proofs.poly_simp.differ.Tie as tie
 
@@ -11,16 +11,16 @@ reduced-requires : tie.Need-reduced-requires
 reduced-requires c κs =
     let pre = c .before .before .pre in
     let two = pre .1 .1 .1 .1 in
-    let floors = two-floors (two .0) in
-    (omega (arith, floors), (first-few (two .0) (two .1 .0), (two .1 .0 .proper, pre .0)))
+    let areas = two-areas (two .0) in
+    (omega (arith, areas), (first-few (two .0) (two .1 .0), (two .1 .0 .proper, pre .0)))
 
 reduced-requires-2 : tie.Need-reduced-requires-2
 reduced-requires-2 c κs =
     let first = c .before .before .before in
     let pre = first .before .before .before .pre in
     let two = pre .1 .1 .1 .1 in
-    let floors = two-floors (two .0) in
-    (omega (arith, floors, first .reduced .kept .0), (second-few (two .0) (two .1 .1), (two .1 .1 .proper, pre .0)))
+    let areas = two-areas (two .0) in
+    (omega (arith, areas, first .reduced .kept .0), (second-few (two .0) (two .1 .1), (two .1 .1 .proper, pre .0)))
 
 -- ---- the places before the difference is made
 
@@ -33,7 +33,7 @@ start second = at-first second .before .before .before
 abbrev at-second : tie.After-sub → tie.After-reduced2
 at-second made = made .before .before .before .before
 
-abbrev at-sub : tie.After-d → tie.After-sub
+abbrev at-sub : tie.After-difference → tie.After-sub
 at-sub told = told .before .before .before .before
 
 sub-requires : tie.Need-sub-requires
@@ -52,27 +52,29 @@ clear-at-requires c κs =
     let s = start second in
     let two = s .pre .1 .1 .1 .1 in
     clear-ready (s .args .p) (s .args .q) _ _ (s .args .sort) (at-first second .reduced .ensures)
-    (second .reduced2 .ensures) (two .0) (two .1 .0) (two .1 .1) (made .sub .ensures) (told .d .given .1)
+    (second .reduced2 .ensures) (two .0) (two .1 .0) (two .1 .1) (made .sub .ensures) (told .difference .given .1)
 
 -- ---- the verdicts
 
-returns-2 : tie.Need-returns-2
-returns-2 c =
+returns : tie.Need-returns
+returns c =
     let made = c .before .before .before .before .before in
     let second = at-second made in
     let s = start second in
     differ-refused (s .args .p) (s .args .q) _ _ (s .args .sort) (at-first second .reduced .ensures)
-    (second .reduced2 .ensures) (made .sub .ensures) (s .args .visits) (c .before .c .given .1)
+    (second .reduced2 .ensures) (made .sub .ensures) (s .args .visits) (c .before .enum-told .given .1)
+    (c .combined-refusal .ensures)
 
-returns : tie.Need-returns
-returns c =
+returns-2 : tie.Need-returns-2
+returns-2 c =
     let cleared = c .before .before .before .before .before in
     let told = cleared .before .before .before .before in
     let made = at-sub told in
     let second = at-second made in
     let s = start second in
     differ-equal (s .args .p) (s .args .q) _ _ (s .args .sort) (at-first second .reduced .ensures)
-    (second .reduced2 .ensures) (made .sub .ensures) (s .args .visits) (told .d .given .1) (cleared .clear-at .ensures)
+    (second .reduced2 .ensures) (made .sub .ensures) (s .args .visits) (told .difference .given .1)
+    (cleared .clear-at .ensures)
     (search needs) (sym (c .before .is-zero .ensures) ∙ c .if2 .taken)
 
 returns-3 : tie.Need-returns-3
@@ -83,7 +85,8 @@ returns-3 c =
     let second = at-second made in
     let s = start second in
     differ-constant (s .args .p) (s .args .q) _ _ (s .args .sort) (at-first second .reduced .ensures)
-    (second .reduced2 .ensures) (made .sub .ensures) (s .args .visits) (told .d .given .1) (cleared .clear-at .ensures)
+    (second .reduced2 .ensures) (made .sub .ensures) (s .args .visits) (told .difference .given .1)
+    (cleared .clear-at .ensures)
     (search needs) (sym (c .before .is-zero .ensures) ∙ c .if2 .left)
 
 returns-4 : tie.Need-returns-4
@@ -94,7 +97,8 @@ returns-4 c =
     let second = at-second made in
     let s = start second in
     differ-entries (s .args .p) (s .args .q) _ _ (s .args .sort) (at-first second .reduced .ensures)
-    (second .reduced2 .ensures) (made .sub .ensures) (s .args .visits) (told .d .given .1) (cleared .clear-at .ensures)
+    (second .reduced2 .ensures) (made .sub .ensures) (s .args .visits) (told .difference .given .1)
+    (cleared .clear-at .ensures)
     (search needs)
 
 pub differ-spec : {M : Type 1} → statement M
@@ -106,10 +110,11 @@ differ-spec =
     sub-requires
     (λ c. search needs)
     (λ c. search needs)
-    clear-at-requires
     (λ c κs. search needs)
     (λ c. search needs)
     returns
+    clear-at-requires
+    (λ c κs. search needs)
     (λ c. search needs)
     returns-2
     (λ c. search needs)

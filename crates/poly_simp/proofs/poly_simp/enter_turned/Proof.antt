@@ -8,7 +8,8 @@ use Rattle.poly_simp.proofs.poly_simp.enter_turned.Statement.{statement
 use Rattle.poly_simp.proofs.poly_simp.enter_turned.Tie as tie
 
 copy-key-requires : tie.Need-copy-key-requires
-copy-key-requires c κs = (ap length (c .before .floor .ensures) ∙ part-length 1 _ (search needs), (refl, search needs))
+copy-key-requires c κs =
+    (ap length (c .before .area-at .ensures) ∙ part-length 1 _ (search needs), (refl, search needs))
 
 returns : tie.Need-returns
 returns c =
@@ -16,8 +17,8 @@ returns c =
     let read = put .before .before .before .before in
     let copied = read .before .before .before .before in (
       put .insert-at .ensures .0,
-      enters-turned (copied .before .before .floor .ensures) (copied .copy-key .ensures)
-          (read .before .floor2 .ensures) (read .value-at .ensures .is) (put .before .neg .ensures .is)
+      enters-turned (copied .before .before .area-at .ensures) (copied .copy-key .ensures)
+          (read .before .area-at2 .ensures) (read .value-at .ensures .is) (put .before .neg .ensures .is)
           (put .insert-at .ensures .1),
     )
 

@@ -23,16 +23,16 @@ enter-turned-requires c κs =
 
 same-length : tie.Need-same-length Inv-loop μ-loop
 same-length c =
-    let put = c .before .before .before .before .before in
+    let put = c .before .before .before .before in
     put .enter-turned .kept .0 ∙ put .before .before .before .loop .inv .size
 
 returns : tie.Need-returns Inv-loop μ-loop
 returns c =
-    let put = c .before .before .before .before .before in
+    let put = c .before .before .before .before in
     let inside = put .before .before in (
-      tt,
+      put .enter-turned .ensures .0,
       turning-refused (inside .before .loop .inv) (inside .loop-test .taken) (put .enter-turned .kept .0)
-          (put .enter-turned .ensures .0) (put .enter-turned .ensures .1) (c .before .code .given .1),
+          (put .enter-turned .ensures .0) (put .enter-turned .ensures .1) (c .enum-told .given .1),
     )
 
 loop-again : tie.Need-loop-again Inv-loop μ-loop
@@ -40,7 +40,7 @@ loop-again c =
     let put = c .before .before .before .before .before in
     let inside = put .before .before in
     turning-more (inside .before .loop .inv) (inside .loop-test .taken) (put .enter-turned .kept .0)
-    (put .enter-turned .ensures .0) (put .enter-turned .ensures .1) (c .before .longer .given .1)
+    (put .enter-turned .ensures .0) (put .enter-turned .ensures .1) (c .before .answer .given .1)
 
 pub insert-turned-spec : {M : Type 1} → statement M
 insert-turned-spec =

@@ -28,7 +28,7 @@ loop-again c =
     let copied = read .before .before .before in
     let inside = copied .before .before .before in
     let pre = inside .before .before .before .pre in
-    reducing-more (inside .before .loop .inv) (inside .loop-test .taken) (pre .1 .1 .0) (pre .1 .1 .1)
+    reducing-more (inside .before .loop .inv) (inside .loop-test .taken) (pre .1 .0) (pre .1 .1)
     (copied .copy-key .ensures) (read .value-at .ensures .is) (put .before .modulo .ensures .is)
     (put .put-entry .kept .0) (put .put-entry .ensures)
 

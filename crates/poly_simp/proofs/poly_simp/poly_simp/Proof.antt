@@ -1,5 +1,5 @@
--- The conclusion is read as in LinearShapes; its two sides are compared in what stands behind the sorts: the laws are
--- in SimpSteps.
+-- The conclusion is read by laws of ShapeSteps; its two sides are compared in what stands behind the sorts: the laws
+-- are in SimpSteps.
 use mathlib.Core.Path.{refl}
 use Prim.Native.Nat.{_<_}
 use borrow.Author.Needs.{needs}

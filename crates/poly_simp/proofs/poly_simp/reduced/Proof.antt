@@ -3,7 +3,7 @@ use mathlib.Core.Path.{refl, ap, _∙_}
 use lib.ListN.{length}
 use borrow.Author.Needs.{needs}
 use Rattle.poly_simp.proofs.Moduli.{shifted-is, shifted-range, reduced-same, reduced-made}
-use Rattle.polynomial.proofs.TowerAreas.{lent-part}
+use Rattle.polynomial.proofs.StackAreas.{lent-part}
 use Rattle.polynomial.proofs.ProductEntries.{part-length}
 use Rattle.poly_simp.proofs.poly_simp.reduced.Statement.{statement}
 use Rattle.poly_simp.proofs.poly_simp.reduced.Tie as tie
@@ -14,8 +14,8 @@ modulo-all-requires c κs =
     let j = start .args .j in
     let w = start .args .stack .now in
     let pre = start .pre in (
-      ap length (lent-part j w) ∙ part-length j w (pre .0),
-      (pre .1 .0, shifted-range (start .args .sort) (pre .1 .1 .1) refl),
+      (ap length (lent-part j w) ∙ part-length j w (pre .0), pre .1 .0),
+      shifted-range (start .args .sort) (pre .1 .1 .1) refl,
     )
 
 modulo-requires : tie.Need-modulo-requires

@@ -1,6 +1,6 @@
 -- Below `to_real` for numbers, or the term itself.
 use borrow.Author.Needs.{needs}
-use Rattle.poly_simp.proofs.ScaledRelations.{plain-difference, real-difference, number-difference}
+use Rattle.poly_simp.proofs.ScaledPremises.{plain-difference, real-difference, number-difference}
 use Rattle.poly_simp.proofs.polynomial_rel.difference.Statement.{statement}
 use Rattle.poly_simp.proofs.polynomial_rel.difference.Tie as tie
 

@@ -1,7 +1,7 @@
 -- The bytes are the form, and its names are read off the table.
 use borrow.Author.Needs.{needs}
 use Rattle.rules.specs.Shapes.{formOf}
-use Rattle.poly_simp.proofs.ScaledRelations.{not-equated, both-equated}
+use Rattle.poly_simp.proofs.ScaledPremises.{not-equated, both-equated}
 use Rattle.poly_simp.proofs.polynomial_rel.equated.Statement.{statement}
 use Rattle.poly_simp.proofs.polynomial_rel.equated.Tie as tie
 

@@ -1,6 +1,6 @@
--- The relations are 4 to 8.
+-- The relations are those from = to >=.
 use borrow.Author.Needs.{needs}
-use Rattle.poly_simp.proofs.ScaledRelations.{among-relations, below-relations, above-relations}
+use Rattle.poly_simp.proofs.ScaledSides.{among-relations, below-relations, above-relations}
 use Rattle.poly_simp.proofs.polynomial_rel.is_relation.Statement.{statement}
 use Rattle.poly_simp.proofs.polynomial_rel.is_relation.Tie as tie
 

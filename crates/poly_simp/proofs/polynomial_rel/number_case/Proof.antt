@@ -7,13 +7,12 @@ use Rattle.poly_simp.proofs.polynomial_rel.number_case.Tie as tie
 returns : tie.Need-returns
 returns c =
     let signs = c .before .before .before .signs-of in
-    signs-refused _ _ (signs .result) (signs .ensures) (c .before .c .given .1)
+    signs-refused _ _ (signs .result) (signs .ensures) (c .before .enum-told .given .1) (c .signs-refusal .ensures)
 
 returns-2 : tie.Need-returns-2
 returns-2 c =
-    let found = c .before .before in
-    let signs = found .before .before .signs-of in
-    signs-are _ _ (signs .result) (signs .ensures) (found .same .given .1) (c .relation-case .ensures)
+    let signs = c .before .before .before .before .signs-of in
+    signs-are _ _ (signs .result) (signs .ensures) (c .before .before .signs .given .1) (c .relation-case .ensures)
 
 pub number-case-spec : {M : Type 1} → statement M
 number-case-spec =
@@ -24,4 +23,5 @@ number-case-spec =
     (λ c. search needs)
     (λ c κs. search needs)
     returns
+    (λ c κs. search needs)
     returns-2)

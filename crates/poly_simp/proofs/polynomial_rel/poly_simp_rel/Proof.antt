@@ -1,7 +1,6 @@
 -- The number of premises, the two clauses, and then what the functions on terms answer.
 use borrow.Author.Needs.{needs}
-use Rattle.poly_simp.proofs.ScaledRelations.{other-premises, other-conclusion, other-premise, refused-step}
-use Rattle.poly_simp.proofs.ScaledRelations.{accepted-step}
+use Rattle.poly_simp.proofs.ScaledRelations.{other-premises, other-conclusion, other-premise, judged-by}
 use Rattle.poly_simp.proofs.polynomial_rel.poly_simp_rel.Statement.{statement}
 use Rattle.poly_simp.proofs.polynomial_rel.poly_simp_rel.Tie as tie
 
@@ -22,15 +21,9 @@ returns-4 : tie.Need-returns-4
 returns-4 c =
     let t = c .before .before .before in
     let phi = t .before .before .before .before in
-    refused-step _ _ _ _ _ (search needs) (phi .before .before .only-literal .ensures) (phi .phi .given .1)
-    (t .before .before .only-literal2 .ensures) (t .t .given .1) (c .before .scaled-case .ensures) (search needs)
-
-returns-5 : tie.Need-returns-5
-returns-5 c =
-    let t = c .before .before .before in
-    let phi = t .before .before .before .before in
-    accepted-step _ _ _ _ _ (search needs) (phi .before .before .only-literal .ensures) (phi .phi .given .1)
-    (t .before .before .only-literal2 .ensures) (t .t .given .1) (c .before .scaled-case .ensures) (search needs)
+    judged-by _ _ _ _ _ (search needs) (phi .before .before .only-literal .ensures) (phi .phi .given .1)
+    (t .before .before .only-literal2 .ensures) (t .t .given .1) (c .before .scaled-case .ensures)
+    (c .verdict-after .ensures)
 
 pub poly-simp-rel-spec : {M : Type 1} → statement M
 poly-simp-rel-spec =
@@ -46,5 +39,5 @@ poly-simp-rel-spec =
     (λ c. search needs)
     returns-3
     (λ c κs. search needs)
-    returns-4
-    returns-5)
+    (λ c κs. search needs)
+    returns-4)

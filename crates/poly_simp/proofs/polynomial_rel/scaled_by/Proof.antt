@@ -1,6 +1,6 @@
 -- The products are found first, and then the differences in them.
 use borrow.Author.Needs.{needs}
-use Rattle.poly_simp.proofs.ScaledRelations.{not-scaled, no-differences, is-scaled}
+use Rattle.poly_simp.proofs.ScaledPremises.{not-scaled, no-differences, is-scaled}
 use Rattle.poly_simp.proofs.polynomial_rel.scaled_by.Statement.{statement}
 use Rattle.poly_simp.proofs.polynomial_rel.scaled_by.Tie as tie
 

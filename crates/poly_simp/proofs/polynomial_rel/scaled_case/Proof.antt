@@ -12,20 +12,20 @@ returns c =
 
 returns-2 : tie.Need-returns-2
 returns-2 c =
-    let found = c .before .before in
-    let numbers = found .before .before .scaled-by2 in
-    let before = found .before .before .before in
-    let vectors = before .before .before .scaled-by in
-    numbers-case _ _ _ (vectors .result) (vectors .ensures) (before .enum-told .given .1) (numbers .result)
-    (numbers .ensures) (found .p2 .given .1) (c .number-case .ensures)
+    let asked = c .before .before in
+    let vectors = asked .before .before .before .scaled-by in
+    let numbers = asked .scaled-by2 in
+    neither-case _ _ _ (vectors .result) (vectors .ensures) (asked .before .enum-told .given .1) (numbers .result)
+    (numbers .ensures) (c .enum-told2 .given .1)
 
 returns-3 : tie.Need-returns-3
 returns-3 c =
-    let numbers = c .before .before .scaled-by2 in
-    let before = c .before .before .before in
-    let vectors = before .before .before .scaled-by in
-    neither-case _ _ _ (vectors .result) (vectors .ensures) (before .enum-told .given .1) (numbers .result)
-    (numbers .ensures) (c .enum-told2 .given .1)
+    let found = c .before .before in
+    let asked = found .before .before in
+    let vectors = asked .before .before .before .scaled-by in
+    let numbers = asked .scaled-by2 in
+    numbers-case _ _ _ (vectors .result) (vectors .ensures) (asked .before .enum-told .given .1) (numbers .result)
+    (numbers .ensures) (found .p2 .given .1) (c .number-case .ensures)
 
 pub scaled-case-spec : {M : Type 1} → statement M
 scaled-case-spec =
@@ -38,7 +38,7 @@ scaled-case-spec =
     (λ c. search needs)
     (λ c κs. search needs)
     (λ c. search needs)
-    (λ c κs. search needs)
-    returns-2
     (λ c. search needs)
+    returns-2
+    (λ c κs. search needs)
     returns-3)

@@ -1,7 +1,7 @@
 -- The loop's invariant is `Cleared` of rules' EntryBytes; the measure is how many entries are left.
 use Prim.Native.Nat.{_-_}
 use borrow.Author.Needs.{needs}
-use Rattle.polynomial.specs.PolynomialArea.{polynomials}
+use Rattle.polynomial.specs.memory.PolynomialArea.{polynomials}
 use Rattle.rules.proofs.EntryBytes.{Cleared, cleared-none, cleared-more, cleared-all}
 use Rattle.polynomial.proofs.monomials.clear.Statement.{statement}
 use Rattle.polynomial.proofs.monomials.clear.Tie as tie

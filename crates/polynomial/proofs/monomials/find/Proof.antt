@@ -5,11 +5,10 @@ use Prim.Native.Nat.{ℕ, _+_, _*_, _-_}
 use native.Mathlib.Omega.{arith}
 use borrow.Author.Needs.{needs}
 use lib.ListN.{take, drop}
-use Rattle.numbers.specs.Bytes.{Bytes}
-use Rattle.terms.specs.Book.{sameBytes}
+use Rattle.numbers.specs.Bytes.{Bytes, sameBytes}
 use Rattle.rules.proofs.EntrySearch.{Searched, search-none, search-end, search-found, search-more}
 use Rattle.rules.proofs.KeySearch.{keys}
-use Rattle.polynomial.specs.PolynomialArea.{polynomials}
+use Rattle.polynomial.specs.memory.PolynomialArea.{polynomials}
 use Rattle.polynomial.proofs.monomials.find.Statement.{statement}
 use Rattle.polynomial.proofs.monomials.find.Tie as tie
 
@@ -29,13 +28,13 @@ returns : tie.Need-returns Inv-loop μ-loop
 returns c =
     let inside = c .before .before .before in
     let s = inside .before .loop .inv in
-    search-found _ _ _ s (inside .loop-test .taken) (has-key _ s (c .before .same-key .ensures)) (c .if1 .taken)
+    search-found _ _ _ s (inside .loop-test .taken) (has-key _ s (c .before .same-bytes .ensures)) (c .if1 .taken)
 
 loop-again : tie.Need-loop-again Inv-loop μ-loop
 loop-again c =
     let inside = c .before .before .before in
     let s = inside .before .loop .inv in
-    search-more _ _ _ s (inside .loop-test .taken) (has-key _ s (c .before .same-key .ensures)) (c .if1 .left)
+    search-more _ _ _ s (inside .loop-test .taken) (has-key _ s (c .before .same-bytes .ensures)) (c .if1 .left)
 
 pub find-spec : {M : Type 1} → statement M
 find-spec =

@@ -1,10 +1,10 @@
--- The loop's invariant is `Joining` of AtomPlaces; the measure is how many atoms are left.
+-- The loop's invariant is `Joining` of PlacedAtoms; the measure is how many atoms are left.
 use Prim.Native.Nat.{_-_}
 use mathlib.Core.Path.{_∙_}
 use native.Mathlib.Omega.{arith}
 use borrow.Author.Needs.{needs}
 use Rattle.numbers.proofs.LittleEndian.{le-below}
-use Rattle.polynomial.proofs.AtomPlaces.{Joining, join-none, join-more, join-end}
+use Rattle.polynomial.proofs.PlacedAtoms.{Joining, join-none, join-more, join-end}
 use Rattle.polynomial.proofs.monomials.join.Statement.{statement}
 use Rattle.polynomial.proofs.monomials.join.Tie as tie
 

@@ -1,9 +1,10 @@
--- The loop's invariant is `Shifted` of AtomPlaces; the measure is k.
+-- The loop's invariant is `Shifted` of PlacedAtoms; the measure is k.
 use mathlib.Core.Path.{_∙_}
 use lib.ListN.{length-set}
 use lib.Seq.{getD-set-same}
 use borrow.Author.Needs.{needs}
-use Rattle.polynomial.proofs.AtomPlaces.{key-count, Shifted, shifted-none, shifted-more, shifted-done}
+use Rattle.polynomial.proofs.AtomPlaces.{key-count}
+use Rattle.polynomial.proofs.PlacedAtoms.{Shifted, shifted-none, shifted-more, shifted-done}
 use Rattle.polynomial.proofs.monomials.put_atom.Statement.{statement}
 use Rattle.polynomial.proofs.monomials.put_atom.Tie as tie
 

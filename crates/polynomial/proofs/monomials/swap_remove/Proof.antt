@@ -1,7 +1,7 @@
 -- The two writes are those of the definition, with what is read of the last entry before.
 use borrow.Author.Needs.{needs}
-use Rattle.rules.specs.StoredMaps.{swapped}
-use Rattle.polynomial.specs.PolynomialArea.{keyAt}
+use Rattle.rules.specs.memory.StoredMaps.{swapped}
+use Rattle.polynomial.specs.memory.PolynomialArea.{keyAt}
 use Rattle.polynomial.proofs.monomials.swap_remove.Statement.{statement}
 use Rattle.polynomial.proofs.monomials.swap_remove.Tie as tie
 

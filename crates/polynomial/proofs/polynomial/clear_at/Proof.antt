@@ -1,6 +1,6 @@
--- `clear_at` lends area j to `clear`: the tower has an empty area in its place.
+-- `clear_at` lends area j to `clear`: the stack has an empty area in its place.
 use borrow.Author.Needs.{needs}
-use Rattle.polynomial.proofs.TowerAreas.{lent-clear}
+use Rattle.polynomial.proofs.StackAreas.{lent-clear}
 use Rattle.polynomial.proofs.polynomial.clear_at.Statement.{statement}
 use Rattle.polynomial.proofs.polynomial.clear_at.Tie as tie
 

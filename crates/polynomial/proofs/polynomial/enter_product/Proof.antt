@@ -1,10 +1,11 @@
 -- Each return is a lemma of EntryAnswers over what is read of the entry (`read`), the test or the product, and what the
 -- last call ensures.
-use mathlib.Core.Path.{refl, sym, _∙_, ap}
+use mathlib.Core.Path.{_≡_, refl, sym, _∙_, ap}
 use native.Mathlib.Omega.{arith}
 use Prim.Native.Nat.{_+_, _≤_, _<_}
 use lib.ListN.{length, getD}
 use borrow.Author.Needs.{needs}
+use Rattle.polynomial.proofs.KeyCopies.{copied-over}
 use Rattle.polynomial.proofs.ProductEntries.{part-length, key-byte}
 use Rattle.polynomial.proofs.EntryAnswers.{ReadAt, read-at, product-too-long, product-outside, product-entered}
 use Rattle.polynomial.proofs.polynomial.enter_product.Statement.{statement}
@@ -20,7 +21,7 @@ copy-key-requires : tie.Need-copy-key-requires
 copy-key-requires c κs =
     let start = c .before .before .before .before .before in
     let high = start .pre .0 in (
-      ap length (c .before .floor .ensures) ∙ part-length 1 (start .args .stack .now) (omega arith),
+      ap length (c .before .area-at .ensures) ∙ part-length 1 (start .args .stack .now) (omega arith),
       (refl, start .pre .1 .1 .1 .0),
     )
 
@@ -29,7 +30,7 @@ read :
     (c : tie.After-value-at) →
     ReadAt (begun c .args .stack .now) 1 (begun c .args .k) (copied c .copy-key .last .1 .1 .0) (c .value-at .result)
 read c =
-    read-at _ _ _ (copied c .before .before .floor .ensures) (copied c .copy-key .ensures) (c .before .floor2 .ensures)
+    read-at _ _ _ (copied c .before .before .area-at .ensures) (copied c .copy-key .ensures) (c .before .area-at2 .ensures)
     (c .value-at .ensures)
 
 -- what is added are two bytes
@@ -56,15 +57,24 @@ returns-2 c =
           (sym (mul .mul .ensures .is) ∙ told .enum-told .given .1) (c .before .before .clear-at2 .ensures),
     )
 
+abbrev read-of : tie.After-paste → tie.After-value-at
+read-of c = c .before .before .before .before .before .before .before .before
+
+-- x is copied over all of the key
+copied-key : (c : tie.After-paste) → c .paste .last .0 ≡ begun (read-of c) .args .x .now
+copied-key c =
+    let start = begun (read-of c) in
+    copied-over _ (start .args .x .now) (sym (start .pre .1 .0)) (c .paste .ensures)
+
 join-requires : tie.Need-join-requires
 join-requires c κs =
     let copy = c .before .before .before in
     let other = copy .before .before .before .before .before .before in
-    let x = begun (other .before .before) .args .x .now in
-    let atoms = copied (other .before .before) .copy-key .last .1 .1 .0 in
+    let x = begun (read-of copy) .args .x .now in
+    let atoms = copied (read-of copy) .copy-key .last .1 .1 .0 in
     let short : getD x 0 0 + getD atoms 0 0 ≤ 8 = other .if1 .left in
-    let same = ap (λ z. getD z 0 0) (copy .copy-bytes .ensures) in
-    ((copy .copy-bytes .kept .1 .0, copied (other .before .before) .copy-key .kept .1 .1 .0), omega (arith, same))
+    let same = ap (λ z. getD z 0 0) (copied-key copy) in
+    ((copy .paste .kept .0, copied (read-of copy) .copy-key .kept .1 .1 .0), omega (arith, same))
 
 insert-at-requires : tie.Need-insert-at-requires
 insert-at-requires c κs =
@@ -72,7 +82,7 @@ insert-at-requires c κs =
     let told = join .before .before .before .before .before .before .before in
     let mul = told .before .before in
     let start = begun (mul .before .before .before) in
-    let size = join .join .kept .0 ∙ join .before .before .before .before .copy-bytes .kept .1 .0 in
+    let size = join .join .kept .0 ∙ join .before .before .before .before .paste .kept .0 in
     (start .pre .0, (start .pre .1 .1 .1 .1, (size, mul .mul .ensures .proper _ (told .value .given .1))))
 
 returns-3 : tie.Need-returns-3
@@ -84,7 +94,7 @@ returns-3 c =
     let mul = told .before .before in (
       put .insert-at .ensures .0,
       product-entered (read (mul .before .before .before)) _ _ (mul .before .if1 .left)
-          (sym (mul .mul .ensures .is) ∙ told .value .given .1) (copy .copy-bytes .ensures) (join .join .ensures)
+          (sym (mul .mul .ensures .is) ∙ told .value .given .1) (copied-key copy) (join .join .ensures)
           (put .insert-at .ensures .1),
     )
 

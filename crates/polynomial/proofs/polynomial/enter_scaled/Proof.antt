@@ -16,7 +16,7 @@ begun c = copied c .before .before .before .before .before
 copy-key-requires : tie.Need-copy-key-requires
 copy-key-requires c κs =
     let start = c .before .before .before .before in (
-      ap length (c .before .floor .ensures) ∙ part-length (start .args .j) (start .args .stack .now) (start .pre .0 .0),
+      ap length (c .before .area-at .ensures) ∙ part-length (start .args .j) (start .args .stack .now) (start .pre .0 .0),
       (refl, start .pre .1 .1 .0),
     )
 
@@ -26,7 +26,7 @@ read :
     ReadAt (begun c .args .stack .now) (begun c .args .j) (begun c .args .k) (copied c .copy-key .last .1 .1 .0)
     (c .value-at .result)
 read c =
-    read-at _ _ _ (copied c .before .before .floor .ensures) (copied c .copy-key .ensures) (c .before .floor2 .ensures)
+    read-at _ _ _ (copied c .before .before .area-at .ensures) (copied c .copy-key .ensures) (c .before .area-at2 .ensures)
     (c .value-at .ensures)
 
 returns : tie.Need-returns

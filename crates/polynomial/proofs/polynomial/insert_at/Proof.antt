@@ -1,6 +1,6 @@
 -- `insert_at` lends area j to `insert`: what that makes of the area stands in its place.
 use borrow.Author.Needs.{needs}
-use Rattle.polynomial.proofs.TowerAreas.{lent-held, lent-enter}
+use Rattle.polynomial.proofs.StackAreas.{lent-held, lent-enter}
 use Rattle.polynomial.proofs.polynomial.insert_at.Statement.{statement}
 use Rattle.polynomial.proofs.polynomial.insert_at.Tie as tie
 

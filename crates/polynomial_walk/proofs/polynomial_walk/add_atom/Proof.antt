@@ -8,30 +8,30 @@ use Rattle.polynomial_walk.proofs.polynomial_walk.add_atom.Statement.{s
 use Rattle.polynomial_walk.proofs.polynomial_walk.add_atom.Tie as tie
 
 returns : tie.Need-returns
-returns c b m towers has inside l =
-    let insert = c .before .before .before .before .before .insert-at in
-    atom-out has l _ _ _
-    (insert .ensures .1 b (m ∷ []) _ towers (omega arith) (has .size) (atom-key b _ inside) l) (search needs)
+returns c b m stack has inside l =
+    let insert = c .before .before .before .before .before in
+    let key = atom-key b _ inside (insert .before .before .before .before .put-atom .ensures .1) in
+    atom-out has l _ _ _ (insert .insert-at .ensures .1 b (m ∷ []) _ stack (omega arith) (has .size) key l)
+    (c .before .enum-told .given .1) (c .inserted-refusal .ensures)
 
 returns-2 : tie.Need-returns-2
-returns-2 c b m towers has inside l =
-    let insert = c .before .before .before .before .before .insert-at in
-    atom-added has l _ _ _
-    (insert .ensures .1 b (m ∷ []) _ towers (omega arith) (has .size) (atom-key b _ inside) l) (search needs)
+returns-2 c b m stack has inside l =
+    let insert = c .before .before .before .before .before in
+    let key = atom-key b _ inside (insert .before .before .before .before .put-atom .ensures .1) in
+    atom-added has l _ _ _ (insert .insert-at .ensures .1 b (m ∷ []) _ stack (omega arith) (has .size) key l)
+    (c .before .answer .given .1)
 
 pub add-atom-spec : {M : Type 1} → statement M
 add-atom-spec =
     tie.close
     (tie.spec
     (λ c. search needs)
-    (λ c. search needs)
-    (λ c. search needs)
-    (λ c. search needs)
-    (λ c. search needs)
+    (λ c κs. search needs)
     (λ c. search needs)
     (λ c κs. search needs)
     (λ c. search needs)
     (λ c. search needs)
+    (λ c κs. search needs)
     (λ c. search needs)
     returns
     (λ c. search needs)

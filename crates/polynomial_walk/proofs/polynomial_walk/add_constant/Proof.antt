@@ -7,13 +7,13 @@ use Rattle.polynomial_walk.proofs.polynomial_walk.add_constant.Statemen
 use Rattle.polynomial_walk.proofs.polynomial_walk.add_constant.Tie as tie
 
 returns : tie.Need-returns
-returns c b m towers has l =
+returns c b m stack has l =
     constant-out has l _ _ (c .before .before .before .before .before .before .add .ensures) (search needs)
-    (c .before .before .clear-at .ensures b (m ∷ []) towers (omega arith) (has .size))
+    (c .before .before .clear-at .ensures b (m ∷ []) stack (omega arith) (has .size))
 
 returns-2 : tie.Need-returns-2
-returns-2 c b m towers has l =
-    constant-added has l _ _ (c .before .before .before .add .ensures) (search needs) towers
+returns-2 c b m stack has l =
+    constant-added has l _ _ (c .before .before .before .add .ensures) (search needs) stack
 
 pub add-constant-spec : {M : Type 1} → statement M
 add-constant-spec =

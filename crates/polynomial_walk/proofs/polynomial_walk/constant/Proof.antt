@@ -1,6 +1,6 @@
 -- `Number::mul` answers the product or leaves the range, and the node is made of its answer.
 use borrow.Author.Needs.{needs}
-use Rattle.polynomial_walk.proofs.ArmAnswers.{scaled, scaled-outside}
+use Rattle.polynomial_walk.proofs.NodeAnswers.{scaled, scaled-outside}
 use Rattle.polynomial_walk.proofs.polynomial_walk.constant.Statement.{statement}
 use Rattle.polynomial_walk.proofs.polynomial_walk.constant.Tie as tie
 

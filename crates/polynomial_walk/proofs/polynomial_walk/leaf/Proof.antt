@@ -1,7 +1,7 @@
 -- The node by what the term is read as: a number, a bit-vector, whose value fits, or neither.
 use borrow.Author.Needs.{needs}
-use Rattle.polynomial_walk.proofs.ArmAnswers.{bits-fit, bits-whole, bits-proper, leaf-number, leaf-outside}
-use Rattle.polynomial_walk.proofs.ArmAnswers.{leaf-vector, leaf-atom}
+use Rattle.polynomial_walk.proofs.NodeAnswers.{bits-fit, bits-whole, bits-proper, leaf-number, leaf-outside}
+use Rattle.polynomial_walk.proofs.NodeAnswers.{leaf-vector, leaf-atom}
 use Rattle.polynomial_walk.proofs.polynomial_walk.leaf.Statement.{statement}
 use Rattle.polynomial_walk.proofs.polynomial_walk.leaf.Tie as tie
 

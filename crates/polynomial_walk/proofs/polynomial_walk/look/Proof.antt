@@ -5,9 +5,9 @@ use mathlib.Core.Logic.{inl, inr, ⊎-elim}
 use native.Mathlib.Omega.{arith}
 use borrow.Author.Needs.{needs}
 use Rattle.rules.proofs.ArgumentsLeft.{counted}
-use Rattle.polynomial_walk.proofs.ArmAnswers.{sum-node, sums-node, product-node, quotient-node, leaf-node}
-use Rattle.polynomial_walk.proofs.ArmAnswers.{opposite-node, negation-node, vector-difference-node}
-use Rattle.polynomial_walk.proofs.ArmAnswers.{difference-node}
+use Rattle.polynomial_walk.proofs.NodeAnswers.{sum-node, sums-node, product-node, quotient-node, leaf-node}
+use Rattle.polynomial_walk.proofs.NodeAnswers.{opposite-node, negation-node, vector-difference-node}
+use Rattle.polynomial_walk.proofs.NodeAnswers.{difference-node}
 use Rattle.polynomial_walk.proofs.polynomial_walk.look.Statement.{statement}
 use Rattle.polynomial_walk.proofs.polynomial_walk.look.Tie as tie
 

@@ -2,8 +2,8 @@
 -- range.
 use mathlib.Core.Path.{sym, _∙_}
 use borrow.Author.Needs.{needs}
-use Rattle.polynomial_walk.proofs.ArmAnswers.{few-sides, divisor-outside, no-divisor, zero-divisor, a-divisor}
-use Rattle.polynomial_walk.proofs.ArmAnswers.{quotient-outside, quotient-found}
+use Rattle.polynomial_walk.proofs.NodeAnswers.{few-sides, divisor-outside, no-divisor, zero-divisor, a-divisor}
+use Rattle.polynomial_walk.proofs.NodeAnswers.{quotient-outside, quotient-found}
 use Rattle.polynomial_walk.proofs.polynomial_walk.quotient.Statement.{statement}
 use Rattle.polynomial_walk.proofs.polynomial_walk.quotient.Tie as tie
 

@@ -1,7 +1,7 @@
 -- The loop's invariant is `Cleared` of EntryBytes; the measure is how many entries are left.
 use Prim.Native.Nat.{_-_}
 use borrow.Author.Needs.{needs}
-use Rattle.rules.specs.Entries.{sums}
+use Rattle.rules.specs.memory.Entries.{sums}
 use Rattle.rules.proofs.EntryBytes.{Cleared, cleared-none, cleared-more, cleared-all}
 use Rattle.rules.proofs.index_map.clear.Statement.{statement}
 use Rattle.rules.proofs.index_map.clear.Tie as tie

@@ -4,7 +4,7 @@ use Prim.Native.Nat.{_-_}
 use borrow.Author.Needs.{needs}
 use borrow.Author.Tests.{eq-eqb, ne-eqb}
 use Rattle.rules.proofs.EntrySearch.{Searched, search-end, search-found, search-more}
-use Rattle.rules.specs.Entries.{sums}
+use Rattle.rules.specs.memory.Entries.{sums}
 use Rattle.rules.proofs.KeySearch.{keys}
 use Rattle.rules.proofs.NumberedKeys.{has-key}
 use Rattle.rules.proofs.index_map.find.Statement.{statement}

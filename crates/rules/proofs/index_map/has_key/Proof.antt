@@ -4,7 +4,7 @@ use borrow.Author.Needs.{needs}
 use lib.ListN.{drop}
 use Rattle.numbers.proofs.LittleEndian.{le-of-two}
 use Rattle.rules.proofs.EntrySearch.{one-entry}
-use Rattle.rules.specs.Entries.{sums}
+use Rattle.rules.specs.memory.Entries.{sums}
 use Rattle.rules.proofs.KeySearch.{keys}
 use Rattle.rules.proofs.NumberedKeys.{has-key}
 use Rattle.rules.proofs.index_map.has_key.Statement.{statement}
@@ -28,6 +28,7 @@ has-key-spec =
     (λ c. search needs)
     (λ c. search needs)
     (λ c κs. search needs)
+    (λ c. search needs)
     (λ c. search needs)
     (λ c. search needs)
     returns)

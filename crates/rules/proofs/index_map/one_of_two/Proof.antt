@@ -1,6 +1,6 @@
 -- The key is in the first half, or the second half tells.
 use borrow.Author.Needs.{needs}
-use Rattle.rules.specs.Entries.{sums}
+use Rattle.rules.specs.memory.Entries.{sums}
 use Rattle.rules.proofs.EntrySearch.{one-of-first, one-of-second}
 use Rattle.rules.proofs.KeySearch.{keys}
 use Rattle.rules.proofs.index_map.one_of_two.Statement.{statement}

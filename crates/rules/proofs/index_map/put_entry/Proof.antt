@@ -1,6 +1,6 @@
 -- The two writes are those of the definition.
 use borrow.Author.Needs.{needs}
-use Rattle.rules.specs.StoredMaps.{putEntry}
+use Rattle.rules.specs.memory.StoredMaps.{putEntry}
 use Rattle.rules.proofs.index_map.put_entry.Statement.{statement}
 use Rattle.rules.proofs.index_map.put_entry.Tie as tie
 

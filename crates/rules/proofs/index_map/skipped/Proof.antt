@@ -2,7 +2,7 @@
 -- eight fewer. Where the loop stops is of no account: the invariant is what is promised.
 use Prim.Native.Nat.{_-_}
 use borrow.Author.Needs.{needs}
-use Rattle.rules.specs.Entries.{sums}
+use Rattle.rules.specs.memory.Entries.{sums}
 use Rattle.rules.proofs.EntrySearch.{Searched, search-none, search-past}
 use Rattle.rules.proofs.KeySearch.{keys}
 use Rattle.rules.proofs.index_map.skipped.Statement.{statement}

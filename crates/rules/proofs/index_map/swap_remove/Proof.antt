@@ -1,6 +1,6 @@
 -- The two writes are those of the definition, with what is read of the last entry before.
 use borrow.Author.Needs.{needs}
-use Rattle.rules.specs.StoredMaps.{swapped}
+use Rattle.rules.specs.memory.StoredMaps.{swapped}
 use Rattle.rules.proofs.index_map.swap_remove.Statement.{statement}
 use Rattle.rules.proofs.index_map.swap_remove.Tie as tie
 

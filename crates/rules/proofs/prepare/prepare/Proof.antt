@@ -1,6 +1,8 @@
 -- The book is read into a work area of zeros.
+use mathlib.Core.Path.{refl}
 use borrow.Author.Needs.{needs}
 use lib.ListN.{length}
+use Rattle.numbers.proofs.ClearedBytes.{cleared-zeros}
 use Rattle.terms.proofs.RecordChains.{unused-zeros}
 use Rattle.rules.proofs.prepare.prepare.Statement.{statement}
 use Rattle.rules.proofs.prepare.prepare.Tie as tie
@@ -9,12 +11,12 @@ read-requires : tie.Need-read-book-requires
 read-requires c κs =
     let cleared = c .before .before .before in
     let start = cleared .before .before .before .before in
-    (search needs, rw (cleared .clear-all .ensures) (unused-zeros (length (start .args .work .now))))
+    (search needs, rw (cleared-zeros _ (cleared .clear-from .ensures) refl) (unused-zeros (length (start .args .work .now))))
 
 returns : tie.Need-returns
 returns c =
     let read = c .before .before in
-    rw (← read .before .before .before .before .clear-all .ensures) (read .read-book .ensures)
+    rw (← cleared-zeros _ (read .before .before .before .before .clear-from .ensures) refl) (read .read-book .ensures)
 
 pub prepare-spec : {M : Type 1} → statement M
 prepare-spec = tie.close (tie.spec (λ c κs. search needs) read-requires (λ c. search needs) returns)

@@ -49,6 +49,7 @@ bind-all-spec =
     loop-holds
     (λ c. search needs)
     (λ c κs. search needs)
+    (λ c. search needs)
     (λ c κs. search needs)
     (λ c κs. search needs)
     (λ c. search needs)

@@ -1,14 +1,14 @@
--- The marking is that of `opened`; the work area is then cleared from its first byte on.
+-- The marking is that of `check_run`; the work area is then cleared from its first byte on.
 use mathlib.Core.Path.{refl}
 use borrow.Author.Needs.{needs}
-use Rattle.runs.proofs.ClearedAreas.{cleared-zeros}
+use Rattle.numbers.proofs.ClearedBytes.{cleared-zeros}
 use Rattle.runs.proofs.check.check.Statement.{statement}
 use Rattle.runs.proofs.check.check.Tie as tie
 
 returns : tie.Need-returns
 returns c =
     let cleared = c .before .before in
-    let marked = cleared .before .before .before .before .opened in
+    let marked = cleared .before .before .before .before .check-run in
     record {
       answered = marked .ensures .0;
       sameBook = refl;

@@ -6,11 +6,13 @@ use Rattle.runs.proofs.check.check_poly_simp_rel.Tie as tie
 
 returns : tie.Need-returns
 returns c =
-    let named = c .before .before .before in
+    let theirs = c .before in
+    let clause = theirs .before .before in
+    let named = clause .before in
     let start = named .before .before .before .before .before .before in
-    judged-relation (start .pre .0) (start .pre .1) (named .before .before .premises .ensures)
-    (named .before .read-u16 .ensures) (named .step-at .ensures) (c .before .before .clause .ensures)
-    (c .before .clause2 .ensures) _ (c .poly-simp-rel .ensures)
+    judged-relation (start .pre .0 .0) (start .pre .1) (named .before .before .premises .ensures)
+    (named .before .read-u16 .ensures) (named .step-at .ensures) (clause .clause .ensures)
+    (theirs .clause2 .ensures) _ (c .poly-simp-rel .ensures)
 
 pub check-poly-simp-rel-spec : {M : Type 1} → statement M
 check-poly-simp-rel-spec =
@@ -19,6 +21,7 @@ check-poly-simp-rel-spec =
     (λ c κs. search needs)
     (λ c κs. search needs)
     (λ c. search needs)
+    (λ c κs. search needs)
     (λ c κs. search needs)
     (λ c κs. search needs)
     (λ c κs. search needs)

@@ -12,30 +12,31 @@ la-tautology-requires : tie.Need-la-tautology-requires
 la-tautology-requires c κs =
     let literals = c .before .before .before in
     let start = literals .before .before .before .before .before in
-    (start .pre .0, stands-literals (start .pre .1) (literals .clause .ensures) .0)
+    (start .pre .0 .0, stands-literals (start .pre .0 .1) (literals .clause .ensures) .0)
 
 la-generic-requires : tie.Need-la-generic-requires
 la-generic-requires c κs =
     let literals = c .before .before .before .before in
     let start = literals .before .before .before .before .before in
-    (start .pre .0, stands-literals (start .pre .1) (literals .clause .ensures))
+    (start .pre .0 .0, stands-literals (start .pre .0 .1) (literals .clause .ensures))
 
 bounded-farkas-requires : tie.Need-bounded-farkas-requires
 bounded-farkas-requires c κs =
     let literals = c .before .before .before .before in
     let start = literals .before .before .before .before .before in
-    (start .pre .0, stands-literals (start .pre .1) (literals .clause .ensures))
+    (start .pre .0 .0, stands-literals (start .pre .0 .1) (literals .clause .ensures))
 
 poly-simp-requires : tie.Need-poly-simp-requires
 poly-simp-requires c κs =
     let literals = c .before .before .before in
     let start = literals .before .before .before .before .before in
-    (start .pre .0, stands-literals (start .pre .1) (literals .clause .ensures) .0)
+    (start .pre .0 .0, stands-literals (start .pre .0 .1) (literals .clause .ensures) .0)
 
 check-poly-simp-rel-requires : tie.Need-check-poly-simp-rel-requires
 check-poly-simp-rel-requires c κs =
-    let stands = c .before .before .before .before .before .before .before .pre .1 in
-    (stands, rule-eight stands (c .before .byte .ensures) (c .match .rest))
+    let given = c .before .before .before .before .before .before .before .pre in
+    let stands = given .0 .1 in
+    ((stands, given .1), rule-eight stands (c .before .byte .ensures) (c .match .rest))
 
 -- ---- the verdicts, and the work area
 

@@ -4,7 +4,7 @@ use mathlib.Core.Path.{_≡_, refl, ap, _∙_}
 use borrow.Author.Needs.{needs}
 use lib.ListN.{length}
 use Rattle.numbers.specs.Bytes.{Bytes}
-use Rattle.rules.specs.Parts.{Ready}
+use Rattle.rules.specs.memory.Parts.{Ready}
 use Rattle.runs.proofs.CheckLoops.{OnTheWay, turnsIn, shows-underway, way-begins, way-goes, way-less, way-ends}
 use Rattle.runs.proofs.check.check_steps.Statement.{statement}
 use Rattle.runs.proofs.check.check_steps.Tie as tie

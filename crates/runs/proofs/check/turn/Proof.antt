@@ -1,10 +1,12 @@
 -- Each return is a law of CheckLoops: the marking has ended, or ends, or the next step is refused or accepted.
-use mathlib.Core.Path.{_≡_, sym, _∙_}
+use mathlib.Core.Path.{_≡_, sym, ap, _∙_}
 use borrow.Author.Needs.{needs}
 use Rattle.runs.specs.Run.{stepsOf}
 use Rattle.runs.specs.Check.{State}
-use Rattle.runs.specs.Lent.{Reached, stateOf}
-use Rattle.runs.proofs.CheckLoops.{Shows, refused-as, accepted-as, turn-stays, turn-done, turn-stands, turn-room}
+use Rattle.runs.specs.memory.StepParts.{bytesIn}
+use Rattle.runs.specs.memory.Lent.{Reached, stateOf}
+use Rattle.runs.proofs.RunRecords.{partFrom}
+use Rattle.runs.proofs.CheckLoops.{Shows, refusal-as, accepted-as, turn-stays, turn-done, turn-stands, turn-room}
 use Rattle.runs.proofs.CheckLoops.{turn-within, turn-refused, turn-accepted}
 use Rattle.runs.proofs.check.turn.Statement.{statement}
 use Rattle.runs.proofs.check.turn.Tie as tie
@@ -39,32 +41,24 @@ returns-2 c =
 
 check-step-requires : tie.Need-check-step-requires
 check-step-requires c κs =
-    let inside = c .before .before in
+    let found = c .before in
+    let inside = found .before .before in
     let start = inside .before .before .before .before .before .before in
-    (start .pre .0 .0, turn-stands (given start) (inside .if2 .left))
+    ((start .pre .0 .0, turn-stands (given start) (inside .if2 .left)), found .parts .ensures)
 
--- a turn whose step is accepted
-abbrev checked : tie.After-bytes → tie.After-check-step
-checked c = c .before .before .before .before .before .before
-
+-- a turn whose step is checked
 abbrev inside : tie.After-check-step → tie.Else2
-inside c = c .before .before .before
+inside c = c .before .before .before .before
 
 abbrev start : tie.After-check-step → tie.Start
 start c = inside c .before .before .before .before .before .before
 
-advanced-requires : tie.Need-advanced-requires
-advanced-requires c κs =
-    let shown = given (start (checked c)) in
-    let within = turn-within shown (c .bytes .ensures) in
-    let room = turn-room shown (inside (checked c) .if2 .left) in
-    (search needs, search needs)
-
 returns-3 : tie.Need-returns-3
 returns-3 c =
+    let refusal = c .before in
     let checked = c .before .before .before .before .before .before in
     let answer = checked .check-step .ensures in
-    let said = refused-as _ _ (sym (c .before .before .verdict .given .1) ∙ answer .0) in (
+    let said = refusal-as _ (answer .0) (refusal .before .enum-told .given .1) (refusal .verdict-refusal .ensures) in (
       (λ σ reached is.
           c .ended2 .ensures
           ∙ turn-refused (shown (start checked) σ reached is) (inside checked .before .if1 .left)
@@ -72,15 +66,31 @@ returns-3 c =
       answer .1,
     )
 
+-- and accepted
+abbrev checked : tie.After-known-told → tie.After-check-step
+checked c = c .before .before .before .before .before
+
+bytes-are : (c : tie.After-known-told) → let found = checked c .before .before in
+    found .parts .result .args ≡ bytesIn (partFrom (start (checked c) .args .run .now) (start (checked c) .args .s .at))
+bytes-are c = ap (λ p. p .args) (checked c .before .before .parts .ensures)
+
+advanced-requires : tie.Need-advanced-requires
+advanced-requires c κs =
+    let shown = given (start (checked c)) in
+    let within = turn-within shown (bytes-are c) in
+    let room = turn-room shown (inside (checked c) .if2 .left) in
+    (search needs, search needs)
+
 returns-4 : tie.Need-returns-4
 returns-4 c =
-    let checked = checked (c .before) in
-    let answer = checked .check-step .ensures in
-    let said = accepted-as _ _ (sym (c .before .before .before .visits .given .1) ∙ answer .0) in (
+    let accepted = c .before in
+    let answer = checked accepted .check-step .ensures in
+    let said = accepted-as _ _ (sym (accepted .before .answer .given .1) ∙ answer .0) in (
       (λ σ reached is.
           c .advanced .ensures
-          ∙ turn-accepted (shown (start checked) σ reached is) (inside checked .before .if1 .left)
-          (inside checked .if2 .left) (said .0) (said .1 .0) (said .1 .1) (c .before .bytes .ensures)),
+          ∙ turn-accepted (shown (start (checked accepted)) σ reached is)
+          (inside (checked accepted) .before .if1 .left) (inside (checked accepted) .if2 .left)
+          (said .0) (said .1 .0) (said .1 .1) (bytes-are accepted)),
       answer .1,
     )
 
@@ -94,13 +104,14 @@ turn-spec =
     (λ c. search needs)
     (λ c. search needs)
     (λ c. search needs)
+    (λ c κs. search needs)
     check-step-requires
     (λ c. search needs)
-    (λ c κs. search needs)
     (λ c. search needs)
     (λ c κs. search needs)
-    advanced-requires
+    (λ c κs. search needs)
     (λ c. search needs)
     returns-3
+    advanced-requires
     (λ c. search needs)
     returns-4)

@@ -1,13 +1,13 @@
--- The C records behind the premises.
-use borrow.Author.Needs.{needs}
-use Rattle.runs.proofs.StepAreas.{clause-found}
+-- Between the ends of premises and clause.
+use Rattle.runs.proofs.StepAreas.{clause-start, clause-end, clause-found}
 use Rattle.runs.proofs.run.clause.Statement.{statement}
 use Rattle.runs.proofs.run.clause.Tie as tie
 
-returns : tie.Need-returns
-returns c =
-    let left = c .before in
-    clause-found _ _ (left .before .rest .ensures) _ (left .after .ensures) _ (c .leading .ensures)
-
 pub clause-spec : {M : Type 1} → statement M
-clause-spec = tie.close (tie.spec (λ c κs. search needs) (λ c κs. search needs) (λ c κs. search needs) returns)
+clause-spec =
+    tie.close
+    (tie.spec
+    (λ c. clause-start _ (c .pre))
+    (λ c. clause-start _ (c .pre))
+    (λ c. clause-end _ (c .pre))
+    (λ c. clause-found _ (c .before .pre)))

@@ -6,7 +6,7 @@ use borrow.Author.Tests.{eq-eqb, ne-eqb, le-leb, lt-leb}
 use lib.Dec.{eqb, leb}
 use Rattle.terms.proofs.Layouts.{passed, stopped}
 use Rattle.runs.specs.Run.{S}
-use Rattle.runs.specs.StepParts.{headIn}
+use Rattle.runs.specs.memory.StepParts.{headIn}
 use Rattle.runs.proofs.StepRules.{head-tests}
 use Rattle.runs.proofs.run.head_ok.Statement.{statement}
 use Rattle.runs.proofs.run.head_ok.Tie as tie

@@ -4,7 +4,7 @@ use borrow.Author.Needs.{needs}
 use lib.Dec.{ltb}
 use Rattle.terms.proofs.Layouts.{passed, stopped}
 use Rattle.runs.specs.Run.{recs, allRight}
-use Rattle.runs.specs.StepParts.{premisesIn, clauseIn, partsOk}
+use Rattle.runs.specs.memory.StepParts.{premisesIn, clauseIn, partsOk}
 use Rattle.runs.proofs.RowRecords.{isLiteral}
 use Rattle.runs.proofs.StepReading.{right-in, right-below}
 use Rattle.runs.proofs.run.parts_ok.Statement.{statement}

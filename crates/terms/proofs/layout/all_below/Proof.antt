@@ -8,7 +8,7 @@ use lib.Dec.{ltb}
 use lib.ListN.{getD}
 use Rattle.terms.specs.Book.{allBelow, numbers}
 use Rattle.terms.proofs.Layouts.{Walk, walk-on, walk-fails, walk-end, allBelow-all}
-use Rattle.terms.proofs.Records.{length-numbers, number-at}
+use Rattle.terms.proofs.RecordBytes.{length-numbers, number-at}
 use Rattle.terms.proofs.layout.all_below.Statement.{statement}
 use Rattle.terms.proofs.layout.all_below.Tie as tie
 

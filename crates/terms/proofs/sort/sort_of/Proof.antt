@@ -2,7 +2,7 @@
 use borrow.Author.Needs.{needs}
 use borrow.Author.Tests.{ne-eqb}
 use Rattle.numbers.specs.Choice.{if_then_else_}
-use Rattle.terms.specs.Sorting.{sorting}
+use Rattle.terms.specs.memory.Sorting.{sorting}
 use Rattle.terms.proofs.SortCodes.{operation-sorted}
 use Rattle.terms.proofs.sort.sort_of.Statement.{statement}
 use Rattle.terms.proofs.sort.sort_of.Tie as tie

@@ -1,6 +1,6 @@
 -- `takes` decides between the two answers.
 use borrow.Author.Needs.{needs}
-use Rattle.terms.specs.Sorting.{sortRule}
+use Rattle.terms.specs.memory.Sorting.{sortRule}
 use Rattle.terms.proofs.sort.sort_rule.Statement.{statement}
 use Rattle.terms.proofs.sort.sort_rule.Tie as tie
 
