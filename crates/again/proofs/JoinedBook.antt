@@ -11,11 +11,10 @@ use borrow.Author.Tests.{leb-true}
 use lib.Dec.{leb}
 use lib.ListN.{length, take, replicate, length-append}
 use lib.Seq.{paste}
-use Rattle.numbers.specs.Bytes.{Bytes}
-use Rattle.runs.specs.Answers.{area}
-use Rattle.numbers.specs.Bytes.{zeroedFrom}
+use Rattle.numbers.specs.Bytes.{Bytes, zeroedFrom}
+use Rattle.marking.specs.Answers.{area}
 use Rattle.again.specs.Again.{joinedBook}
-use Rattle.elaborate.proofs.Pieces.{put-length, put-front}
+use Rattle.out_areas.proofs.Pieces.{put-length, put-front}
 
 -- ---- book and tail one behind the other
 

@@ -14,20 +14,18 @@ use borrow.Author.Tests.{le-leb, lt-leb, eq-eqb, ne-eqb}
 use lib.Dec.{T, eqb, leb}
 use lib.ListN.{length, take, replicate, length-replicate}
 use lib.Seq.{take-append-seam}
-use Rattle.numbers.specs.Bytes.{Bytes}
-use Rattle.numbers.specs.Bytes.{sameBytes}
+use Rattle.numbers.specs.Bytes.{Bytes, sameBytes}
 use Rattle.numbers.proofs.Truths.{T-true}
 use Rattle.numbers.proofs.SameBytes.{sameBytes-refl}
 use Rattle.rules.specs.Limits.{limited}
 use Rattle.runs.specs.Verdict.{Verdict, verdictNumber, isLent}
-use Rattle.runs.specs.Check.{mark}
-use Rattle.runs.proofs.Verdicts.{between, lent-numbers}
+use Rattle.marking.specs.Check.{mark}
+use Rattle.marking.proofs.Verdicts.{between, lent-numbers}
 use Rattle.elaborate.specs.Elaborate.{Answer, answer, writtenPart}
-use Rattle.runs.specs.Answers.{area, zeros}
+use Rattle.marking.specs.Answers.{area, zeros}
 use Rattle.elaborate.specs.Statements.{NoSurplus}
-use Rattle.elaborate.specs.LentMemory.{Memory, answerTo, memoryAfter, lent}
+use Rattle.elaborate.specs.LentMemory.{Memory, answerTo, memoryAfter, lent, elaboratedOf}
 use Rattle.runs.specs.Run.{Every}
-use Rattle.elaborate.specs.LentMemory.{elaboratedOf}
 use Rattle.again.specs.Again.{Second, joinedBook, elaboratedBook, answerAgain, agree, agreesAgain, MarkedAgain}
 use Rattle.elaborate.specs.ElaborateEntry.{ElaborateDone}
 use Rattle.again.specs.AgainEntry.{AgainDone}

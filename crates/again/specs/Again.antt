@@ -9,7 +9,7 @@ use lib.ListN.{length}
 use Rattle.numbers.specs.Bytes.{Bytes}
 use Rattle.numbers.specs.Bytes.{sameBytes}
 use Rattle.elaborate.specs.Elaborate.{Answer, elaborate, writtenPart}
-use Rattle.runs.specs.Answers.{area, zeros}
+use Rattle.marking.specs.Answers.{area, zeros}
 use Rattle.elaborate.specs.LentMemory.{Memory, answerTo, memoryAfter}
 use Rattle.runs.specs.Verdict.{Verdict, verdictNumber, isLent}
 

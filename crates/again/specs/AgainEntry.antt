@@ -6,7 +6,7 @@ use lib.Dec.{T}
 use lib.ListN.{length}
 use Rattle.rules.specs.Limits.{limited}
 use Rattle.runs.specs.Verdict.{isLent}
-use Rattle.runs.specs.Check.{mark}
+use Rattle.marking.specs.Check.{mark}
 use Rattle.elaborate.specs.LentMemory.{Memory, answerTo}
 use Rattle.elaborate.specs.ElaborateEntry.{ElaborateDone}
 use Rattle.elaborate.specs.Statements.{NoSurplus}

@@ -6,7 +6,7 @@ ghost use lib.Dec.{leb};
 ghost use lib.ListN.{length};
 ghost use Rattle.runs.specs.Verdict.{Verdict, verdictNumber, isLent};
 ghost use Rattle.elaborate.specs.Elaborate.{Answer};
-ghost use Rattle.runs.specs.Answers.{area};
+ghost use Rattle.marking.specs.Answers.{area};
 ghost use Rattle.elaborate.specs.LentMemory.{Memory, answerTo, memoryAfter, lent};
 ghost use Rattle.elaborate.specs.LentMemory.{elaboratedOf};
 ghost use Rattle.again.specs.Again.{second, joinedBook, agree, MarkedAgain};
@@ -18,7 +18,7 @@ use numbers::bytes::clear_from;
 use numbers::bytes::paste;
 use numbers::bytes::room;
 use numbers::bytes::same_bytes;
-use runs::check::ACCEPTED;
+use steps::check_step::ACCEPTED;
 use terms::refusal::NO_ROOM;
 use terms::refusal::WORK_AREA_OR_LIMIT;
 

@@ -14,8 +14,8 @@ use Rattle.terms.specs.Term.Sort.{bool, int, real, bits}
 use Rattle.terms.specs.Term.Term.{op}
 use Rattle.terms.specs.Term.Terms.{nil, _▹_}
 use Rattle.numbers.proofs.Truths.{both, never}
-use Rattle.terms.proofs.WellFormed.{WellFormed}
-use Rattle.terms.proofs.Vectors.{width-positive, argument-sort}
+use Rattle.book.proofs.WellFormed.{WellFormed}
+use Rattle.book.proofs.Vectors.{width-positive, argument-sort}
 
 either : (x y : Bool) → (x || y) ≡ true → (x ≡ true) ⊎ (y ≡ true)
 either true y e = inl refl

@@ -3,7 +3,7 @@
 use Rattle.terms.specs.Term.{Term, Terms}
 use Rattle.terms.specs.Term.Term.{integer, rational, bitvector, atom, op}
 use Rattle.terms.specs.Term.Terms.{nil, _▹_}
-use Rattle.terms.proofs.BookTerms.{Each}
+use Rattle.book.proofs.BookTerms.{Each}
 
 -- Q holds of the arguments
 abbrev pub Below : (Term → Type 0) → Term → Type 0

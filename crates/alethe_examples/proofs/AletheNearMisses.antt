@@ -13,7 +13,7 @@ use Rattle.terms.specs.Operator.{Equals, GreaterEq, Mult}
 use Rattle.terms.specs.Term.{Term, sort, isBits}
 use Rattle.terms.specs.Term.Sort.{int}
 use Rattle.numbers.proofs.Truths.{never}
-use Rattle.terms.proofs.Vectors.{not-vector}
+use Rattle.book.proofs.Vectors.{not-vector}
 use Rattle.alethe.specs.AletheTerms.{Departures, Written, Products, coefficientIn, minusOne, one}
 use Rattle.alethe.specs.Alethe.{BoundsForm, LaTautology, SamePolynomial, PolySimp, ScaledNumbers, ScaledVectors}
 use Rattle.alethe.specs.Alethe.{PolySimpRel}

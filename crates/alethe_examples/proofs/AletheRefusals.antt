@@ -15,7 +15,7 @@ use Rattle.terms.specs.Term.{Term, sort, isBits}
 use Rattle.terms.specs.Term.Sort.{bool, int, real}
 use Rattle.terms.specs.Term.Terms.{nil, _▹_}
 use Rattle.numbers.proofs.Truths.{never}
-use Rattle.terms.proofs.Vectors.{not-vector}
+use Rattle.book.proofs.Vectors.{not-vector}
 use Rattle.alethe.specs.AletheTerms.{Departures, words, Written, Products, coefficientIn, nought, one}
 use Rattle.alethe.specs.Alethe.{LaTotality, Relation, Constraint, Opposite, joined, weaker, States, sumBound}
 use Rattle.alethe.specs.Alethe.{contradicts, Joins, LaGeneric, Arguments, BoundedFarkas, BoundsForm, LaTautology}

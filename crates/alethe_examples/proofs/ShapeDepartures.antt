@@ -11,7 +11,7 @@ use Rattle.terms.specs.Term.Sort.{bool, int}
 use Rattle.terms.specs.Term.Term.{op}
 use Rattle.terms.specs.Term.Terms.{nil, _▹_}
 use Rattle.numbers.proofs.Truths.{never}
-use Rattle.terms.proofs.Vectors.{not-vector}
+use Rattle.book.proofs.Vectors.{not-vector}
 use Rattle.alethe.specs.AletheTerms.{Departure, Departures, is, lessThan, Products}
 use Rattle.alethe.specs.Alethe.{Bound, BoundsForm, LaTautology, SamePolynomial, PolySimp, Difference, ScaledNumbers}
 use Rattle.alethe.specs.Alethe.{ScaledVectors, PolySimpRel}

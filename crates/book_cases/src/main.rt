@@ -6,32 +6,26 @@
 //     5-6 the record that is refused, or the number of records
 ghost use Prim.Native.Nat.{_*_, _≤_};
 ghost use lib.ListN.{length};
-use libc::STDOUT_FILENO;
+use book::book::read_book;
 use numbers::bytes::byte;
 use numbers::bytes::read_u16;
 use numbers::bytes::write_u32;
-use terms::book::BookRead;
-use terms::book::book_number;
-use terms::book::read_book;
+use programs::cases::Outcome;
+use programs::cases::broken;
+use programs::cases::open_cases;
+use programs::cases::print_total;
+use programs::printing::print;
+use programs::printing::print_number;
+use terms::reading::BookRead;
+use terms::reading::book_number;
 
 // A book of 2,050 records, two more than the most.
 const MOST: usize = 65600;
 
-enum Outcome {
-    Agrees,
-    Differs,
-    // There is no further case.
-    End,
-}
-
-fn print(text: &[u8]) {
-    io::write_all(STDOUT_FILENO, text);
-}
-
 fn print_answer(c: u8, at: usize) {
-    io::print_decimal(STDOUT_FILENO, c as u64);
+    print_number(c as u64);
     print(b" at ");
-    io::print_decimal(STDOUT_FILENO, at as u64);
+    print_number(at as u64);
 }
 
 // What is expected of case i beside what is found.
@@ -42,7 +36,7 @@ fn compare(i: u64, c: u8, at: usize, d: u8, found: usize) -> Outcome {
         }
     }
     print(b"case ");
-    io::print_decimal(STDOUT_FILENO, i);
+    print_number(i);
     print(b": expected ");
     print_answer(c, at);
     print(b", found ");
@@ -70,12 +64,6 @@ fn put_atoms(book: &mut [u8], n: usize)
         write_u32(book, 32 * k + 4, k as u32);
         k += 1;
     }
-}
-
-// The file ends within a case, or a case is too long.
-fn broken() -> Outcome {
-    print(b"the file of cases is broken\n");
-    Outcome::End
 }
 
 // Case i: its book has n atoms in front and comes up to the end of `book`.
@@ -145,12 +133,8 @@ fn try_all(fd: i32) -> u64 {
 }
 
 fn main() {
-    let fd = os::open_read(b"cases");
-    if fd < 0 {
-        os::fail(b"cases");
-        return;
+    let fd = open_cases();
+    if 0 <= fd {
+        print_total(fd, try_all(fd), b" cases agree\n");
     }
-    io::print_decimal(STDOUT_FILENO, try_all(fd));
-    print(b" cases agree\n");
-    libc::close(fd);
 }

@@ -21,30 +21,31 @@ use Rattle.terms.specs.Readers.{asNumber, quotientOf, asUnsignedFraction, asFra
 use Rattle.numbers.specs.declared.number.Checked.{Checked}
 use Rattle.numbers.specs.declared.number.Checked.the-variants as answer
 use Rattle.terms.specs.declared.term.Reading.the-variants.{Value}
-use Rattle.rules.specs.memory.StoredMaps as maps
+use Rattle.index_map.specs.memory.StoredMaps as maps
 use Rattle.rules.specs.Refusal.{number, Result, _>>=_, assert}
 use Rattle.rules.specs.Refusal.Outcome.{ok}
 use Rattle.rules.specs.Refusal.Refusal.{numberRange}
 use Rattle.rules.specs.Limits.{Limits, limited, times, fractionOf}
-use Rattle.rules.specs.IndexMap.{combination, new, Walked, walked, visit, addConstant, sub}
-use Rattle.linear_comb.specs.LinearComb.{addTerm, addLeaf, fromTerm}
+use Rattle.index_map.specs.IndexMap.{combination, new, Walked, walked, visit, addConstant, sub}
+use Rattle.linear_walk.specs.LinearTerms.{addTerm, addLeaf, fromTerm}
 use Rattle.disequality.specs.Disequality.{turned}
-use Rattle.linear_comb.specs.memory.WorkArea.{Sum, combOf, KeptSum, Walks, Apart, areaOf, withArea, OnlyArea}
-use Rattle.rules.specs.memory.Entries.{entriesOf, blanked, Held}
+use Rattle.linear_walk.specs.memory.Walks.{Walks}
+use Rattle.linear_comb.specs.memory.WorkArea.{Sum, combOf, KeptSum, Apart, areaOf, withArea, OnlyArea}
+use Rattle.index_map.specs.memory.Entries.{entriesOf, blanked, Held}
 use Rattle.disequality.specs.memory.DisequalitySteps.{constantSide, subtracted, SubtractedLeft, LiteralLeft}
-use Rattle.rules.specs.declared.index_map.Inserted.the-variants.{Length}
+use Rattle.index_map.specs.declared.index_map.Inserted.the-variants.{Length}
 use Rattle.linear_comb.specs.declared.linear_comb.Combined.the-variants as combined
-use Rattle.linear_comb.specs.declared.linear_walk.Walk.the-variants.{Done, Refused}
+use Rattle.linear_walk.specs.declared.linear_walk.Walk.the-variants.{Done, Refused}
 use Rattle.disequality.specs.declared.disequality.Disequality as by-value
 use Rattle.disequality.specs.declared.disequality.Literal.the-variants as literal
 use Rattle.rules.proofs.Results.{refuses}
-use Rattle.rules.proofs.CheckedNumbers.{whole-proper, times-value, times-out}
-use Rattle.rules.proofs.StoredEntries.{kept-entries, kept-small}
+use Rattle.index_map.proofs.CheckedNumbers.{whole-proper, times-value, times-out}
+use Rattle.index_map.proofs.StoredEntries.{kept-entries, kept-small}
 use Rattle.linear_comb.proofs.Areas.{only-none}
 use Rattle.linear_comb.proofs.AreaSteps.{in-first, both-apart}
-use Rattle.disequality.proofs.InsertLoops.{InsertedAll, inserting-none, inserting-done}
-use Rattle.disequality.proofs.AreaSums.{Added, added-sum, added-out}
-use Rattle.linear_comb.proofs.WalkSteps.{constant-out, constant-added}
+use Rattle.work_area.proofs.InsertLoops.{InsertedAll, inserting-none, inserting-done}
+use Rattle.work_area.proofs.AreaSums.{Added, added-sum, added-out}
+use Rattle.linear_walk.proofs.WalkSteps.{constant-out, constant-added}
 use Rattle.disequality.proofs.SubtractedSides.{out-of-range, subtracted-left}
 
 -- ---- the walk of a number

@@ -1,9 +1,5 @@
--- numbers, keys and maps, whatever they stand for
+-- numbers
 pub mod WholeProducts
--- the areas of the work area
-pub mod InsertLoops
-pub mod AreaSums
-pub mod IntAtoms
 -- walks of terms in memory
 pub mod ConstantSides
 -- steps of the rules in memory

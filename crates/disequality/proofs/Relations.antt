@@ -24,7 +24,7 @@ use Rattle.terms.specs.declared.term.Only.the-variants as only
 use Rattle.numbers.proofs.Truths.{both}
 use Rattle.terms.proofs.RecordBytes.{earlier-before, forest-of-two}
 use Rattle.terms.proofs.Readings.{unary-shape}
-use Rattle.terms.proofs.BookTerms.{recordNumber-tree}
+use Rattle.terms.proofs.NumberedNodes.{recordNumber-tree}
 use Rattle.terms.proofs.RecordReadings.{argumentsOf-record}
 use Rattle.rules.specs.Refusal.{number, Result, _>>=_, orElse}
 use Rattle.rules.specs.Refusal.Outcome.{ok, refused}
@@ -38,7 +38,7 @@ use Rattle.disequality.specs.declared.disequality.Operation.the-variants
 use Rattle.disequality.specs.declared.disequality.Relation.the-variants as relation
 use Rattle.rules.proofs.ArgumentsLeft.{counted, next-below}
 use Rattle.rules.proofs.Results.{refuses}
-use Rattle.rules.proofs.ArgumentsBelow.{args-below}
+use Rattle.book.proofs.ArgumentsBelow.{args-below}
 
 -- ---- negate_operator
 

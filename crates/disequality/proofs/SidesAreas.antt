@@ -9,27 +9,27 @@ use lib.ListN.{length}
 use Rattle.numbers.specs.Bytes.{Bytes}
 use Rattle.terms.specs.Term.{Term, Terms}
 use Rattle.terms.specs.Book.{tree}
+use Rattle.terms.specs.Format.{workBytes}
 use Rattle.rules.specs.Refusal.{Result, _>>=_, orElse}
 use Rattle.rules.specs.Refusal.Outcome.{ok}
 use Rattle.rules.specs.Refusal.Refusal.{invalidDisequalityOp}
 use Rattle.rules.specs.Limits.{Limits}
-use Rattle.linear_comb.specs.LinearComb.{fromTerm}
-use Rattle.rules.specs.memory.Entries.{slots, stored, blanked, Held, Kept}
+use Rattle.linear_walk.specs.LinearTerms.{fromTerm}
+use Rattle.index_map.specs.memory.Entries.{slots, stored, blanked, Held, Kept}
 use Rattle.disequality.specs.Disequality.{inner, twoSides, negateDisequality, disequalityOf}
-use Rattle.linear_comb.specs.memory.WorkArea.{Sum, combOf, KeptSum, Walks, Apart, areaOf, withArea}
-use Rattle.linear_comb.specs.memory.WorkArea.{OnlyArea}
-use Rattle.linear_comb.specs.memory.WorkArea.{workBytes}
+use Rattle.linear_walk.specs.memory.Walks.{Walks}
+use Rattle.linear_comb.specs.memory.WorkArea.{Sum, combOf, KeptSum, Apart, areaOf, withArea, OnlyArea}
 use Rattle.rules.specs.memory.Parts.{Refuses}
 use Rattle.disequality.specs.memory.DisequalitySteps.{Between, relationOf, RelationIs, SidesLeft}
 use Rattle.disequality.specs.memory.DisequalitySteps.{LiteralIs, LiteralLeft, subtracted, SubtractedLeft}
-use Rattle.linear_comb.specs.declared.linear_walk.Walk.the-variants.{Done, Refused}
+use Rattle.linear_walk.specs.declared.linear_walk.Walk.the-variants.{Done, Refused}
 use Rattle.disequality.specs.declared.disequality.Relation.the-variants as relation
 use Rattle.disequality.specs.declared.disequality.Sides.{Sides}
 use Rattle.disequality.specs.declared.disequality.Sides.the-variants as sides
 use Rattle.disequality.specs.declared.disequality.Literal.{Literal}
 use Rattle.disequality.specs.declared.disequality.Literal.the-variants as literal
 use Rattle.rules.proofs.Results.{bind-same, bind-assoc, refuses-as}
-use Rattle.rules.proofs.StoredEntries.{held-length}
+use Rattle.index_map.proofs.StoredEntries.{held-length}
 use Rattle.linear_comb.proofs.Areas.{empty-length, empty-held}
 use Rattle.linear_comb.proofs.AreaSteps.{kept-sum, sum-comb, answer-has, emptied-held, emptied-only, two-areas, Both}
 use Rattle.linear_comb.proofs.AreaSteps.{both-then, both-none, both-apart, then-first, then-second}

@@ -19,17 +19,17 @@ use Rattle.numbers.specs.declared.number.Checked.the-variants as answer
 use Rattle.rules.specs.Refusal.{Result, _>>=_}
 use Rattle.rules.specs.Refusal.Outcome.{ok}
 use Rattle.rules.specs.Limits.{limited}
-use Rattle.rules.specs.IndexMap.{Map, combination}
+use Rattle.index_map.specs.IndexMap.{Map, combination}
 use Rattle.linear_comb.specs.LinearComb.{LinearComb, coefficientsGcd}
 use Rattle.disequality.specs.Disequality.{isIntegerTimes, raised, floored, strengthen}
 use Rattle.linear_comb.specs.memory.WorkArea.{Sum, combOf, combWith}
-use Rattle.rules.specs.memory.Entries.{Kept}
+use Rattle.index_map.specs.memory.Entries.{Kept}
 use Rattle.disequality.specs.memory.DisequalitySteps.{StrengthenedIs}
 use Rattle.disequality.specs.declared.disequality.Strengthened.{Strengthened}
 use Rattle.disequality.specs.declared.disequality.Strengthened.the-variants as stronger
 use Rattle.disequality.proofs.WholeProducts.{times-whole}
-use Rattle.rules.proofs.CheckedNumbers.{plus-value, plus-out}
-use Rattle.rules.proofs.StoredEntries.{kept-entries}
+use Rattle.index_map.proofs.CheckedNumbers.{plus-value, plus-out}
+use Rattle.index_map.proofs.StoredEntries.{kept-entries}
 
 -- ---- is_integer_times
 

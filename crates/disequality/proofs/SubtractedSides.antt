@@ -16,24 +16,21 @@ use Rattle.rules.specs.Refusal.{number, Result, _>>=_}
 use Rattle.rules.specs.Refusal.Outcome.{ok}
 use Rattle.rules.specs.Refusal.Refusal.{numberRange}
 use Rattle.rules.specs.Limits.{Limits}
-use Rattle.rules.specs.IndexMap.{Map, combination, negAll, neg, sub}
+use Rattle.index_map.specs.IndexMap.{Map, combination, negAll, neg, sub}
 use Rattle.linear_comb.specs.LinearComb.{LinearComb}
-use Rattle.rules.specs.memory.Entries.{terms, slots, stored, entriesOf, blanked, Held}
+use Rattle.index_map.specs.memory.Entries.{terms, slots, stored, entriesOf, blanked, Held}
 use Rattle.disequality.specs.Disequality.{turned, Disequality}
 use Rattle.linear_comb.specs.memory.WorkArea.{Sum, combOf, KeptSum, negated, Combines, Area, Apart, areaOf, withArea}
 use Rattle.linear_comb.specs.memory.WorkArea.{OnlyArea, SumHas}
-use Rattle.disequality.specs.memory.DisequalitySteps.{LiteralLeft}
-use Rattle.disequality.specs.memory.DisequalitySteps.{subtracted, SubtractedLeft}
+use Rattle.disequality.specs.memory.DisequalitySteps.{LiteralLeft, subtracted, SubtractedLeft}
 use Rattle.linear_comb.specs.declared.linear_comb.Combined.the-variants as combined
 use Rattle.disequality.specs.declared.disequality.Disequality as by-value
 use Rattle.disequality.specs.declared.disequality.Literal.{Literal}
 use Rattle.disequality.specs.declared.disequality.Literal.the-variants as literal
 use Rattle.rules.proofs.Results.{refuses}
-use Rattle.rules.proofs.StoredEntries.{kept-entries}
+use Rattle.index_map.proofs.StoredEntries.{kept-entries}
 use Rattle.linear_comb.proofs.Areas.{only-none}
-use Rattle.linear_comb.proofs.AreaSteps.{kept-sum, sum-comb, Both}
-use Rattle.linear_comb.proofs.AreaSteps.{then-first, second-emptied}
-use Rattle.linear_comb.proofs.AreaSteps.{in-first, both-written}
+use Rattle.linear_comb.proofs.AreaSteps.{kept-sum, sum-comb, Both, then-first, second-emptied, in-first, both-written}
 
 -- ---- turned
 

@@ -15,9 +15,10 @@ use Rattle.rules.specs.Refusal.{Result, orElse, _>>=_}
 use Rattle.rules.specs.Refusal.Outcome.{ok, refused}
 use Rattle.rules.specs.Refusal.Refusal.{invalidDisequalityOp, tooManyArgsInDisequality}
 use Rattle.rules.specs.Limits.{Limits, plus}
-use Rattle.rules.specs.IndexMap.{combination, neg, sub}
-use Rattle.linear_comb.specs.LinearComb.{LinearComb, coefficientsGcd, fromTerm}
-use Rattle.rules.specs.memory.Entries.{terms}
+use Rattle.index_map.specs.IndexMap.{combination, neg, sub}
+use Rattle.linear_walk.specs.LinearTerms.{fromTerm}
+use Rattle.linear_comb.specs.LinearComb.{LinearComb, coefficientsGcd}
+use Rattle.index_map.specs.memory.Entries.{terms}
 use Rattle.rules.specs.Shapes.{isRelation}
 
 unfoldable pub negateOperator : ℕ → Option ℕ

@@ -6,24 +6,24 @@ use Prim.Native.Nat.{ℕ, _-_, _%_, _≤_, _<_}
 use native.Mathlib.Nat.{sub-zero}
 use borrow.Author.Tests.{eq-eqb, ne-eqb, le-leb, lt-leb}
 use lib.ListN.{length, take}
-use Rattle.numbers.specs.Bytes.{Bytes}
-use Rattle.runs.specs.Check.{Marking, check}
-use Rattle.elaborate.specs.Elaborate.{Written, written, tailBytes, addSteps, elaborated, writtenPart}
-use Rattle.runs.specs.Answers.{area}
-use Rattle.runs.specs.memory.Lent.{stateOf, opening, openedOf, openedRefusal}
-use Rattle.numbers.specs.Bytes.{zeroedFrom}
-use Rattle.runs.specs.declared.check.State as by-value
-use Rattle.runs.specs.declared.check.Opened.{Opened}
-use Rattle.runs.specs.declared.check.Opened.the-variants as opened
-use Rattle.runs.proofs.CheckLoops.{endedAs, first}
-use Rattle.elaborate.specs.memory.OutAreas.{Stored, Holds}
+use Rattle.numbers.specs.Bytes.{Bytes, zeroedFrom}
+use Rattle.marking.specs.Check.{Marking, check}
+use Rattle.elaborate.specs.Elaborate.{addSteps, elaborated, writtenPart}
+use Rattle.out_areas.specs.Farkas.{Written, written, tailBytes}
+use Rattle.marking.specs.Answers.{area}
+use Rattle.marking.specs.memory.Lent.{stateOf, opening, openedOf, openedRefusal}
+use Rattle.marking.specs.declared.check.State as by-value
+use Rattle.marking.specs.declared.check.Opened.{Opened}
+use Rattle.marking.specs.declared.check.Opened.the-variants as opened
+use Rattle.marking.proofs.CheckLoops.{endedAs, first}
+use Rattle.out_areas.specs.memory.OutAreas.{Stored, Holds}
 use Rattle.elaborate.specs.memory.OutMemory.{Elaborates, Closes}
-use Rattle.elaborate.specs.declared.farkas.Out.{Out}
+use Rattle.out_areas.specs.declared.out_areas.Out.{Out}
 use Rattle.elaborate.specs.declared.elaborate.Elaborating.{Elaborating}
-use Rattle.elaborate.proofs.Memory.{tailBytes-length}
+use Rattle.out_areas.proofs.RealRecord.{tailBytes-length}
 use Rattle.elaborate.proofs.Unrefused.{answer-by}
-use Rattle.elaborate.proofs.OutAreas.{holds-none, holds-stored, holds-unfit}
-use Rattle.runs.proofs.EntryPoints.{stepsMarked, refused-is, opened-marked}
+use Rattle.out_areas.proofs.OutAreas.{holds-none, holds-stored, holds-unfit}
+use Rattle.marking.proofs.EntryPoints.{stepsMarked, refused-is, opened-marked}
 
 -- ---- after the last step
 

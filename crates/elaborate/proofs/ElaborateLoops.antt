@@ -12,23 +12,26 @@ use Rattle.rules.specs.Refusal.Outcome.{ok}
 use Rattle.rules.specs.Limits.{limited}
 use Rattle.rules.specs.memory.Parts.{Ready}
 use Rattle.runs.specs.Run.{Step, readRun, stepsOf}
-use Rattle.runs.specs.Check.{Accepted, Marking, State, turn, answered, checkSteps}
+use Rattle.steps.specs.CheckStep.{Accepted}
+use Rattle.marking.specs.Check.{Marking, State, turn, answered, checkSteps}
 use Rattle.runs.specs.memory.StepParts.{stepIn, bytesIn}
-use Rattle.runs.specs.memory.Lent.{Reached, stateOf}
-use Rattle.runs.specs.declared.check.State as by-value
-use Rattle.runs.specs.declared.check.Marked.{Marked}
+use Rattle.marking.specs.memory.Lent.{Reached, stateOf}
+use Rattle.marking.specs.declared.check.State as by-value
+use Rattle.marking.specs.declared.check.Marked.{Marked}
 use Rattle.runs.proofs.RunRecords.{partFrom}
-use Rattle.runs.proofs.CheckLoops.{Shows, answerTo, endedAs, placed, turn-same, turn-stays, turn-over, turn-done}
-use Rattle.runs.proofs.CheckLoops.{turn-answered, turn-refused, turn-accepted, first, OnTheWay, way-begins, way-goes}
-use Rattle.runs.proofs.CheckLoops.{turnsIn, way-less, way-marking, way-ends}
-use Rattle.elaborate.specs.Elaborate.{Written, written, addReals, addSteps}
-use Rattle.elaborate.specs.memory.OutAreas.{Holds, withStep, moreStep, steppedRefusal, SteppedIs, SteppedLeft}
+use Rattle.marking.proofs.CheckLoops.{Shows, answerTo, endedAs, placed, turn-same, turn-stays, turn-over, turn-done}
+use Rattle.marking.proofs.CheckLoops.{turn-answered, turn-refused, turn-accepted, first, OnTheWay, way-begins, way-goes}
+use Rattle.marking.proofs.CheckLoops.{turnsIn, way-less, way-marking, way-ends}
+use Rattle.elaborate.specs.Elaborate.{addSteps}
+use Rattle.out_areas.specs.Farkas.{Written, written, addReals}
+use Rattle.farkas.specs.memory.FarkasSteps.{moreStep, steppedRefusal, SteppedIs, SteppedLeft}
+use Rattle.out_areas.specs.memory.OutAreas.{Holds, withStep}
 use Rattle.elaborate.specs.memory.OutMemory.{ElaboratesTo, TurnsWritten, Elaborates}
-use Rattle.elaborate.specs.declared.farkas.Out.{Out}
-use Rattle.elaborate.specs.declared.farkas.Stepped.{Stepped}
-use Rattle.elaborate.specs.declared.farkas.Stepped.the-variants as stepped
+use Rattle.out_areas.specs.declared.out_areas.Out.{Out}
+use Rattle.farkas.specs.declared.farkas.Stepped.{Stepped}
+use Rattle.farkas.specs.declared.farkas.Stepped.the-variants as stepped
 use Rattle.elaborate.specs.declared.elaborate.Elaborating.{Elaborating}
-use Rattle.elaborate.proofs.OutAreas.{holds-back, holds-none}
+use Rattle.out_areas.proofs.OutAreas.{holds-back, holds-none}
 
 -- one step more
 adds-last :

@@ -9,24 +9,25 @@ use Prim.Native.Nat.{ℕ, _+_, _*_, _%_, _≤_}
 use native.Mathlib.Omega.{arith}
 use lib.ListN.{length}
 use Rattle.numbers.specs.Bytes.{Bytes}
-use Rattle.terms.proofs.Accepted.{accepted-count}
+use Rattle.book.proofs.Accepted.{accepted-count}
 use Rattle.rules.specs.Limits.{limited}
 use Rattle.runs.specs.Verdict.{Verdict, lent}
 use Rattle.runs.specs.Verdict.LentRefusal.{noRoom}
-use Rattle.runs.specs.Check.{Marking, check}
-use Rattle.elaborate.specs.Elaborate.{Written, written, addSteps, Answer, answer, fits, elaborated, elaborate}
+use Rattle.marking.specs.Check.{Marking, check}
+use Rattle.elaborate.specs.Elaborate.{addSteps, Answer, answer, elaborated, elaborate}
+use Rattle.out_areas.specs.Farkas.{Written, written, fits}
 use Rattle.elaborate.specs.Statements.{KnownState, Elaboration}
-use Rattle.elaborate.specs.LentMemory.{Memory, answerTo, memoryAfter, lent as lending}
-use Rattle.runs.specs.Answers.{zeros}
-use Rattle.elaborate.specs.LentMemory.{elaboratedOf}
+use Rattle.elaborate.specs.LentMemory.{Memory, answerTo, memoryAfter, lent as lending, elaboratedOf}
+use Rattle.marking.specs.Answers.{zeros}
 use Rattle.elaborate.specs.memory.OutMemory.{Elaborates, Closes}
 use Rattle.elaborate.specs.ElaborateEntry.{foundIn, ElaborateDone}
 use Rattle.elaborate.specs.declared.elaborate.Elaborating.{Elaborating}
 use Rattle.elaborate.specs.declared.elaborate.Elaborated.{Elaborated}
-use Rattle.elaborate.proofs.Memory.{tailBytes-length, demand1}
+use Rattle.elaborate.proofs.Memory.{demand1}
+use Rattle.out_areas.proofs.RealRecord.{tailBytes-length}
 use Rattle.elaborate.proofs.Unrefused.{markSteps, chosen, elaborate-is, Marked, unrefused, answer-is}
 use Rattle.elaborate.proofs.Elaboration.{part-written, demand3}
-use Rattle.elaborate.proofs.OutAreas.{Fit, fit-of}
+use Rattle.out_areas.proofs.OutAreas.{Fit, fit-of}
 use Rattle.elaborate.proofs.TailBook.{read-length}
 use Rattle.elaborate.proofs.WrittenRuns.{whole-run}
 use Rattle.elaborate.proofs.WrittenSteps.{steps-grow}

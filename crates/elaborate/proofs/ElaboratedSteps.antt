@@ -6,7 +6,7 @@ use mathlib.Core.Path.{_≡_, refl, sym, _∙_, ap, subst}
 use mathlib.Core.Bool.{Bool, true, false}
 use mathlib.Core.List.{List, [], _∷_, _++_}
 use mathlib.Core.Option.{Option, some, none}
-use Prim.Native.Nat.{ℕ, zero, suc, _+_, _<_}
+use Prim.Native.Nat.{ℕ, suc, _+_, _<_}
 use native.Mathlib.Omega.{arith}
 use lib.ListN.{length, length-append, getD}
 use Rattle.numbers.specs.Rational.{Rational, eqQ}
@@ -14,18 +14,18 @@ use Rattle.numbers.specs.Bytes.{Bytes}
 use Rattle.terms.specs.Term.{Term, recordNumber}
 use Rattle.terms.specs.Term.Term.{integer, rational, bitvector, atom, op}
 use Rattle.terms.specs.Book.{count, tree, readBook}
-use Rattle.terms.specs.declared.book.BookRead.the-variants.{Records}
+use Rattle.terms.specs.declared.reading.BookRead.the-variants.{Records}
 use Rattle.numbers.proofs.Truths.{never}
 use Rattle.numbers.proofs.Rationals.{eqQ-eq}
-use Rattle.terms.proofs.Accepted.{accepted-count}
-use Rattle.terms.proofs.BookTerms.{recordNumber-tree}
+use Rattle.book.proofs.Accepted.{accepted-count}
+use Rattle.terms.proofs.NumberedNodes.{recordNumber-tree}
 use Rattle.rules.specs.Limits.{Limits}
 use Rattle.runs.specs.Rule.Rule.{assume}
 use Rattle.runs.specs.Run.{Step, A, Every, end, also}
-use Rattle.runs.specs.Check.{Marking}
-use Rattle.elaborate.specs.Elaborate.{Written, written, isReal, findReal, placeIn, addReal, addReals, addSteps}
-use Rattle.elaborate.specs.Elaborate.{stepBytes, tailBytes}
-use Rattle.runs.proofs.Turns.{Marks, ends, stops, goes-on}
+use Rattle.marking.specs.Check.{Marking}
+use Rattle.elaborate.specs.Elaborate.{addSteps}
+use Rattle.out_areas.specs.Farkas.{Written, written, isReal, findReal, placeIn, addReal, addReals, stepBytes, tailBytes}
+use Rattle.marking.proofs.Turns.{Marks, ends, stops, goes-on}
 use Rattle.runs.proofs.RowRecords.{InBook}
 use Rattle.elaborate.proofs.EachRule.{laws}
 use Rattle.elaborate.proofs.WrittenRuns.{Writable, AllWritable}
@@ -33,7 +33,8 @@ use Rattle.elaborate.proofs.WrittenRuns.AllWritable.{none as no-step, o
 use Rattle.elaborate.proofs.WrittenSteps.{Added, in-book, in-tail, at-end, added, placeIn-append, placeIn-new}
 use Rattle.elaborate.proofs.WrittenSteps.{placeOf, realAt, reals, reals-grow, elaboratedStep, elaboratedSteps}
 use Rattle.elaborate.proofs.WrittenSteps.{steps-grow}
-use Rattle.elaborate.proofs.Everywhere.{every-append, every-weaker}
+use Rattle.out_areas.proofs.FoundReals.{found-real}
+use Rattle.out_areas.proofs.Everywhere.{every-append, every-weaker}
 use Rattle.elaborate.proofs.TailBook.{TailOf, tail-count, tail-old, tail-new}
 
 -- ---- each number has a place
@@ -78,21 +79,6 @@ module _ (b : Bytes) where
       (steps-placed xs x u)
 
 -- ---- the constant of a number is a term of the longer book
-
-pub found-real :
-    (k : ℕ) (b : Bytes) (q : Rational) (i j : ℕ) → findReal k b q i ≡ some j →
-    (j < i + k) × (isReal q (tree b j) ≡ true)
-unfolding findReal
-found-real zero b q i j e = let z : _≡_ {A = ℕ} 0 1 = cc in absurd (omega arith)
-found-real (suc k) b q i j e = go (isReal q (tree b i)) refl e (found-real k b q (suc i) j)
-  where
-    go :
-        (t : Bool) → isReal q (tree b i) ≡ t →
-        _≡_ {A = Option ℕ} (elim t [ true ↦ some i | false ↦ findReal k b q (suc i) ]) (some j) →
-        (findReal k b q (suc i) ≡ some j → (j < suc i + k) × (isReal q (tree b j) ≡ true)) →
-        (j < i + suc k) × (isReal q (tree b j) ≡ true)
-    go true f e rest = let h : i ≡ j = cc in (omega (arith, h), subst (λ x. isReal q (tree b x) ≡ true) h f)
-    go false f e rest = let h = rest e in (omega (arith, h .0), h .1)
 
 real-is : (t : Term) (q : Rational) → isReal q t ≡ true → t ≡ rational (recordNumber t) q
 real-is (integer i v) q e = never e

@@ -16,34 +16,35 @@ use Rattle.numbers.specs.Bytes.{Bytes}
 use Rattle.numbers.proofs.Truths.{never}
 use Rattle.terms.specs.Smtlib.{Assignment, holds}
 use Rattle.terms.specs.Book.{count}
-use Rattle.terms.proofs.Accepted.{accepted-count}
+use Rattle.book.proofs.Accepted.{accepted-count}
+use Rattle.terms.specs.Format.{maxRunRecords}
 use Rattle.rules.specs.Refusal.Outcome.{ok}
 use Rattle.rules.specs.Limits.{Limits, limited}
 use Rattle.rules.proofs.Yields.{at-ok}
 use Rattle.runs.specs.Verdict.{Verdict}
 use Rattle.runs.specs.Rule.{Rule, isRule}
 use Rattle.runs.specs.Rule.Rule.{assume, boundedFarkas}
-use Rattle.runs.specs.Run.{Step, readRun, maxRunRecords, Every, end, also}
-use Rattle.runs.specs.Check.{Marking, marking, mark}
-use Rattle.elaborate.specs.Elaborate.{Written, written, Answer, answer, addReals, addSteps, fits, elaborate}
-use Rattle.elaborate.specs.Elaborate.{tailBytes, writtenPart, elaboratedRule, stepBytes}
-use Rattle.runs.specs.Answers.{area}
+use Rattle.runs.specs.Run.{Step, readRun, Every, end, also}
+use Rattle.marking.specs.Check.{Marking, marking, mark}
+use Rattle.elaborate.specs.Elaborate.{Answer, answer, addSteps, elaborate, writtenPart}
+use Rattle.out_areas.specs.Farkas.{Written, written, addReals, fits, tailBytes, elaboratedRule, stepBytes}
+use Rattle.marking.specs.Answers.{area}
 use Rattle.elaborate.specs.Statements.{MeaningPremises, NoSurplus, writtenSteps, AcceptedAgain, clauses}
 use Rattle.elaborate.specs.Statements.{EveryClauseTrue}
 use Rattle.elaborate.specs.Demands.{SecondMarking, ClausesTrue, Demand3}
 use Rattle.elaborate.proofs.EachRule.{laws}
-use Rattle.elaborate.proofs.OutAreas.{Fit, fit-of, fits-of}
+use Rattle.out_areas.proofs.OutAreas.{Fit, fit-of, fits-of}
 use Rattle.elaborate.proofs.WrittenRuns.{plainBytes, runBytes, AllWritable, whole-run, run-read-back}
 use Rattle.elaborate.proofs.WrittenRuns.{read-writable}
 use Rattle.elaborate.proofs.WrittenSteps.{elaboratedSteps, steps-grow}
 use Rattle.elaborate.proofs.SecondMarking.{untraced, marked-again}
 use Rattle.elaborate.proofs.Truth.{AssumedTrue, AllTrue, accepted-true}
-use Rattle.elaborate.proofs.RealRecord.{Lacks}
+use Rattle.out_areas.proofs.RealRecord.{Lacks}
 use Rattle.elaborate.proofs.TailBook.{TailOf, tail-read, tail-count}
 use Rattle.elaborate.proofs.WrittenTail.{GoodTail, steps-good, no-tail-good}
 use Rattle.elaborate.proofs.Storing.{steps-stored, assumes-infer-nothing}
 use Rattle.elaborate.proofs.ElaboratedSteps.{Placed, steps-placed, elaborated-writable}
-use Rattle.elaborate.proofs.Everywhere.{every-weaker}
+use Rattle.out_areas.proofs.Everywhere.{every-weaker}
 use Rattle.elaborate.proofs.Unrefused.{Ran, markSteps, steps-marked, mark-is, ran-ordered, Marked, answered}
 use Rattle.elaborate.proofs.Unrefused.{unrefused, answer-is}
 

@@ -5,7 +5,6 @@ pub mod LinearLaws
 pub mod PolynomialLaws
 pub mod EachRule
 -- the demands: meaning
-pub mod Everywhere
 pub mod RunTerms
 pub mod Limits
 pub mod Words
@@ -19,21 +18,10 @@ pub mod WrittenSteps
 pub mod TailBook
 pub mod WrittenTail
 pub mod Storing
-pub mod RealRecord
 pub mod SecondMarking
 pub mod ElaboratedSteps
 pub mod Elaboration
--- the out areas, byte by byte
-pub mod OutAreas
-pub mod Pieces
-pub mod AddedPieces
-pub mod AddedReals
-pub mod RealBytes
-pub mod CopiedSteps
--- steps and runs in memory
-pub mod InferredUntil
-pub mod TracedFold
-pub mod ElaboratedStep
+-- runs in memory
 pub mod ElaborateLoops
 pub mod ClosedAreas
 pub mod ElaboratePromise

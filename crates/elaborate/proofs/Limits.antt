@@ -18,9 +18,11 @@ use Rattle.rules_theory.proofs.Limited.IsLimit.{ten, eleven, twelve}
 use Rattle.rules_theory.proofs.Limited._≼_.{equal, stopped}
 use Rattle.runs.specs.Verdict.{Verdict, isOfLimit, isLentOrLimit}
 use Rattle.runs.specs.Run.{Step}
-use Rattle.runs.specs.Check.{Accepted, Marking, checkStep, mark, lentOk, check}
-use Rattle.runs.proofs.Turns.{before, markFrom, next}
-use Rattle.elaborate.specs.Elaborate.{Answer, written, addSteps, fits, elaborated, elaborateUnder}
+use Rattle.steps.specs.CheckStep.{Accepted, checkStep}
+use Rattle.marking.specs.Check.{Marking, mark, lentOk, check}
+use Rattle.marking.proofs.Turns.{before, markFrom, next}
+use Rattle.elaborate.specs.Elaborate.{Answer, addSteps, elaborated, elaborateUnder}
+use Rattle.out_areas.specs.Farkas.{written, fits}
 use Rattle.elaborate.specs.Demands.{TheRustsAnswers, TheRustsMarking}
 use Rattle.elaborate.proofs.EachRule.{laws}
 use Rattle.elaborate.proofs.Unrefused.{Reads, reads, mark-is, elaborate-is}

@@ -7,7 +7,7 @@ use mathlib.Core.Logic.{_⊎_, inl, inr, ⊎-elim}
 use Prim.Native.Nat.{ℕ}
 use native.Mathlib.Omega.{arith}
 use Rattle.numbers.specs.Rational.{Rational}
-use Rattle.numbers.proofs.Truths.{never, both, T-true}
+use Rattle.numbers.proofs.Truths.{both, T-true}
 use Rattle.terms.specs.Term.{Term}
 use Rattle.rules.specs.Refusal.{_>>=_}
 use Rattle.rules.specs.Shapes.{Clause}
@@ -15,7 +15,7 @@ use Rattle.linear_arithmetic.specs.LinearArithmetic as rule
 use Rattle.linear_theory.specs.Premises.{allEven}
 use Rattle.alethe.specs.Alethe as Alethe
 use Rattle.alethe.specs.AletheDifferences.{NegativeEquality, QuotientBound}
-use Rattle.rules.proofs.Yields.{known, past, and-then, at-ok}
+use Rattle.rules.proofs.Yields.{known, and-then, at-ok}
 use Rattle.rules.proofs.Yields.Yields.{gives}
 use Rattle.rules_theory.proofs.Limited.{bind}
 use Rattle.rules_theory.proofs.Limited._≼_.{equal}
@@ -26,16 +26,16 @@ use Rattle.linear_theory.proofs.TautologyConverse.{tautology-not-refused}
 use Rattle.linear_theory.proofs.GenericForm.{laGeneric-form, laGenericPartial-form, trace-lowest}
 use Rattle.linear_theory.proofs.GenericValid.{bounded-farkas-valid, generic-step-valid}
 use Rattle.linear_theory.proofs.GenericConverse.{generic-not-refused}
-use Rattle.linear_theory.proofs.Inferred.{laGeneric-again, laGeneric-infers-nothing}
+use Rattle.linear_theory.proofs.Inferred.{laGeneric-again}
 use Rattle.linear_theory.proofs.InferredNumbers.{AllInRange, partial-in-range}
 use Rattle.runs.specs.Rule.{ruleNumber}
 use Rattle.runs.specs.Rule.Rule.{laTautology, laGeneric, boundedFarkas}
 use Rattle.runs.specs.Run.{Step, Every, end, also}
-use Rattle.runs.specs.Check.{accepted, traced, checkRule}
+use Rattle.steps.specs.CheckStep.{accepted, traced, checkRule}
 use Rattle.elaborate.specs.Statements.{MeaningPremises}
 use Rattle.elaborate.specs.Demands.{Differs}
 use Rattle.elaborate.specs.Demands.Differs.{negativeEquality, quotientBound}
-use Rattle.elaborate.proofs.RealRecord.{Storable}
+use Rattle.out_areas.proofs.RealRecord.{Storable}
 use Rattle.elaborate.proofs.RuleLaws.{RuleLaws, Inference, infers-nothing, refused-before, OnLiteral, one-meets}
 use Rattle.elaborate.proofs.RuleLaws.{one-words, one-valid}
 
@@ -78,7 +78,7 @@ module _ (ps : List Clause) (c : Clause) (args : List Term) where
             ⊎-elim inl (λ d. inr (tautology-differs by c (m .literal) (m .alone) d))
             (one-words tautology k (λ m. m) by m l n r e);
         sound = λ k qs h g m ρ a t. one-valid tautology k m ρ;
-        infers = infers-nothing refl refl λ l n. past _ λ m. gives refl;
+        infers = infers-nothing refl refl;
       }
 
   pub generic-laws : RuleLaws laGeneric ps c args
@@ -97,7 +97,7 @@ module _ (ps : List Clause) (c : Clause) (args : List Term) where
         sound = λ k inferred h g (qs, (x, y)) ρ a t.
             generic-step-valid (k .closed) c (k .clause) (even _ g) args (k .given) inferred
             (T-true _ (g .whole tt)) qs x y ρ;
-        infers = infers-nothing refl refl λ l n. and-then (laGeneric-infers-nothing l c args n) λ p h. gives h;
+        infers = infers-nothing refl refl;
       }
 
   farkas-inference : Inference boundedFarkas ps c args
@@ -107,7 +107,6 @@ module _ (ps : List Clause) (c : Clause) (args : List Term) where
         notFarkas = refl;
         stays = refl;
         assumed = λ e. let z : _≡_ {A = ℕ} 5 0 = ap ruleNumber e in absurd (omega arith);
-        nothing = λ l n e. never (sym e);
         stored = λ k limit n.
             known (rule.laGenericPartial _ c args n) λ p e.
             gives

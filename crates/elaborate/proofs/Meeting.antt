@@ -8,11 +8,12 @@ use Rattle.numbers.specs.Bytes.{Bytes}
 use Rattle.rules.specs.Limits.{limited}
 use Rattle.alethe.specs.Alethe.{carcara}
 use Rattle.runs.specs.Run.{Step, Every, stepsOf, end}
-use Rattle.runs.specs.Check.{checkStep, mark}
-use Rattle.runs.proofs.Turns.{accepted-each}
+use Rattle.steps.specs.CheckStep.{checkStep}
+use Rattle.marking.specs.Check.{mark}
+use Rattle.marking.proofs.Turns.{accepted-each}
 use Rattle.elaborate.specs.Demands.{Meets, MeetsAlethe, Demand2}
 use Rattle.elaborate.proofs.EachRule.{laws}
-use Rattle.elaborate.proofs.Everywhere.{every-weaker}
+use Rattle.out_areas.proofs.Everywhere.{every-weaker}
 use Rattle.elaborate.proofs.Limits.{the-rusts-answers, the-rusts-marking}
 use Rattle.elaborate.proofs.Unrefused.{Ran, Reads, markSteps, steps-marked, reads, mark-is, listed, ran-of-book}
 use Rattle.elaborate.proofs.Unrefused.{known-in}

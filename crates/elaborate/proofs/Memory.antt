@@ -5,28 +5,28 @@
 -- such a verdict, since no rule gives one.
 use mathlib.Core.Path.{_≡_, refl, sym, ap, _∙_}
 use mathlib.Core.Bool.{Bool, true, false}
-use mathlib.Core.List.{List, [], _∷_, _++_}
-use Prim.Native.Nat.{ℕ, _+_, _*_, _-_, _≤_}
+use mathlib.Core.List.{List, [], _++_}
+use Prim.Native.Nat.{ℕ, _-_, _≤_}
 use native.Mathlib.Omega.{arith}
 use native.Mathlib.Nat.{sub-zero}
 use lib.Dec.{T}
 use lib.ListN.{length, replicate, length-append, length-replicate}
 use Rattle.numbers.proofs.Truths.{never}
-use Rattle.numbers.specs.Rational.{Rational}
-use Rattle.numbers.specs.Bytes.{Bytes, bytesOf}
+use Rattle.numbers.specs.Bytes.{Bytes}
 use Rattle.rules.specs.Limits.{Limits, limited}
 use Rattle.runs.specs.Verdict.{Verdict, lent, isLent}
 use Rattle.runs.specs.Verdict.LentRefusal.{noRoom}
 use Rattle.runs.specs.Run.{Step}
-use Rattle.runs.specs.Check.{Marking, mark, lentOk, check}
-use Rattle.runs.proofs.Turns.{Marks, ends, stops, goes-on}
-use Rattle.elaborate.specs.Elaborate.{Written, Answer, answer, realRecord, tailBytes, written, addSteps, fits}
-use Rattle.elaborate.specs.Elaborate.{elaborated, elaborate}
-use Rattle.runs.specs.Answers.{area}
+use Rattle.marking.specs.Check.{Marking, mark, lentOk, check}
+use Rattle.marking.proofs.Turns.{Marks, ends, stops, goes-on}
+use Rattle.elaborate.specs.Elaborate.{Answer, answer, addSteps, elaborated, elaborate}
+use Rattle.out_areas.specs.Farkas.{Written, tailBytes, written, fits}
+use Rattle.marking.specs.Answers.{area}
 use Rattle.elaborate.specs.Statements.{KnownState}
 use Rattle.elaborate.specs.Demands.{Demand1, TraceMakesNoDifference, checkOf}
 use Rattle.elaborate.specs.LentMemory.{Memory, answerTo, memoryAfter}
-use Rattle.elaborate.proofs.OutAreas.{Fit, fit-of, none-fits}
+use Rattle.out_areas.proofs.OutAreas.{Fit, fit-of, none-fits}
+use Rattle.out_areas.proofs.RealRecord.{tailBytes-length}
 use Rattle.elaborate.proofs.Unrefused.{steps-marked, Reads, reads, mark-is, checked, elaborate-is}
 use Rattle.elaborate.proofs.Unrefused.Reads.{not-read, is-read}
 
@@ -57,12 +57,6 @@ check-no-steps book run limit work = go (lentOk work limit)
     go false h = refl
 
 -- ---- an answer to a marking
-
--- a record has 32 bytes
-pub tailBytes-length : (qs : List Rational) → length (tailBytes qs) ≡ 32 * length qs
-unfolding tailBytes realRecord bytesOf
-tailBytes-length [] = refl
-tailBytes-length (q ∷ qs) = omega (arith, tailBytes-length qs)
 
 no-tail : tailBytes [] ≡ []
 unfolding tailBytes

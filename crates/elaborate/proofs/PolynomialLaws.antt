@@ -8,10 +8,11 @@ use Rattle.numbers.proofs.Truths.{T-true}
 use Rattle.terms.specs.Term.{Term}
 use Rattle.terms.specs.Smtlib.{Assignment, isTrue, value, holds}
 use Rattle.rules.specs.Shapes.{Clause}
+use Rattle.polynomial_rel.specs.PolySimpRel as rel
 use Rattle.poly_simp.specs.PolySimp as rules
 use Rattle.alethe.specs.Alethe as Alethe
 use Rattle.alethe.specs.AletheDifferences.{VanishingMonomial}
-use Rattle.rules.proofs.Yields.{known, past}
+use Rattle.rules.proofs.Yields.{known}
 use Rattle.rules.proofs.Yields.Yields.{gives}
 use Rattle.rules_theory.proofs.Limited.{bind}
 use Rattle.rules_theory.proofs.Limited._≼_.{equal}
@@ -23,7 +24,7 @@ use Rattle.polynomial_theory.proofs.RelationRule.{poly-simp-rel-literals, poly-
 use Rattle.polynomial_theory.proofs.RelationConverse.{poly-simp-rel-limited}
 use Rattle.polynomial_theory.proofs.RelationSound.{poly-simp-rel-sound}
 use Rattle.runs.specs.Rule.Rule.{polySimp, polySimpRel}
-use Rattle.runs.specs.Check.{checkRule}
+use Rattle.steps.specs.CheckStep.{checkRule}
 use Rattle.elaborate.specs.Demands.{Differs}
 use Rattle.elaborate.specs.Demands.Differs.{vanishingMonomial}
 use Rattle.elaborate.proofs.RuleLaws.{RuleLaws, only-premise, literal-known, premise-known, infers-nothing}
@@ -60,7 +61,7 @@ module _ (ps : List Clause) (c : Clause) (args : List Term) where
             ⊎-elim inl (λ d. inr (subst (Differs by polySimp) (sym (m .alone)) (vanishingMonomial (m .literal) d)))
             (one-words simp k (λ m. m) by m l n r e);
         sound = λ k qs h g m ρ a t. one-valid simp k m ρ;
-        infers = infers-nothing refl refl λ l n. past _ λ m. gives refl;
+        infers = infers-nothing refl refl;
       }
 
   -- the premise is a literal of an earlier step
@@ -70,7 +71,7 @@ module _ (ps : List Clause) (c : Clause) (args : List Term) where
       record {
         limits = λ l n. bind (polySimpRel-limited l c ps) λ u. equal _;
         meets = λ k l n.
-            known (rules.polySimpRel l c ps) λ u e.
+            known (rel.polySimpRel l c ps) λ u e.
             let x = poly-simp-rel-literals l c ps e in
             gives (
               x .premise,
@@ -82,18 +83,18 @@ module _ (ps : List Clause) (c : Clause) (args : List Term) where
                   says =
                       poly-simp-rel-form (k .closed) l (x .premise) (x .phi)
                       (premise-known k (x .premise) (x .premises)) (literal-known k (x .phi) (x .conclusion))
-                      (sym (ap₂ (rules.polySimpRel l) (x .conclusion) (x .premises)) ∙ e);
+                      (sym (ap₂ (rel.polySimpRel l) (x .conclusion) (x .premises)) ∙ e);
                 },
               ),
             );
         words = λ k by (premise, (named, m)) w l n r e.
             inl
             (poly-simp-rel-limited by premise (m .literal) (m .says) l r
-            (sym (ap₂ (rules.polySimpRel l) (m .alone) named) ∙ refused-before _ _ e));
+            (sym (ap₂ (rel.polySimpRel l) (m .alone) named) ∙ refused-before _ _ e));
         sound = λ k qs h g (premise, (named, m)) ρ a t.
             subst (λ (d : Clause). T (holds ρ d)) (sym (m .alone))
             (to-literal ρ (m .literal)
             (poly-simp-rel-sound Alethe.carcara (k .closed .formed premise (premise-known k premise named)) (m .says) ρ
             (of-literal ρ premise (only-premise named t))));
-        infers = infers-nothing refl refl λ l n. past _ λ u. gives refl;
+        infers = infers-nothing refl refl;
       }

@@ -12,7 +12,7 @@ use lib.Dec.{T}
 use Rattle.numbers.specs.Rational.{Rational}
 use Rattle.terms.specs.Term.{Term}
 use Rattle.terms.specs.Smtlib.{Assignment, holds}
-use Rattle.terms.proofs.BookTerms.{Closed}
+use Rattle.book.proofs.BookTerms.{Closed}
 use Rattle.rules.specs.Refusal.{Refusal, Result, _>>=_}
 use Rattle.rules.specs.Refusal.Outcome.{ok, refused}
 use Rattle.rules.specs.Limits.{Limits, theRust, limited}
@@ -27,11 +27,12 @@ use Rattle.linear_theory.proofs.Inferred.Reals.{end as no-more}
 use Rattle.runs.specs.Rule.{Rule, isRule}
 use Rattle.runs.specs.Rule.Rule.{assume, boundedFarkas}
 use Rattle.runs.specs.Run.{step, Every, end, also}
-use Rattle.runs.specs.Check.{Accepted, accepted, checkRule}
-use Rattle.elaborate.specs.Elaborate.{elaboratedRule}
+use Rattle.steps.specs.CheckStep.{Accepted, accepted, checkRule}
+use Rattle.out_areas.specs.Farkas.{elaboratedRule}
 use Rattle.elaborate.specs.Statements.{MeaningPremises, NoSurplus}
 use Rattle.elaborate.specs.Demands.{OneLiteral, meetsRule, Comparable, Differs}
-use Rattle.elaborate.proofs.RealRecord.{Storable}
+use Rattle.farkas.proofs.NothingInferred.{rule-infers-nothing}
+use Rattle.out_areas.proofs.RealRecord.{Storable}
 
 -- the terms are of a book, or of another class that is closed
 pub record Known (ps : List Clause) (c : Clause) (args : List Term) : Type 1 where
@@ -61,9 +62,6 @@ pub record Inference (r : Rule) (ps : List Clause) (c : Clause) (args : List Ter
   pub notFarkas : isRule boundedFarkas (elaboratedRule r) ≡ false
   pub stays : elaboratedRule (elaboratedRule r) ≡ elaboratedRule r
   pub assumed : elaboratedRule r ≡ assume → r ≡ assume
-  -- nothing but by rule 6
-  pub nothing :
-      (l : Limits) (n : ℕ) → isRule boundedFarkas r ≡ false → Yields (λ a. a .inferred ≡ []) (checkRule r l ps c args n)
   -- numbers that can be stored as constants
   pub stored :
       Known ps c args → (limit n : ℕ) →
@@ -101,19 +99,19 @@ no-reals : {ts : List Term} → Reals ts [] → ts ≡ []
 no-reals no-more = refl
 
 module _ {r : Rule} {ps : List Clause} {c : Clause} {args : List Term} where
-  pub infers-nothing :
-      elaboratedRule r ≡ r → isRule boundedFarkas r ≡ false →
-      ((l : Limits) (n : ℕ) → Yields (λ a. a .inferred ≡ []) (checkRule r l ps c args n)) → Inference r ps c args
-  infers-nothing same other h =
+  pub infers-nothing : elaboratedRule r ≡ r → isRule boundedFarkas r ≡ false → Inference r ps c args
+  infers-nothing same other =
       record {
         notFarkas = rw same other;
         stays = ap elaboratedRule same;
         assumed = λ e. sym same ∙ e;
-        nothing = λ l n e. h l n;
         stored = λ k limit n. weaker (λ a e. subst (Every Storable) (sym e) end) (h (limited limit) n);
         again = λ l n g. by-answer _ λ a e ts reals. repeats l n a e ts reals;
       }
     where
+      h : (l : Limits) (n : ℕ) → Yields (λ a. a .inferred ≡ []) (checkRule r l ps c args n)
+      h l n = rule-infers-nothing l r ps c args n other
+
       repeats :
           (l : Limits) (n : ℕ) (a : Accepted) → checkRule r l ps c args n ≡ ok a → (ts : List Term) →
           Reals ts (a .inferred) →

@@ -7,15 +7,15 @@ use Prim.Native.Nat.{ℕ, suc, _<_}
 use Rattle.numbers.specs.Bytes.{Bytes}
 use Rattle.terms.specs.Term.{Term}
 use Rattle.terms.specs.Book.{count}
-use Rattle.terms.proofs.BookTerms.{Closed, OfBook}
+use Rattle.book.proofs.BookTerms.{Closed, OfBook}
 use Rattle.rules.proofs.Yields.{Yields, weaker}
 use Rattle.linear_theory.proofs.Arguments.{EachOf}
 use Rattle.runs.specs.Rule.Rule.{assume}
 use Rattle.runs.specs.Run.{Step, step, readRun, Every, end, also}
-use Rattle.runs.specs.Check.{clausesOf}
+use Rattle.steps.specs.CheckStep.{clausesOf}
 use Rattle.runs.proofs.RowRecords.{InBook}
 use Rattle.elaborate.proofs.RuleLaws.{Known}
-use Rattle.elaborate.proofs.Everywhere.{every-weaker, every-getD}
+use Rattle.out_areas.proofs.Everywhere.{every-weaker, every-getD}
 use Rattle.elaborate.proofs.WrittenRuns.{AllWritable, read-writable}
 use Rattle.elaborate.proofs.WrittenRuns.AllWritable.{none as no-step, one as one-step}
 

@@ -14,8 +14,9 @@ use Rattle.rules.proofs.Yields.{at-ok}
 use Rattle.linear_theory.proofs.Inferred.{Reals}
 use Rattle.runs.specs.Verdict.{Verdict}
 use Rattle.runs.specs.Run.{Step, Every, end, also}
-use Rattle.runs.specs.Check.{Accepted, accepted, clausesOf, checkStep, Marking, marking}
-use Rattle.runs.proofs.Turns.{before, markFrom, next, Marks, ends, stops, goes-on}
+use Rattle.steps.specs.CheckStep.{Accepted, accepted, clausesOf, checkStep}
+use Rattle.marking.specs.Check.{Marking, marking}
+use Rattle.marking.proofs.Turns.{before, markFrom, next, Marks, ends, stops, goes-on}
 use Rattle.elaborate.specs.Statements.{NoSurplus}
 use Rattle.elaborate.proofs.EachRule.{laws}
 use Rattle.elaborate.proofs.RunTerms.{Ordered, one, no-such-step}

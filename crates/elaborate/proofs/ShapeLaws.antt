@@ -3,13 +3,12 @@ use mathlib.Core.Path.{_≡_, refl, sym, _∙_}
 use mathlib.Core.List.{List, [], _∷_}
 use mathlib.Core.Logic.{inl, ⊎-elim}
 use Rattle.terms.specs.Term.{Term}
-use Rattle.terms.proofs.BookTerms.{Closed}
+use Rattle.book.proofs.BookTerms.{Closed}
 use Rattle.rules.specs.Refusal.{Result}
 use Rattle.rules.specs.Refusal.Outcome.{ok}
 use Rattle.rules.specs.Shapes.{Clause}
-use Rattle.linear_arithmetic.specs.LinearArithmetic as rule
+use Rattle.linear_shapes.specs.LinearShapes as rule
 use Rattle.alethe.specs.Alethe as Alethe
-use Rattle.rules.proofs.Yields.{past}
 use Rattle.rules.proofs.Yields.Yields.{gives}
 use Rattle.rules_theory.proofs.Limited._≼_.{equal}
 use Rattle.linear_theory.proofs.ShapeRules.{rw-eq-literal, rw-eq-shape, rw-eq-valid, disequality-literal}
@@ -17,7 +16,7 @@ use Rattle.linear_theory.proofs.ShapeRules.{disequality-shape, disequality-vali
 use Rattle.linear_theory.proofs.ShapeRules.{totality-valid}
 use Rattle.linear_theory.proofs.ShapeConverse.{rw-eq-accepted, disequality-accepted, totality-accepted}
 use Rattle.runs.specs.Rule.Rule.{assume, laRwEq, laDisequality, laTotality}
-use Rattle.runs.specs.Check.{checkRule}
+use Rattle.steps.specs.CheckStep.{checkRule}
 use Rattle.elaborate.proofs.RuleLaws.{RuleLaws, infers-nothing, not-refused, OnLiteral, one-meets, one-words}
 use Rattle.elaborate.proofs.RuleLaws.{one-valid}
 
@@ -58,7 +57,7 @@ module _ (ps : List Clause) (c : Clause) (args : List Term) where
         meets = λ k l n. gives tt;
         words = λ k by m w l n r e. not-refused e;
         sound = λ k qs h g m ρ a t. a refl;
-        infers = infers-nothing refl refl λ l n. gives refl;
+        infers = infers-nothing refl refl;
       }
 
   pub rw-eq-laws : RuleLaws laRwEq ps c args
@@ -69,7 +68,7 @@ module _ (ps : List Clause) (c : Clause) (args : List Term) where
         meets = λ k l n. one-meets rw-eq k (λ u. n) l n;
         words = λ k by m w l n r e. ⊎-elim inl absurd (one-words rw-eq k (λ u. n) by m l n r e);
         sound = λ k qs h g m ρ a t. one-valid rw-eq k m ρ;
-        infers = infers-nothing refl refl λ l n. past _ λ u. gives refl;
+        infers = infers-nothing refl refl;
       }
 
   pub disequality-laws : RuleLaws laDisequality ps c args
@@ -80,7 +79,7 @@ module _ (ps : List Clause) (c : Clause) (args : List Term) where
         meets = λ k l n. one-meets disequality k (λ u. n) l n;
         words = λ k by m w l n r e. ⊎-elim inl absurd (one-words disequality k (λ u. n) by m l n r e);
         sound = λ k qs h g m ρ a t. one-valid disequality k m ρ;
-        infers = infers-nothing refl refl λ l n. past _ λ u. gives refl;
+        infers = infers-nothing refl refl;
       }
 
   pub totality-laws : RuleLaws laTotality ps c args
@@ -91,5 +90,5 @@ module _ (ps : List Clause) (c : Clause) (args : List Term) where
         meets = λ k l n. one-meets totality k (λ u. n) l n;
         words = λ k by m w l n r e. ⊎-elim inl absurd (one-words totality k (λ u. n) by m l n r e);
         sound = λ k qs h g m ρ a t. one-valid totality k m ρ;
-        infers = infers-nothing refl refl λ l n. past _ λ u. gives refl;
+        infers = infers-nothing refl refl;
       }

@@ -14,24 +14,22 @@ use lib.Dec.{leb, eqb}
 use lib.ListN.{length, getD, take, length-append}
 use lib.Seq.{take-all, drop-at}
 use Rattle.numbers.specs.Rational.{Rational, eqQ}
-use Rattle.numbers.specs.Bytes.{Bytes}
+use Rattle.numbers.specs.Bytes.{Bytes, sameBytes}
 use Rattle.terms.specs.Term.{sort, sortCode}
 use Rattle.terms.specs.Term.Term.{rational}
-use Rattle.terms.specs.Book.{count, recordOf, tree, stands, recordRead, readRecords, readBook}
+use Rattle.terms.specs.Book.{count, recordOf, tree, stands, recordRead, readRecords, readBook, sizeOk}
 use Rattle.terms.specs.Format.{maxRecords}
-use Rattle.numbers.specs.Bytes.{sameBytes}
-use Rattle.terms.specs.Book.{sizeOk}
-use Rattle.terms.specs.declared.book.BookRefusal.the-variants.{BookSize}
-use Rattle.terms.specs.declared.book.BookRead.the-variants.{Records, RefusedAt}
-use Rattle.terms.specs.declared.book.RecordRead.the-variants.{Sorted}
+use Rattle.terms.specs.declared.reading.BookRefusal.the-variants.{BookSize}
+use Rattle.terms.specs.declared.reading.BookRead.the-variants.{Records, RefusedAt}
+use Rattle.terms.specs.declared.reading.RecordRead.the-variants.{Sorted}
 use Rattle.numbers.proofs.Truths.{both, never}
 use Rattle.numbers.proofs.Rationals.{eqQ-eq, eqQ-refl}
 use Rattle.terms.proofs.Trees.{recordOf-inside, recordOf-append, tree-append}
-use Rattle.terms.proofs.Accepted.{Accepted, accepted, accepted-count}
-use Rattle.elaborate.specs.Elaborate.{realRecord, tailBytes, isReal}
+use Rattle.book.proofs.Accepted.{Accepted, accepted, accepted-count}
+use Rattle.out_areas.specs.Farkas.{realRecord, tailBytes, isReal}
 use Rattle.runs.specs.Run.{end, also, Every}
-use Rattle.elaborate.proofs.Everywhere.{every-both}
-use Rattle.elaborate.proofs.RealRecord.{Storable, Lacks, length-real, real-tree, real-new, real-layout}
+use Rattle.out_areas.proofs.Everywhere.{every-both}
+use Rattle.out_areas.proofs.RealRecord.{Storable, Lacks, length-real, real-tree, real-new, real-layout}
 
 -- ---- a book that is read
 

@@ -10,21 +10,22 @@ use lib.ListN.{length, length-append, getD, List·getD-append}
 use Rattle.numbers.specs.Rational.{Rational}
 use Rattle.numbers.specs.Bytes.{Bytes}
 use Rattle.terms.specs.Smtlib.{Assignment, holds}
-use Rattle.terms.proofs.BookTerms.{OfBook}
+use Rattle.book.proofs.BookTerms.{OfBook}
 use Rattle.rules.specs.Limits.{Limits, limited}
 use Rattle.rules.specs.Shapes.{Clause}
 use Rattle.alethe.specs.Alethe.{carcara}
 use Rattle.linear_theory.proofs.Arguments.{EachLowest}
 use Rattle.runs.specs.Rule.Rule.{assume}
 use Rattle.runs.specs.Run.{Step, Every, stepsOf, end, also}
-use Rattle.runs.specs.Check.{Marking, clausesOf, mark}
-use Rattle.runs.proofs.Turns.{Marks, ends, stops, goes-on}
+use Rattle.steps.specs.CheckStep.{clausesOf}
+use Rattle.marking.specs.Check.{Marking, mark}
+use Rattle.marking.proofs.Turns.{Marks, ends, stops, goes-on}
 use Rattle.elaborate.specs.Statements.{MeaningPremises}
 use Rattle.elaborate.specs.Demands.{Meets}
 use Rattle.elaborate.proofs.EachRule.{laws}
-use Rattle.elaborate.proofs.Everywhere.{every-both, every-append, every-at}
+use Rattle.out_areas.proofs.Everywhere.{every-both, every-append, every-at}
 use Rattle.elaborate.proofs.Meeting.{meets-alethe}
-use Rattle.elaborate.proofs.RealRecord.{Storable}
+use Rattle.out_areas.proofs.RealRecord.{Storable}
 use Rattle.elaborate.proofs.RunTerms.{Ordered, one, StepOf, no-such-step}
 use Rattle.elaborate.proofs.Storing.{steps-stored}
 use Rattle.elaborate.proofs.Unrefused.{Ran, Reads, markSteps, steps-marked, mark-is, reads, listed, ran-of-book}

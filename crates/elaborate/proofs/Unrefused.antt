@@ -9,10 +9,10 @@ use lib.Dec.{T}
 use lib.ListN.{length}
 use Rattle.numbers.specs.Bytes.{Bytes}
 use Rattle.terms.specs.Book.{readBook}
-use Rattle.terms.specs.declared.book.BookRead.{BookRead}
-use Rattle.terms.specs.declared.book.BookRead.the-variants.{Records, RefusedAt}
-use Rattle.terms.proofs.Accepted.{accepted-count}
-use Rattle.terms.proofs.BookTerms.{OfBook, book-closed}
+use Rattle.terms.specs.declared.reading.BookRead.{BookRead}
+use Rattle.terms.specs.declared.reading.BookRead.the-variants.{Records, RefusedAt}
+use Rattle.book.proofs.Accepted.{accepted-count}
+use Rattle.book.proofs.BookTerms.{OfBook, book-closed}
 use Rattle.rules.specs.Refusal.{Outcome}
 use Rattle.rules.specs.Refusal.Outcome.{ok, refused}
 use Rattle.rules.specs.Limits.{Limits, limited}
@@ -20,11 +20,12 @@ use Rattle.rules.proofs.Yields.{at-ok}
 use Rattle.runs.specs.Verdict.{LentRefusal, Verdict, lent, isLent}
 use Rattle.runs.specs.Verdict.LentRefusal.{workAreaOrLimit, ofBook, noRoom}
 use Rattle.runs.specs.Run.{Step, readRun, stepsOf, Every}
-use Rattle.runs.specs.Check.{Marking, nothingMarked, clausesOf, markRun, mark, lentOk, check}
-use Rattle.runs.proofs.Turns.{markFrom, checkSteps-from, Marks, marks, markBook}
-use Rattle.elaborate.specs.Elaborate.{Answer, answer, written, addSteps, tailBytes, fits, elaborated}
-use Rattle.elaborate.specs.Elaborate.{elaborateUnder, elaborate}
-use Rattle.elaborate.proofs.OutAreas.{none-fits}
+use Rattle.steps.specs.CheckStep.{clausesOf}
+use Rattle.marking.specs.Check.{Marking, nothingMarked, markRun, mark, lentOk, check}
+use Rattle.marking.proofs.Turns.{markFrom, checkSteps-from, Marks, marks, markBook}
+use Rattle.elaborate.specs.Elaborate.{Answer, answer, addSteps, elaborated, elaborateUnder, elaborate}
+use Rattle.out_areas.specs.Farkas.{written, tailBytes, fits}
+use Rattle.out_areas.proofs.OutAreas.{none-fits}
 use Rattle.elaborate.proofs.RunTerms.{StepOf, Ordered, known-step, run-of-book, run-ordered}
 use Rattle.elaborate.proofs.RuleLaws.{Known}
 

@@ -15,11 +15,12 @@ use Rattle.alethe.specs.Alethe.{Departures}
 use Rattle.rules_theory.proofs.Limited.{IsLimit, ten, eleven, twelve}
 use Rattle.runs.specs.Verdict.{Verdict, isOfRule}
 use Rattle.runs.specs.Run.{Step, stepsOf}
-use Rattle.runs.specs.Check.{Marking, checkStep, mark}
-use Rattle.runs.proofs.Turns.{Marks, ends, stops, goes-on}
+use Rattle.steps.specs.CheckStep.{checkStep}
+use Rattle.marking.specs.Check.{Marking, mark}
+use Rattle.marking.proofs.Turns.{Marks, ends, stops, goes-on}
 use Rattle.elaborate.specs.Demands.{Meets, Differs, Comparable, WordsAccepted}
 use Rattle.elaborate.proofs.EachRule.{laws}
-use Rattle.elaborate.proofs.Everywhere.{every-getD}
+use Rattle.out_areas.proofs.Everywhere.{every-getD}
 use Rattle.elaborate.proofs.RunTerms.{no-such-step, none-of}
 use Rattle.elaborate.proofs.Unrefused.{Free, Ran, markSteps, steps-marked, mark-is, free-ran, listed}
 use Rattle.elaborate.proofs.Unrefused.{ran-of-book, known-in}

@@ -2,7 +2,7 @@
 -- run that is read is writable (`read-writable`). A step's bytes are its S record and the rows of P, C and A
 -- records; the marks differ and the next step opens with S, so the rows are parted again. Every number goes
 -- into two bytes: a book has 2048 records at most, and a premise is below the number of steps. What is written
--- has whole records (`whole-step`, `whole-run`).
+-- has whole records (`whole-run`).
 use mathlib.Core.Path.{_≡_, refl, sym, _∙_, ap, subst}
 use mathlib.Core.Bool.{Bool, true, false, not, _&&_, _||_}
 use mathlib.Core.List.{List, [], _∷_, _++_, append-assoc}
@@ -15,27 +15,26 @@ use Rattle.numbers.specs.Bytes.{Bytes, bytesOf}
 use Rattle.terms.specs.Term.{Term, recordNumber}
 use Rattle.terms.specs.Book.{count}
 use Rattle.numbers.proofs.Truths.{both, never}
+use Rattle.terms.specs.Format.{maxRunRecords}
 use Rattle.rules.specs.Refusal.{_>>=_, assert, orElse}
 use Rattle.rules.specs.Refusal.Outcome.{ok}
 use Rattle.rules.proofs.Yields.{Yields, and-then, past, guarded}
 use Rattle.rules.proofs.Yields.Yields.{gives, refuses}
 use Rattle.runs.specs.Rule.{Rule, ruleNumber, isRule}
 use Rattle.runs.specs.Rule.Rule.{assume}
-use Rattle.runs.specs.Run.{Step, step, Rec, S, P, C, A, rec, recs, allRight, isEmpty, shapeOk, numbersOf, termsOf}
-use Rattle.runs.specs.Run.{headRule, readStep, readSteps, readRun, maxRunRecords, Every, recordBytes, premiseBytes}
-use Rattle.runs.specs.Run.{termBytes}
-use Rattle.elaborate.specs.Elaborate.{elaboratedRule, stepBytes}
+use Rattle.runs.specs.Run.{Step, Rec, S, P, C, A, rec, recs, allRight, isEmpty, shapeOk, numbersOf, termsOf}
+use Rattle.runs.specs.Run.{headRule, readStep, readSteps, readRun, Every, recordBytes, premiseBytes, termBytes}
 use Rattle.runs.proofs.Rules.{rule-back, same-rule}
 use Rattle.runs.proofs.RowRecords.{numberBytes, marked, recordNumbers, premises-are-numbers, terms-are-numbers}
 use Rattle.runs.proofs.RowRecords.{length-numberBytes, Small, recs-record, recs-numbers, Elsewhere, elsewhere-marked}
 use Rattle.runs.proofs.RowRecords.{parted, every-number, all-right, right-numbers, numbers-back, length-marked, InBook}
 use Rattle.runs.proofs.RowRecords.{isLiteral, number-inside, tree-of-number, terms-back, every-term, Literal}
 use Rattle.runs.proofs.RowRecords.{length-terms, in-book, literal}
-use Rattle.elaborate.proofs.Everywhere.{every-weaker}
+use Rattle.out_areas.proofs.Everywhere.{every-weaker}
 
 -- ---- a run as bytes
 
--- `stepBytes` of specs/Elaborate without the change of the rule
+-- `stepBytes` of farkas' specs/Farkas without the change of the rule
 unfoldable pub plainBytes : Step → Bytes
 plainBytes s =
     recordBytes S (ruleNumber (s .rule)) 0
@@ -193,12 +192,6 @@ recordsOf s =
 length-step : (s : Step) → length (plainBytes s) ≡ 4 * recordsOf s
 unfolding recordsOf bytesOf
 length-step s = simp (step-is-rows s, length-append, length-numberBytes) (omega arith)
-
--- whole records
-pub whole-step : (s : Step) → length (stepBytes s) % 4 ≡ 0
-unfolding plainBytes stepBytes
-whole-step s =
-    omega (arith, length-step (step (elaboratedRule (s .rule)) (s .premises) (s .clause) (s .args)))
 
 -- as many whole records as steps, at least
 record Quarters (ss : List Step) : Type 0 where

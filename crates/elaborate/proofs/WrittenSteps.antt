@@ -20,8 +20,9 @@ use Rattle.terms.specs.Book.{count}
 use Rattle.numbers.proofs.Rationals.{eqQ-refl}
 use Rattle.runs.specs.Rule.{ruleNumber}
 use Rattle.runs.specs.Run.{Step, S, C, A, step, recordBytes, premiseBytes, termBytes}
-use Rattle.elaborate.specs.Elaborate.{Written, written, findReal, placeIn, withTail, addReal, addReals, addSteps}
-use Rattle.elaborate.specs.Elaborate.{elaboratedRule, stepBytes}
+use Rattle.elaborate.specs.Elaborate.{addSteps}
+use Rattle.out_areas.specs.Farkas.{Written, written, findReal, placeIn, withTail, addReal, addReals}
+use Rattle.out_areas.specs.Farkas.{elaboratedRule, stepBytes}
 use Rattle.elaborate.proofs.WrittenRuns.{plainBytes, runBytes}
 
 -- ---- places in a tail

@@ -14,11 +14,12 @@ use Rattle.numbers.specs.Rational.{Rational, eqQ}
 use Rattle.numbers.specs.Bytes.{Bytes}
 use Rattle.terms.specs.Book.{count, tree}
 use Rattle.runs.specs.Run.{Step, A, Every, end, also}
-use Rattle.elaborate.specs.Elaborate.{Written, isReal, findReal, placeIn, addReal, addReals, addSteps}
-use Rattle.elaborate.proofs.RealRecord.{Storable, Lacks}
+use Rattle.elaborate.specs.Elaborate.{addSteps}
+use Rattle.out_areas.specs.Farkas.{Written, isReal, findReal, placeIn, addReal, addReals}
+use Rattle.out_areas.proofs.RealRecord.{Storable, Lacks}
 use Rattle.elaborate.proofs.WrittenSteps.{Added, in-book, in-tail, at-end, added}
 use Rattle.elaborate.proofs.TailBook.{Differ}
-use Rattle.elaborate.proofs.Everywhere.{every-append}
+use Rattle.out_areas.proofs.Everywhere.{every-append}
 use Rattle.elaborate.proofs.TailBook.Differ.{none as no-more, one as one-more}
 
 -- ---- the book lacks what is not found in it

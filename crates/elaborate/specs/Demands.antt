@@ -24,7 +24,8 @@ use Rattle.runs.specs.Rule.{Rule}
 use Rattle.runs.specs.Rule.Rule.{assume, laRwEq, laDisequality, laTotality, laTautology, laGeneric, boundedFarkas}
 use Rattle.runs.specs.Rule.Rule.{polySimp, polySimpRel}
 use Rattle.runs.specs.Run.{Step, step, stepsOf, Every}
-use Rattle.runs.specs.Check.{Marking, mark, check, clausesOf}
+use Rattle.steps.specs.CheckStep.{clausesOf}
+use Rattle.marking.specs.Check.{Marking, mark, check}
 use Rattle.elaborate.specs.Elaborate.{elaborateUnder, elaborate}
 use Rattle.elaborate.specs.LentMemory.{Memory, answerTo, memoryAfter}
 use Rattle.elaborate.specs.Statements.{KnownState, MeaningPremises, NoSurplus, AllPremises, writtenSteps}

@@ -9,7 +9,7 @@ use Rattle.numbers.specs.Bytes.{Bytes}
 use Rattle.terms.specs.Format.{recordBytes, maxRecords}
 use Rattle.rules.specs.Limits.{limited}
 use Rattle.runs.specs.Verdict.{Verdict, isLent}
-use Rattle.runs.specs.Check.{mark}
+use Rattle.marking.specs.Check.{mark}
 use Rattle.elaborate.specs.Elaborate.{Answer, answer, writtenPart}
 use Rattle.elaborate.specs.LentMemory.{Memory, answerTo, elaboratedOf, memoryAfter}
 use Rattle.elaborate.specs.Statements.{KnownState, AllPremises, Elaboration}

@@ -4,7 +4,7 @@ use lib.ListN.{length}
 use Rattle.numbers.specs.Bytes.{Bytes}
 use Rattle.elaborate.specs.Elaborate.{Answer, elaborate}
 use Rattle.runs.specs.Verdict.{verdictNumber}
-use Rattle.runs.specs.Answers.{area, zeros}
+use Rattle.marking.specs.Answers.{area, zeros}
 use Rattle.elaborate.specs.declared.elaborate.Elaborated.{Elaborated}
 
 -- what a caller lends

@@ -14,7 +14,7 @@ use Rattle.linear_theory.specs.Premises.{allEven, wholeCoefficients, wholeLiter
 use Rattle.runs.specs.Rule.{isRule}
 use Rattle.runs.specs.Rule.Rule.{laGeneric, boundedFarkas}
 use Rattle.runs.specs.Run.{Step}
-use Rattle.runs.specs.Check.{mark}
+use Rattle.marking.specs.Check.{mark}
 
 -- even divs, whole numbers, no surplus arguments
 abbrev pub Tests : Type 0

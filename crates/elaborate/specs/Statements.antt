@@ -18,7 +18,7 @@ use Rattle.runs.specs.Verdict.{LentRefusal, Verdict, isLent}
 use Rattle.runs.specs.Rule.{isRule}
 use Rattle.runs.specs.Rule.Rule.{assume, laGeneric, boundedFarkas}
 use Rattle.runs.specs.Run.{Step, readRun, Every}
-use Rattle.runs.specs.Answers.{area, zeros}
+use Rattle.marking.specs.Answers.{area, zeros}
 use Rattle.elaborate.specs.Elaborate.{Answer, answer, elaborate, writtenPart}
 use Rattle.elaborate.specs.LentMemory.{Memory}
 

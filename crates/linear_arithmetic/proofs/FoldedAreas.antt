@@ -17,23 +17,24 @@ use Rattle.terms.specs.Book.{count, tree}
 use Rattle.rules.specs.Refusal.{Result}
 use Rattle.rules.specs.Refusal.Outcome.{ok}
 use Rattle.rules.specs.Limits.{Limits, limited}
-use Rattle.rules.specs.IndexMap.{Map}
-use Rattle.linear_arithmetic.specs.LinearArithmetic.{Progress, processDisequality, readArgs}
+use Rattle.index_map.specs.IndexMap.{Map}
+use Rattle.process_disequality.specs.ProcessDisequality.{Progress, processDisequality}
+use Rattle.linear_arithmetic.specs.LinearArithmetic.{readArgs}
 use Rattle.rules.specs.Shapes.{Clause}
 use Rattle.linear_comb.specs.memory.WorkArea.{areaOf, OnlyArea, Area, SumHas}
-use Rattle.rules.specs.memory.Entries.{Held, CoefficientIs}
-use Rattle.linear_arithmetic.specs.memory.LinearSteps.{givenOf, progressOf, progressWith, at, ProcessedIs}
-use Rattle.linear_arithmetic.specs.memory.LinearSteps.{ProcessedLeft, foldSome, AllNumbers, foldRead, FoldedLeft}
-use Rattle.linear_arithmetic.specs.memory.LinearSteps.{Folding, processedRefusal}
+use Rattle.index_map.specs.memory.Entries.{Held, CoefficientIs}
+use Rattle.process_disequality.specs.memory.ProcessSteps.{givenOf, progressOf, progressWith, ProcessedIs}
+use Rattle.process_disequality.specs.memory.ProcessSteps.{ProcessedLeft, Folding, processedRefusal}
+use Rattle.linear_arithmetic.specs.memory.LinearSteps.{at, foldSome, AllNumbers, foldRead, FoldedLeft}
 use Rattle.rules.specs.memory.Parts.{numbersIn, termsIn, Inside}
 use Rattle.disequality.specs.memory.DisequalitySteps.{Between}
-use Rattle.rules.specs.declared.index_map.Coefficient.{Coefficient}
-use Rattle.rules.specs.declared.index_map.Coefficient.the-variants.{Of, Missing}
-use Rattle.linear_arithmetic.specs.declared.process_disequality.Processed.{Processed}
-use Rattle.linear_arithmetic.specs.declared.process_disequality.Processed.the-variants as processed
+use Rattle.index_map.specs.declared.index_map.Coefficient.{Coefficient}
+use Rattle.index_map.specs.declared.index_map.Coefficient.the-variants.{Of, Missing}
+use Rattle.process_disequality.specs.declared.process_disequality.Processed.{Processed}
+use Rattle.process_disequality.specs.declared.process_disequality.Processed.the-variants as processed
 use Rattle.linear_arithmetic.specs.declared.linear_arithmetic.Folded.{Folded}
 use Rattle.linear_arithmetic.specs.declared.linear_arithmetic.Folded.the-variants as folded
-use Rattle.linear_arithmetic.specs.declared.process_disequality.Progress as by-value
+use Rattle.process_disequality.specs.declared.process_disequality.Progress as by-value
 use Rattle.linear_comb.proofs.Areas.{Within, within-sorts, within-only, only-other, only-then, only-none}
 use Rattle.linear_comb.proofs.AreaSteps.{kept-sum, sum-entries}
 use Rattle.rules.proofs.Results.{next, ends, refuses-as, asserted-passes}

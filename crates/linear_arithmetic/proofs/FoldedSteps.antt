@@ -17,16 +17,18 @@ use Rattle.terms.specs.Term.{Term}
 use Rattle.rules.specs.Refusal.{Refusal, Result, _>>=_}
 use Rattle.rules.specs.Refusal.Outcome.{ok, refused}
 use Rattle.rules.specs.Limits.{Limits}
-use Rattle.rules.specs.IndexMap.{add}
+use Rattle.index_map.specs.IndexMap.{add}
 use Rattle.linear_comb.specs.LinearComb.{LinearComb, mul}
-use Rattle.rules.specs.memory.Entries.{terms, CoefficientIs}
-use Rattle.linear_arithmetic.specs.LinearArithmetic.{Progress, progress, inferred, argumentOf, strengthened}
-use Rattle.linear_arithmetic.specs.LinearArithmetic.{scalar, processDisequality, foldLiterals}
+use Rattle.index_map.specs.memory.Entries.{terms, CoefficientIs}
+use Rattle.process_disequality.specs.ProcessDisequality.{Progress, progress, inferred, argumentOf, strengthened}
+use Rattle.process_disequality.specs.ProcessDisequality.{scalar, processDisequality}
+use Rattle.linear_arithmetic.specs.LinearArithmetic.{foldLiterals}
 use Rattle.disequality.specs.Disequality.{disequalityOf}
 use Rattle.rules.specs.Shapes.{Clause}
-use Rattle.linear_arithmetic.specs.memory.LinearSteps.{foldSome, at, givenOf}
-use Rattle.rules.specs.declared.index_map.Coefficient.{Coefficient}
-use Rattle.rules.specs.declared.index_map.Coefficient.the-variants.{Of, Missing}
+use Rattle.process_disequality.specs.memory.ProcessSteps.{givenOf}
+use Rattle.linear_arithmetic.specs.memory.LinearSteps.{foldSome, at}
+use Rattle.index_map.specs.declared.index_map.Coefficient.{Coefficient}
+use Rattle.index_map.specs.declared.index_map.Coefficient.the-variants.{Of, Missing}
 use Rattle.rules.proofs.Results.{next, ends, bind-same, bind-assoc}
 use Rattle.rules.proofs.Yields.{Yields, gives, at-ok, and-then, past}
 

@@ -12,14 +12,14 @@ use Rattle.numbers.specs.Choice.{if_then_else_}
 use Rattle.terms.specs.Operator.{Equals, GreaterThan}
 use Rattle.rules.specs.Refusal.{number}
 use Rattle.rules.specs.Refusal.Refusal.{disequalityIsNotContradiction}
-use Rattle.rules.specs.IndexMap.{isEmpty}
+use Rattle.index_map.specs.IndexMap.{isEmpty}
 use Rattle.linear_arithmetic.specs.LinearArithmetic.{isTrueAtZero, isTautology}
 use Rattle.disequality.specs.Disequality.{disequality}
 use Rattle.linear_comb.specs.memory.WorkArea.{combOf}
-use Rattle.rules.specs.memory.Entries.{entriesOf}
+use Rattle.index_map.specs.memory.Entries.{entriesOf}
 use Rattle.linear_arithmetic.specs.memory.LinearSteps.{contradicts}
 use Rattle.disequality.specs.declared.disequality.Disequality.{Disequality}
-use Rattle.linear_arithmetic.specs.declared.process_disequality.Progress.{Progress}
+use Rattle.process_disequality.specs.declared.process_disequality.Progress.{Progress}
 use Rattle.rules.specs.declared.verdict.Verdict.the-variants.{Accepted, Refused}
 
 -- ---- 0 in its relation to the right side

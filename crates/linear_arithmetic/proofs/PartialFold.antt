@@ -1,108 +1,53 @@
--- `la_generic_partial`: the fold goes on from each number that is inferred, until all literals are done.
---     partialEnd       where the rule's fold ends
---     PartSoFar, part-unread, part-begin, part-length, part-few, rest-folds, part-less, part-fits       its loop
+-- The loop of `la_generic_partial`: the fold goes on from each number that is inferred, until all literals are done.
+--     PartSoFar, part-begin, part-length, part-few, rest-folds, part-less, part-fits       the loop
 --     Rested, part-clear, part-refused, part-done, inferred-proper, part-more, part-again       one turn of it
---     Ended, ended-trace, refused-end, done-end       the numbers that the loop inferred, where it ends
---     generic-unequal, generic-equal       `la_generic`
+--     refused-end, done-end       where it ends
 use mathlib.Core.Path.{_≡_, refl, sym, ap, subst, _∙_}
-use mathlib.Core.Bool.{Bool, true, false, _&&_, not, cond}
 use mathlib.Core.List.{List, [], _∷_, _++_, append-nil}
 use mathlib.Core.Option.{Option, some, none}
-use Prim.Native.Nat.{ℕ, suc, _+_, _*_, _-_, _/_, _≤_, _<_}
+use Prim.Native.Nat.{ℕ, _+_, _*_, _-_, _/_, _≤_, _<_}
 use native.Mathlib.Omega.{arith}
 use borrow.Author.Needs.{fits-under}
-use borrow.Author.Tests.{eq-eqb, ne-eqb}
 use mir.Syntax.{w64}
 use mir.Val.{Fits}
-use lib.Dec.{eqb}
 use lib.IntN.{pos}
 use lib.ListN.{length, drop, length-drop, drop-of-length-le}
 use lib.Seq.{drop-drop}
 use Rattle.numbers.specs.Rational.{Rational, Proper, whole}
 use Rattle.numbers.specs.Bytes.{Bytes}
 use Rattle.terms.specs.Operator.{Equals}
-use Rattle.terms.specs.Term.{Term}
-use Rattle.rules.specs.Refusal.{Refusal, Result, _>>=_, assert, number}
+use Rattle.terms.specs.Format.{maxRunBytes}
+use Rattle.rules.specs.Refusal.{Refusal, Result}
 use Rattle.rules.specs.Refusal.Outcome.{ok, refused}
-use Rattle.rules.specs.Refusal.Refusal.{wrongNumberOfArgs, disequalityIsNotContradiction}
-use Rattle.rules.specs.Limits.{Limits, limited}
-use Rattle.rules.specs.IndexMap.{Map, isEmpty, new}
-use Rattle.linear_arithmetic.specs.LinearArithmetic.{Progress, progress, readArgs, isTrueAtZero, laGenericPartial}
-use Rattle.linear_arithmetic.specs.LinearArithmetic.{laGeneric}
+use Rattle.process_disequality.specs.ProcessDisequality.{Progress}
+use Rattle.linear_arithmetic.specs.LinearArithmetic.{readArgs}
 use Rattle.rules.specs.Shapes.{Clause}
-use Rattle.linear_comb.specs.memory.WorkArea.{areaOf, withArea, Area, SumHas}
-use Rattle.rules.specs.memory.Entries.{slots, stored, entriesOf, blanked}
+use Rattle.linear_comb.specs.memory.WorkArea.{areaOf, withArea, Area}
+use Rattle.index_map.specs.memory.Entries.{slots, stored, entriesOf, blanked}
 use Rattle.rules.specs.memory.Parts.{Ready, numbersIn, termsIn, Inside, assertedOf, verdictOf}
-use Rattle.linear_arithmetic.specs.memory.LinearSteps.{maxRunBytes, visitsOf, progressOf, progressWith, foldSome}
-use Rattle.linear_arithmetic.specs.memory.LinearSteps.{AllNumbers, foldRead, FoldedIs, FoldedLeft, contradicts}
-use Rattle.linear_arithmetic.specs.memory.LinearSteps.{Folding}
+use Rattle.process_disequality.specs.memory.ProcessSteps.{progressOf, progressWith, Folding}
+use Rattle.linear_arithmetic.specs.memory.LinearSteps.{visitsOf, foldSome, AllNumbers, foldRead, FoldedIs}
+use Rattle.linear_arithmetic.specs.memory.LinearSteps.{FoldedLeft, contradicts}
 use Rattle.linear_arithmetic.specs.declared.linear_arithmetic.Folded.{Folded}
 use Rattle.linear_arithmetic.specs.declared.linear_arithmetic.Folded.the-variants as folded
-use Rattle.linear_arithmetic.specs.declared.process_disequality.Progress as by-value
-use Rattle.rules.specs.declared.verdict.Asserted.{Asserted}
-use Rattle.rules.specs.declared.verdict.Asserted.the-variants as asserted
+use Rattle.process_disequality.specs.declared.process_disequality.Progress as by-value
 use Rattle.rules.specs.declared.verdict.Verdict.{Verdict}
 use Rattle.rules.specs.declared.verdict.Verdict.the-variants as verdict
-use Rattle.rules.proofs.CheckedNumbers.{whole-proper}
-use Rattle.rules.proofs.StoredEntries.{kept-small}
-use Rattle.rules.proofs.Yields.{Yields, gives, refuses, and-then, past}
-use Rattle.rules.proofs.Results.{next, ends, bind-same, bind-assoc, refuses-as, refused-then}
-use Rattle.rules.proofs.Results.{asserted-refuses, refused-verdict}
+use Rattle.index_map.proofs.CheckedNumbers.{whole-proper}
+use Rattle.index_map.proofs.StoredEntries.{kept-small}
+use Rattle.rules.proofs.Results.{next, ends, refuses-as, refused-then, refused-verdict}
 use Rattle.linear_comb.proofs.AreaSteps.{kept-sum}
 use Rattle.rules.proofs.RunParts.{length-numbersIn, length-termsIn, termsIn-drop, inside-drop}
 use Rattle.linear_arithmetic.proofs.ReadParts.{readArgs-drop}
-use Rattle.linear_arithmetic.proofs.FoldedSteps.{later, foldEnd, resultOf, endLater, end-later, fold-ended}
-use Rattle.linear_arithmetic.proofs.FoldedSteps.{GoesOn, Goes, some-goes}
+use Rattle.linear_arithmetic.proofs.FoldedSteps.{later, foldEnd, endLater, end-later, GoesOn, Goes, some-goes}
 use Rattle.linear_arithmetic.proofs.FoldedAreas.{Given, limitsOf, clauseOf, between-only, Reached, reached-begin}
 use Rattle.linear_arithmetic.proofs.FoldedAreas.{reached-length, reached-only, reached-again}
 use Rattle.linear_arithmetic.proofs.Emptied.{ready-folding, emptied, cleared}
-
--- ---- the rule by where its fold ends
-
--- all arguments are read before the first literal
-abbrev pub partialEnd : Limits → Clause → List Term → ℕ → Result (Progress × Option Refusal)
-partialEnd l clause args n = readArgs l args >>= λ qs. ok (foldEnd l clause qs (progress Equals new [] n))
-
--- the last line
-abbrev isContradiction : Progress → Result Progress
-isContradiction p =
-    assert (isEmpty (p .acc .entries) && not (isTrueAtZero (p .operator) (p .acc .constant)))
-    disequalityIsNotContradiction
-    >>= λ u. ok p
-
-partial-ended :
-    (l : Limits) (clause : Clause) (args : List Term) (n : ℕ) →
-    laGenericPartial l clause args n ≡ (partialEnd l clause args n >>= λ e. resultOf e >>= isContradiction)
-unfolding laGenericPartial _>>=_
-partial-ended l clause args n =
-    bind-same (readArgs l args)
-    (λ qs. ap (λ z. z >>= isContradiction) (fold-ended l clause qs (progress Equals new [] n)))
-    ∙ sym (bind-assoc (readArgs l args) _ _)
-
-empty-map : (m : Map Term) → isEmpty m ≡ eqb (length m) 0
-empty-map [] = sym (eq-eqb 0 0 refl)
-empty-map (e ∷ m) = sym (ne-eqb (suc (length m)) 0 (λ h. omega arith))
-
-last-line :
-    (q : by-value.Progress) (m : Map Term) (t : List Rational) → SumHas (q .acc) m →
-    contradicts q ≡ verdictOf (visitsOf (isContradiction (later t (progressWith q m []))))
-unfolding assert _>>=_
-last-line q m t has =
-    rw (empty-map m, ← has .size) (go (eqb (q .acc .len) 0 && not (isTrueAtZero (q .operator) (q .acc .constant))))
-  where
-    go :
-        (s : Bool) →
-        cond s (verdict.Accepted (q .visits)) (verdict.Refused (number disequalityIsNotContradiction)) ≡
-        verdictOf (visitsOf (assert s disequalityIsNotContradiction >>= λ u. ok (later t (progressWith q m []))))
-    go true = refl
-    go false = refl
+use Rattle.linear_arithmetic.proofs.PartialEnd.{last-line, endOf, Judged, Ended, partial-by}
 
 -- ---- the loop
 
--- where the whole fold ends, and from where it stands with t inferred
-abbrev pub endOf : Given → ℕ → Result (Progress × Option Refusal)
-endOf g v = partialEnd (limitsOf g) (clauseOf g) (termsIn (g .book) (g .args)) v
-
+-- where it ends from where it stands, with t inferred
 abbrev onwardWith : Given → List Rational → Clause → List Rational → Progress → ℕ → Result (Progress × Option Refusal)
 onwardWith g t clause qs p k = ok (foldEnd (limitsOf g) clause qs (later t p))
 
@@ -127,44 +72,6 @@ pub record Rested (g : Given) (w : Bytes) (p : by-value.Progress) (done : ℕ) (
 pub record More (g : Given) (done k : ℕ) : Type 0 where
   pub some : 0 < k
   pub within : done + k ≤ length (g .literals) / 4
-
-abbrev pub partialOf : Given → ℕ → Result Progress
-partialOf g v = laGenericPartial (limitsOf g) (clauseOf g) (termsIn (g .book) (g .args)) v
-
--- what is promised of the answer r, with the bytes w
-abbrev Judged : Given → ℕ → Bytes → Verdict → Type 0
-Judged g v w r = (r ≡ verdictOf (visitsOf (partialOf g v))) × (w ≡ g .work)
-
--- the numbers that the whole fold infers are t
-pub record Ended (g : Given) (v : ℕ) (t : List Rational) : Type 0 where
-  pub last : Progress
-  pub stop : Option Refusal
-  pub is : endOf g v ≡ ok (last, stop)
-  pub trace : last .trace ≡ t
-
-partial-by :
-    (g : Given) (v : ℕ) {e : Progress × Option Refusal} → endOf g v ≡ ok e →
-    partialOf g v ≡ (resultOf e >>= isContradiction)
-partial-by g v is = partial-ended _ _ _ v ∙ next _ is
-
--- and so are those of an answer
-pub ended-trace : {g : Given} {v : ℕ} {t : List Rational} → Ended g v t → Yields (λ s. s .trace ≡ t) (partialOf g v)
-ended-trace {g} {v} {t} e =
-    subst (Yields (λ s. s .trace ≡ t)) (sym (partial-by g v (e .is)))
-    (and-then (reached (e .stop)) λ p same. past _ λ u. gives same)
-  where
-    reached : (stop : Option Refusal) → Yields (λ p. p .trace ≡ t) (resultOf (e .last, stop))
-    reached (some c) = refuses
-    reached none = gives (e .trace)
-
--- an argument is no number
-pub part-unread :
-    (g : Given) (v : ℕ) {c : ℕ} {r : Asserted} →
-    ((n : ℕ) → r ≡ assertedOf (readArgs (limited n) (termsIn (g .book) (g .args)))) → r ≡ asserted.Refused c →
-    Judged g v (g .work) (verdict.Refused c)
-part-unread g v r-is e =
-    let stopped = asserted-refuses _ (sym e ∙ r-is (g .limit)) in
-    (refused-verdict (refused-then _ (refuses-as stopped λ d f. partial-ended _ _ _ v ∙ ends _ (ends _ f))), refl)
 
 pub part-begin :
     (g : Given) (v : ℕ) → AllNumbers (g .limit) (g .book) (g .args) → Ready (g .book) (g .work) →
@@ -370,26 +277,3 @@ module _
                 reached-again (far .reached) (rest-left .held) (rest-left .only)
                 (said (folded.Inferred q x k) e .1 .0) (part-more .within) further;
           }
-
--- ---- `la_generic`: as many arguments as literals
-
-module _ (b literals args : Bytes) (v l : ℕ) where
-  pub generic-unequal :
-      (length args / 4 ≡ length literals / 4 → ⊥) →
-      verdict.Refused (number wrongNumberOfArgs) ≡
-      verdictOf (visitsOf (laGeneric (limited l) (termsIn b literals) (termsIn b args) v))
-  unfolding laGeneric assert _>>=_
-  generic-unequal h = rw (length-termsIn b args, length-termsIn b literals, ne-eqb _ _ h, laGeneric)
-
-  equal-counts :
-      length args / 4 ≡ length literals / 4 →
-      laGenericPartial (limited l) (termsIn b literals) (termsIn b args) v ≡
-      laGeneric (limited l) (termsIn b literals) (termsIn b args) v
-  unfolding laGeneric assert _>>=_
-  equal-counts h = rw (length-termsIn b args, length-termsIn b literals, eq-eqb _ _ h, laGeneric)
-
-  pub generic-equal :
-      length args / 4 ≡ length literals / 4 → (a : Verdict) →
-      a ≡ verdictOf (visitsOf (laGenericPartial (limited l) (termsIn b literals) (termsIn b args) v)) →
-      a ≡ verdictOf (visitsOf (laGeneric (limited l) (termsIn b literals) (termsIn b args) v))
-  generic-equal h a a-is = a-is ∙ ap (λ r. verdictOf (visitsOf r)) (equal-counts h)

@@ -16,8 +16,8 @@ use Rattle.rules.specs.Refusal.{Result, _>>=_}
 use Rattle.rules.specs.Refusal.Outcome.{ok, refused}
 use Rattle.rules.specs.Limits.{Limits, limited, fractionErr}
 use Rattle.linear_arithmetic.specs.LinearArithmetic.{readArgs}
-use Rattle.rules.specs.memory.Entries.{CoefficientIs}
-use Rattle.rules.specs.declared.index_map.Coefficient.the-variants.{Of}
+use Rattle.index_map.specs.memory.Entries.{CoefficientIs}
+use Rattle.index_map.specs.declared.index_map.Coefficient.the-variants.{Of}
 use Rattle.linear_arithmetic.specs.memory.LinearSteps.{at}
 use Rattle.rules.specs.memory.Parts.{Refuses, Expects, numbersIn, named, termsIn, assertedOf}
 use Rattle.rules.specs.declared.readers.Expected.{Expected}

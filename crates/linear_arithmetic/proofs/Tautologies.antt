@@ -19,11 +19,12 @@ use Rattle.rules.specs.Refusal.{Result, _>>=_, assert, number}
 use Rattle.rules.specs.Refusal.Outcome.{ok, refused}
 use Rattle.rules.specs.Refusal.Refusal.{wrongLengthOfClause, disequalityIsNotTautology}
 use Rattle.rules.specs.Limits.{limited}
-use Rattle.linear_arithmetic.specs.LinearArithmetic.{isTautology, tautologyCase, laTautology}
+use Rattle.linear_shapes.specs.LinearShapes.{tautologyCase}
+use Rattle.linear_arithmetic.specs.LinearArithmetic.{isTautology, laTautology}
 use Rattle.disequality.specs.Disequality.{Disequality, disequality, disequalityOf}
 use Rattle.rules.specs.Shapes.{onlyLiteral}
 use Rattle.linear_comb.specs.memory.WorkArea.{areaOf, withArea, combOf, Area, AreaCount, combWith}
-use Rattle.rules.specs.memory.Entries.{slots, stored, Kept, blanked}
+use Rattle.index_map.specs.memory.Entries.{slots, stored, Kept, blanked}
 use Rattle.rules.specs.memory.Parts.{Ready, numbersIn, named, termsIn, Inside, assertedOf, after, verdictOf}
 use Rattle.linear_arithmetic.specs.memory.LinearSteps.{tautologyOf}
 use Rattle.disequality.specs.memory.DisequalitySteps.{literalRefusal, LiteralIs, LiteralLeft}
@@ -33,8 +34,8 @@ use Rattle.disequality.specs.declared.disequality.Literal.the-variants as liter
 use Rattle.rules.specs.declared.verdict.Asserted.{Asserted}
 use Rattle.rules.specs.declared.verdict.Verdict.{Verdict}
 use Rattle.rules.specs.declared.verdict.Verdict.the-variants as verdict
-use Rattle.terms.proofs.BookTerms.{recordNumber-tree}
-use Rattle.rules.proofs.StoredEntries.{held-length, kept-small}
+use Rattle.terms.proofs.NumberedNodes.{recordNumber-tree}
+use Rattle.index_map.proofs.StoredEntries.{held-length, kept-small}
 use Rattle.rules.proofs.RunParts.{below-at}
 use Rattle.rules.proofs.Results.{next, ends, refused-then, refused-verdict}
 use Rattle.linear_comb.proofs.AreaSteps.{kept-sum, sum-entries, only-area}

@@ -1,4 +1,2 @@
-// Layer 2: the rules of src/checker/rules/linear_arithmetic.rs on one step.
+// Layer 2: the rules of src/checker/rules/linear_arithmetic.rs that add up linear combinations, on one step.
 pub mod linear_arithmetic;
-pub mod linear_shapes;
-pub mod process_disequality;

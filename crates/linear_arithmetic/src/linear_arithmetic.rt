@@ -2,7 +2,7 @@
 // that is given as parts of the lent run. Every rule leaves the work area as it found it.
 ghost use mathlib.Core.Path.{_≡_};
 ghost use mathlib.Core.List.{List};
-ghost use Prim.Native.Nat.{ℕ, _≤_, _<_};
+ghost use Prim.Native.Nat.{ℕ, _<_};
 ghost use lib.ListN.{length};
 ghost use Rattle.numbers.specs.Rational.{Rational};
 ghost use Rattle.numbers.specs.Bytes.{Bytes};
@@ -12,25 +12,24 @@ ghost use Rattle.rules.specs.Limits.{limited};
 ghost use Rattle.linear_arithmetic.specs.LinearArithmetic.{readArgs, isTrueAtZero, laGenericPartial, laGeneric};
 ghost use Rattle.linear_arithmetic.specs.LinearArithmetic.{isTautology, laTautology};
 ghost use Rattle.disequality.specs.Disequality.{disequality};
-ghost use Rattle.linear_comb.specs.memory.WorkArea.{areaOf, combOf, withArea, AreaCount};
-ghost use Rattle.rules.specs.memory.Entries.{blanked, Kept, CoefficientIs};
+ghost use Rattle.linear_comb.specs.memory.WorkArea.{accumulated, areaOf, combOf, withArea, AreaCount};
+ghost use Rattle.index_map.specs.memory.Entries.{blanked, Kept, CoefficientIs};
 ghost use Rattle.rules.specs.memory.Parts.{Ready, numbersIn, termsIn, Inside, assertedOf, verdictOf};
-ghost use Rattle.linear_arithmetic.specs.memory.LinearSteps.{maxRunBytes, at, visitsOf, CoefficientProper};
-ghost use Rattle.linear_arithmetic.specs.memory.LinearSteps.{progressOf, foldedRefusal, AllNumbers, foldRead};
-ghost use Rattle.linear_arithmetic.specs.memory.LinearSteps.{FoldedLeft, Folding, contradicts, tautologyOf};
-use crate::linear_shapes::tautology_case;
-use crate::process_disequality::Processed;
-use crate::process_disequality::Progress;
-use crate::process_disequality::process_disequality;
-use crate::process_disequality::processed_refusal;
+ghost use Rattle.process_disequality.specs.memory.ProcessSteps.{CoefficientProper, progressOf, Folding};
+ghost use Rattle.linear_arithmetic.specs.memory.LinearSteps.{at, AllNumbers, foldRead, FoldedLeft, contradicts};
+ghost use Rattle.linear_arithmetic.specs.memory.LinearSteps.{StepReady, verdictBy, tautologyOf};
 use disequality::disequality::Disequality;
 use disequality::disequality::Literal;
 use disequality::disequality::disequality_of;
 use disequality::disequality::literal_refusal;
-use disequality::work_area::clear_in;
+use index_map::index_map::Coefficient;
 use linear_comb::linear_comb::LinearComb;
+use linear_shapes::linear_shapes::tautology_case;
 use numbers::number::Number;
-use rules::index_map::Coefficient;
+use process_disequality::process_disequality::Processed;
+use process_disequality::process_disequality::Progress;
+use process_disequality::process_disequality::process_disequality;
+use process_disequality::process_disequality::processed_refusal;
 use rules::readers::Expected;
 use rules::readers::as_fraction_err;
 use rules::run_records::number_in;
@@ -50,6 +49,9 @@ use terms::refusal::WRONG_NUMBER_OF_ARGS;
 use terms::term::Only;
 use terms::term::Two;
 use terms::term::binary;
+use work_area::work_area::ACCUMULATED;
+use work_area::work_area::LEFT;
+use work_area::work_area::clear_in;
 
 // ---- la_generic
 
@@ -91,17 +93,6 @@ pub enum Folded {
     Inferred(Progress, Number, usize),
     // Document 01's number of the refusal.
     Refused(u8),
-}
-
-// The number of a fold's refusal; 0 where there is none.
-pub fn folded_refusal(f: Folded) -> u8
-    ensures { λ r. ⌜ r ≡ foldedRefusal f ⌝ }
-{
-    match f {
-        Folded::Done(_) => 0,
-        Folded::Inferred(_, _, _) => 0,
-        Folded::Refused(code) => code,
-    }
 }
 
 // The fold over the literals (`try_fold`) from a progress on, up to the first argument that is inferred. Missing
@@ -153,20 +144,20 @@ fn is_true_at_zero(o: u8, r: Number) -> bool
     o != EQUALS
 }
 
-// The last line of `la_generic_partial`: the left side is empty and the disequality is a contradiction. Area 0 is empty
-// afterwards.
+// The last line of `la_generic_partial`: the left side is empty and the disequality is a contradiction. The sum's area
+// is empty afterwards.
 pub fn contradiction(work: &mut [u8], p: Progress) -> Verdict
-    requires { ⌜ AreaCount 0 (p .acc .len) (now work) ⌝ }
+    requires { ⌜ AreaCount accumulated (p .acc .len) (now work) ⌝ }
     ensures { λ r. ⌜ r ≡ contradicts p ⌝ }
-    ensures { λ r. ⌜ now (work .exit)
-        ≡ withArea 0 (blanked (p .acc .len) (areaOf 0 (now (work .entry)))) (now (work .entry)) ⌝ }
+    ensures { λ r. ⌜ now (work .exit) ≡ withArea accumulated
+        (blanked (p .acc .len) (areaOf accumulated (now (work .entry)))) (now (work .entry)) ⌝ }
 {
     let acc = p.acc;
     let n = acc.len;
     let right = acc.constant;
     let o = p.operator;
     let visits = p.visits;
-    clear_in(work, 0, n);
+    clear_in(work, ACCUMULATED, n);
     if n != 0 {
         return Verdict::Refused(DISEQUALITY_IS_NOT_CONTRADICTION);
     }
@@ -185,11 +176,9 @@ fn la_generic_partial(
     visits: u32,
     limit: u32,
 ) -> Verdict
-    requires { ⌜ Ready (now book) (now work) ×
-        (Inside (now book) (now literals) × (length (now literals) ≤ maxRunBytes)) ⌝ }
-    ensures { λ r. ⌜ r ≡ verdictOf (visitsOf (laGenericPartial (limited limit)
-        (termsIn (now (book .entry)) (now (literals .entry)))
-        (termsIn (now (book .entry)) (now (args .entry))) visits)) ⌝ }
+    requires { ⌜ StepReady (now book) (now work) (now literals) ⌝ }
+    ensures { λ r. ⌜ r ≡ verdictBy laGenericPartial limit (now (book .entry)) (now (literals .entry))
+        (now (args .entry)) visits ⌝ }
     ensures { λ r. ⌜ now (work .exit) ≡ now (work .entry) ⌝ }
 {
     if let Asserted::Refused(code) = read_args(book, args) {
@@ -228,11 +217,9 @@ pub fn la_generic(
     visits: u32,
     limit: u32,
 ) -> Verdict
-    requires { ⌜ Ready (now book) (now work) ×
-        (Inside (now book) (now literals) × (length (now literals) ≤ maxRunBytes)) ⌝ }
-    ensures { λ r. ⌜ r ≡ verdictOf (visitsOf (laGeneric (limited limit)
-        (termsIn (now (book .entry)) (now (literals .entry)))
-        (termsIn (now (book .entry)) (now (args .entry))) visits)) ⌝ }
+    requires { ⌜ StepReady (now book) (now work) (now literals) ⌝ }
+    ensures { λ r. ⌜ r ≡ verdictBy laGeneric limit (now (book .entry)) (now (literals .entry))
+        (now (args .entry)) visits ⌝ }
     ensures { λ r. ⌜ now (work .exit) ≡ now (work .entry) ⌝ }
 {
     if args.len() / RUN_RECORD_BYTES != literals.len() / RUN_RECORD_BYTES {
@@ -249,11 +236,9 @@ pub fn bounded_farkas(
     visits: u32,
     limit: u32,
 ) -> Verdict
-    requires { ⌜ Ready (now book) (now work) ×
-        (Inside (now book) (now literals) × (length (now literals) ≤ maxRunBytes)) ⌝ }
-    ensures { λ r. ⌜ r ≡ verdictOf (visitsOf (laGenericPartial (limited limit)
-        (termsIn (now (book .entry)) (now (literals .entry)))
-        (termsIn (now (book .entry)) (now (args .entry))) visits)) ⌝ }
+    requires { ⌜ StepReady (now book) (now work) (now literals) ⌝ }
+    ensures { λ r. ⌜ r ≡ verdictBy laGenericPartial limit (now (book .entry)) (now (literals .entry))
+        (now (args .entry)) visits ⌝ }
     ensures { λ r. ⌜ now (work .exit) ≡ now (work .entry) ⌝ }
 {
     la_generic_partial(book, work, literals, args, visits, limit)
@@ -293,7 +278,7 @@ fn tautology(book: &[u8], work: &mut [u8], phi: usize, visits: u32, limit: u32) 
     let s = d.sum;
     let n = s.len;
     let seen = d.visits;
-    clear_in(work, 1, n);
+    clear_in(work, LEFT, n);
     if is_tautology(d) {
         return Verdict::Accepted(seen);
     }

@@ -15,11 +15,12 @@ use lib.ListN.{length}
 use Rattle.numbers.specs.Rational.{Proper}
 use Rattle.numbers.specs.Bytes.{Bytes}
 use Rattle.terms.specs.Term.{Term}
-use Rattle.rules.specs.IndexMap.{Map, combination}
-use Rattle.linear_comb.specs.memory.WorkArea.{workBytes, sumBytes, Sum, combOf, combWith, KeptSum, SumHas}
+use Rattle.terms.specs.Format.{workBytes}
+use Rattle.index_map.specs.IndexMap.{Map, combination}
+use Rattle.linear_comb.specs.memory.WorkArea.{sumBytes, Sum, combOf, combWith, KeptSum, SumHas}
 use Rattle.linear_comb.specs.memory.WorkArea.{Area, Apart, areaOf, withArea, OnlyArea}
-use Rattle.rules.specs.memory.Entries.{slots, stored, entriesOf, blanked, Held, Kept}
-use Rattle.rules.proofs.StoredEntries.{held-length, kept-entries, clear-all}
+use Rattle.index_map.specs.memory.Entries.{slots, stored, entriesOf, blanked, Held, Kept}
+use Rattle.index_map.proofs.StoredEntries.{kept-entries, clear-all}
 use Rattle.linear_comb.proofs.Areas.{empty-length, empty-held, area-length, with-length, area-with, Within}
 use Rattle.linear_comb.proofs.Areas.{within-none, within-turned, within-then, within-first, same-within}
 use Rattle.linear_comb.proofs.Areas.{within-only, only-other, only-within}

@@ -10,21 +10,19 @@
 --     lent-is, Back, lent-back       an area that is lent
 use mathlib.Core.Path.{_≡_, refl, sym, ap, subst, _∙_}
 use mathlib.Core.Logic.{_≢_, _⊎_, ⊎-elim, inl, inr}
-use mathlib.Core.List.{[], _∷_, _++_}
+use mathlib.Core.List.{[], _++_}
 use Prim.Native.Nat.{ℕ, zero, suc, _+_, _*_, _-_, _≤_, _<_}
 use native.Mathlib.Omega.{arith}
 use lib.ListN.{length, getD, take, drop, length-append, length-take, length-drop, length-replicate, List·getD-append}
 use lib.Seq.{take-at, drop-at, length-take-le, drop-drop, getD-take, getD-drop, getD-append-add, ext-getD}
-use Rattle.numbers.specs.Bytes.{Bytes, bytesOf}
-use Rattle.terms.specs.Term.{Term}
+use Rattle.numbers.specs.Bytes.{Bytes}
 use Rattle.terms.specs.Book.{count, SortsBelow}
-use Rattle.rules.specs.memory.StoredMaps as maps
-use Rattle.rules.specs.IndexMap.{Map}
-use Rattle.linear_comb.specs.memory.WorkArea.{workBytes, stepAt, sumBytes}
-use Rattle.linear_comb.specs.memory.WorkArea.{Area, areaStart, areaOf, withArea, OnlyArea}
-use Rattle.rules.specs.memory.Entries.{slots, stored, Good, Held}
+use Rattle.terms.specs.Format.{stepAt, workBytes}
+use Rattle.index_map.specs.memory.StoredMaps as maps
+use Rattle.linear_comb.specs.memory.WorkArea.{sumBytes, Area, areaStart, areaOf, withArea, OnlyArea}
+use Rattle.index_map.specs.memory.Entries.{slots, stored, Good, Held}
 use Rattle.rules.specs.memory.Parts.{Ready}
-use Rattle.rules.proofs.Zeros.{zeros, zeros-join}
+use Rattle.index_map.proofs.Zeros.{zeros, zeros-join}
 
 -- ---- a part of k bytes at a
 

@@ -21,12 +21,12 @@ use Rattle.terms.specs.Term.{Term}
 use Rattle.numbers.specs.Choice.{if_then_else_}
 use Rattle.numbers.proofs.Divisors.{gcd-zero, gcd-dvd-right}
 use Rattle.numbers.proofs.Machine.{R, eqb-ofZ}
-use Rattle.rules.specs.IndexMap.{Map}
+use Rattle.index_map.specs.IndexMap.{Map}
 use Rattle.linear_comb.specs.LinearComb.{gcdFrom, coefficientsGcd}
 use Rattle.linear_comb.specs.memory.WorkArea.{Sum, combOf}
-use Rattle.rules.specs.memory.Entries.{entriesOf, Kept}
+use Rattle.index_map.specs.memory.Entries.{entriesOf, Kept}
 use Rattle.linear_comb.proofs.EntryPlaces.{kept-at, all-behind}
-use Rattle.rules.proofs.CheckedNumbers.{whole-proper, small-back, small-fits}
+use Rattle.index_map.proofs.CheckedNumbers.{whole-proper, small-back, small-fits}
 
 -- ---- the definition
 

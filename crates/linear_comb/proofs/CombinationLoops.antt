@@ -11,11 +11,11 @@ use Rattle.numbers.specs.declared.number.Checked.the-variants as answer
 use Rattle.rules.specs.Refusal.{Result, _>>=_}
 use Rattle.rules.specs.Refusal.Outcome.{ok, refused}
 use Rattle.rules.specs.Limits.{limited}
-use Rattle.rules.specs.IndexMap.{Map, negAll, scaleAll}
-use Rattle.rules.specs.memory.Entries.{Held, Inserts}
-use Rattle.rules.specs.declared.index_map.Inserted.the-variants.{Length, OutOfRange}
+use Rattle.index_map.specs.IndexMap.{Map, negAll, scaleAll}
+use Rattle.index_map.specs.memory.Entries.{Held, Inserts}
+use Rattle.index_map.specs.declared.index_map.Inserted.the-variants.{Length, OutOfRange}
 use Rattle.linear_comb.proofs.EntryLoops.{Over}
-use Rattle.rules.proofs.CheckedNumbers.{times-value, times-out}
+use Rattle.index_map.proofs.CheckedNumbers.{times-value, times-out}
 
 -- ---- neg
 

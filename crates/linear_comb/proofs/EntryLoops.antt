@@ -14,9 +14,9 @@ use lib.Seq.{append-snoc}
 use Rattle.numbers.specs.Rational.{Rational, Proper}
 use Rattle.numbers.specs.Bytes.{Bytes, le, numberAt}
 use Rattle.terms.specs.Term.{Term, recordNumber}
-use Rattle.rules.specs.IndexMap.{Map}
-use Rattle.rules.specs.memory.Entries.{entriesOf, putEntry, blanked, Held, Kept}
-use Rattle.rules.proofs.StoredEntries.{kept-entries, read-key, read-value, write-value, clear-all}
+use Rattle.index_map.specs.IndexMap.{Map}
+use Rattle.index_map.specs.memory.Entries.{entriesOf, putEntry, blanked, Held, Kept}
+use Rattle.index_map.proofs.StoredEntries.{kept-entries, read-key, read-value, write-value, clear-all}
 
 -- ---- one book
 

@@ -11,11 +11,11 @@ use Rattle.numbers.specs.Rational.{Rational}
 use Rattle.numbers.specs.Bytes.{Bytes, le, numberAt}
 use Rattle.terms.specs.Term.{Term, recordNumber}
 use Rattle.terms.specs.Book.{count, tree}
-use Rattle.rules.specs.IndexMap.{Map}
-use Rattle.rules.specs.memory.Entries.{entriesOf, Entry, Held, Kept}
+use Rattle.index_map.specs.IndexMap.{Map}
+use Rattle.index_map.specs.memory.Entries.{entriesOf, Entry, Held, Kept}
 use Rattle.rules.specs.memory.Parts.{blank}
-use Rattle.rules.proofs.MapKeys.{taken-out}
-use Rattle.rules.proofs.StoredEntries.{kept-entries, read-key, read-value}
+use Rattle.index_map.proofs.MapKeys.{taken-out}
+use Rattle.index_map.proofs.StoredEntries.{kept-entries, read-key, read-value}
 
 pub record EntryAt (b x : Bytes) (m : Map Term) (k : ℕ) : Type 0 where
   pub entry : Term × Rational

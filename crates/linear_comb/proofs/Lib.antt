@@ -9,9 +9,5 @@ pub mod AreaSteps
 pub mod CombinationLoops
 pub mod ScaledCombinations
 pub mod CoefficientDivisors
+
 -- walks of terms in memory
-pub mod NodeAnswers
-pub mod NodeWalks
-pub mod Places
-pub mod WalkSteps
-pub mod ArgWalks

@@ -27,17 +27,17 @@ use Rattle.terms.specs.Book.{tree}
 use Rattle.terms.specs.Format.{maxRecords}
 use Rattle.terms.specs.Readers.{unbounded, within}
 use Rattle.numbers.proofs.Truths.{if-either}
-use Rattle.terms.proofs.BookTerms.{recordNumber-tree}
+use Rattle.terms.proofs.NumberedNodes.{recordNumber-tree}
 use Rattle.rules.specs.Refusal.{assert}
 use Rattle.rules.specs.Refusal.Refusal.{polynomialSize}
 use Rattle.rules.specs.Limits.{Limits, plus}
-use Rattle.rules.specs.IndexMap.{Map, Walked, swapRemove, enter, insert, addEntry, addConstant}
-use Rattle.rules.specs.memory.Entries.{terms, absent}
-use Rattle.linear_comb.specs.memory.LinearNodes.{wordBits, noteWords, isNoted, withNote, noting, KeysNoted, Noted}
+use Rattle.index_map.specs.IndexMap.{Map, Walked, swapRemove, enter, insert, addEntry, addConstant}
+use Rattle.index_map.specs.memory.Entries.{terms, absent}
+use Rattle.linear_comb.specs.memory.Notes.{wordBits, noteWords, isNoted, withNote, noting, KeysNoted, Noted}
 use Rattle.rules.proofs.Yields.{Yields, and-then, past, by-test}
 use Rattle.rules.proofs.Yields.Yields.{gives}
-use Rattle.rules.proofs.MapEnds.{Ends, nothing, last, ends, swapRemove-last}
-use Rattle.rules.proofs.MapKeys.{keyOf}
+use Rattle.index_map.proofs.MapEnds.{Ends, nothing, last, ends, swapRemove-last}
+use Rattle.index_map.proofs.MapKeys.{keyOf}
 
 -- ---- bit k of an or is the greater of both bits
 

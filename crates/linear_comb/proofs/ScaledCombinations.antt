@@ -13,14 +13,14 @@ use Rattle.terms.specs.Term.{Term}
 use Rattle.numbers.specs.declared.number.Checked.the-variants as answer
 use Rattle.rules.specs.Refusal.{_>>=_}
 use Rattle.rules.specs.Limits.{Limits, limited, times}
-use Rattle.rules.specs.IndexMap.{Map, scaleAll}
+use Rattle.index_map.specs.IndexMap.{Map, scaleAll}
 use Rattle.linear_comb.specs.LinearComb.{mul}
 use Rattle.linear_comb.specs.memory.WorkArea.{Sum, combOf, KeptSum, Combines}
-use Rattle.rules.specs.memory.Entries.{entriesOf, blanked, Kept, Inserts}
-use Rattle.rules.specs.declared.index_map.Inserted.the-variants.{Length, OutOfRange}
+use Rattle.index_map.specs.memory.Entries.{entriesOf, blanked, Kept, Inserts}
+use Rattle.index_map.specs.declared.index_map.Inserted.the-variants.{Length, OutOfRange}
 use Rattle.linear_comb.specs.declared.linear_comb.Combined.the-variants as combined
-use Rattle.rules.proofs.CheckedNumbers.{times-value, times-out, whole-proper}
-use Rattle.rules.proofs.StoredEntries.{kept-entries, clear-all}
+use Rattle.index_map.proofs.CheckedNumbers.{times-value, times-out, whole-proper}
+use Rattle.index_map.proofs.StoredEntries.{kept-entries, clear-all}
 use Rattle.linear_comb.proofs.AreaSteps.{kept-cleared}
 use Rattle.rules.proofs.Yields.{Yields, gives, and-then, past, at-ok}
 

@@ -1,3 +1,3 @@
 -- What lies in lent memory, in terms of the definitions that say what is right.
 pub mod WorkArea
-pub mod LinearNodes
+pub mod Notes

@@ -6,20 +6,20 @@ ghost use lib.IntN.{natAbs};
 ghost use Rattle.numbers.specs.Rational.{Proper, limit, whole};
 ghost use Rattle.numbers.specs.Bytes.{Bytes};
 ghost use Rattle.rules.specs.Limits.{limited};
-ghost use Rattle.rules.specs.IndexMap.{negAll, scaleAll};
+ghost use Rattle.index_map.specs.IndexMap.{negAll, scaleAll};
 ghost use Rattle.linear_comb.specs.LinearComb.{mul, gcdFrom, coefficientsGcd};
-ghost use Rattle.rules.specs.memory.Entries.{entriesOf, Held, Kept, Inserts};
-ghost use Rattle.linear_comb.specs.memory.WorkArea.{mostEntries, combOf, KeptSum, negated, Combines};
+ghost use Rattle.index_map.specs.memory.Entries.{mostEntries, entriesOf, Held, Kept, Inserts};
+ghost use Rattle.linear_comb.specs.memory.WorkArea.{combOf, KeptSum, negated, Combines};
 ghost use Rattle.linear_comb.specs.memory.WorkArea.{SumFits, SumScales};
+use index_map::index_map::Inserted;
+use index_map::index_map::clear;
+use index_map::index_map::key_at;
+use index_map::index_map::put_entry;
+use index_map::index_map::value_at;
 use numbers::number::Checked;
 use numbers::number::Number;
 use numbers::number::gcd;
 use numbers::number::magnitude;
-use rules::index_map::Inserted;
-use rules::index_map::clear;
-use rules::index_map::key_at;
-use rules::index_map::put_entry;
-use rules::index_map::value_at;
 
 pub struct LinearComb {
     // The number of entries.

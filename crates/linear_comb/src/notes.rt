@@ -6,13 +6,13 @@ ghost use Rattle.numbers.specs.Bytes.{Bytes};
 ghost use Rattle.terms.specs.Book.{count, tree};
 ghost use Rattle.terms.specs.Format.{maxRecords};
 ghost use Rattle.rules.specs.Limits.{limited};
-ghost use Rattle.rules.specs.IndexMap.{insert};
-ghost use Rattle.rules.specs.memory.Entries.{terms, entriesOf, Kept, Inserts, NewEntry};
-ghost use Rattle.linear_comb.specs.memory.LinearNodes.{isNoted, withNote, noting, Noted};
+ghost use Rattle.index_map.specs.IndexMap.{insert};
+ghost use Rattle.index_map.specs.memory.Entries.{terms, entriesOf, Kept, Inserts, NewEntry};
+ghost use Rattle.linear_comb.specs.memory.Notes.{isNoted, withNote, noting, Noted};
+use index_map::index_map::Inserted;
+use index_map::index_map::append;
+use index_map::index_map::insert;
 use numbers::number::Number;
-use rules::index_map::Inserted;
-use rules::index_map::append;
-use rules::index_map::insert;
 
 // A word has a bit for each of 64 records.
 pub const NOTE_WORDS: usize = 32;
@@ -30,7 +30,7 @@ fn is_noted(noted: &[u64; NOTE_WORDS], x: usize) -> bool
 }
 
 // Notes record x.
-pub(crate) fn note(noted: &mut [u64; NOTE_WORDS], x: usize)
+pub fn note(noted: &mut [u64; NOTE_WORDS], x: usize)
     requires { ⌜ x < maxRecords ⌝ }
     ensures { λ _. ⌜ now (noted .exit) ≡ withNote (now (noted .entry)) x ⌝ }
 {
@@ -40,7 +40,7 @@ pub(crate) fn note(noted: &mut [u64; NOTE_WORDS], x: usize)
 }
 
 // Adds `value` times the atom of record x to the n entries, and notes it. All atoms so far are noted.
-pub(crate) fn enter(
+pub fn enter(
     entries: &mut [u8],
     n: usize,
     x: usize,

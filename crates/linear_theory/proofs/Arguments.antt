@@ -9,7 +9,7 @@ use Rattle.numbers.specs.Rational.{Rational, Lowest}
 use Rattle.terms.specs.Term.{Term}
 use Rattle.terms.specs.Smtlib.{divsEven}
 use Rattle.numbers.proofs.Truths.{both, never}
-use Rattle.terms.proofs.BookTerms.{Closed}
+use Rattle.book.proofs.BookTerms.{Closed}
 use Rattle.rules.specs.Refusal.{Refusal, assert}
 use Rattle.rules.specs.Refusal.Outcome.{ok}
 use Rattle.rules.specs.Limits.{Limits, theRust}

@@ -9,7 +9,7 @@ use Rattle.terms.specs.Smtlib.{Assignment, value}
 use Rattle.numbers.proofs.Truths.{never}
 use Rattle.numbers.proofs.Quotient.{ι}
 use Rattle.terms.proofs.Sums.{meant}
-use Rattle.terms.proofs.BookTerms.{Closed}
+use Rattle.book.proofs.BookTerms.{Closed}
 use Rattle.alethe.specs.AletheTerms.{Entries, Cancels}
 use Rattle.alethe.specs.Alethe.{Relation, contradicts}
 use Rattle.rules.proofs.Valuations.{numberℚ}

@@ -19,14 +19,14 @@ use Rattle.terms.specs.declared.term.Reading.{Reading}
 use Rattle.terms.specs.declared.term.Reading.the-variants.{Value, NotNumber, OutOfRange}
 use Rattle.numbers.proofs.Pairs.{≤P-trans, ≤P-resp, <P-resp}
 use Rattle.numbers.proofs.Rationals.{less-value, lessEq-value}
-use Rattle.terms.proofs.WellFormed.{WellFormed}
-use Rattle.terms.proofs.Fractions.{asFraction-value}
-use Rattle.terms.proofs.BookTerms.{Closed}
+use Rattle.book.proofs.WellFormed.{WellFormed}
+use Rattle.book.proofs.Fractions.{asFraction-value}
+use Rattle.book.proofs.BookTerms.{Closed}
 use Rattle.rules.specs.Refusal.{Refusal, Result, _>>=_, orElse}
 use Rattle.rules.specs.Refusal.Refusal.{expectedAnyNumber}
 use Rattle.rules.specs.Limits.{numberOr, signedNumberErr}
 use Rattle.rules.specs.Shapes as Form
-use Rattle.linear_arithmetic.specs.LinearArithmetic.{assertLessEq, assertLessThan, tautologyCase}
+use Rattle.linear_shapes.specs.LinearShapes.{assertLessEq, assertLessThan, tautologyCase}
 use Rattle.rules.specs.Shapes.{assertEq, boundsCase}
 use Rattle.alethe.specs.Alethe.{Departures, carcara, Is2, IsNot2, Written, BoundsForm, lessEq, greaterEq}
 use Rattle.alethe.specs.Alethe.BoundsForm.{below, belowOrNot, above, aboveOrNot, apart}

@@ -11,8 +11,8 @@ use Rattle.terms.specs.Operator.{Equals}
 use Rattle.terms.specs.Term.{Term}
 use Rattle.numbers.proofs.Ring.{_⊕_, 𝟙, neg, _≐_, _·_, _and_, _from_, derive}
 use Rattle.numbers.proofs.Quotient.{ℚ, ℚring, sum}
-use Rattle.rules.specs.IndexMap.{new}
-use Rattle.linear_arithmetic.specs.LinearArithmetic.{Progress, progress}
+use Rattle.index_map.specs.IndexMap.{new}
+use Rattle.process_disequality.specs.ProcessDisequality.{Progress, progress}
 use Rattle.alethe.specs.AletheTerms.{Entries}
 use Rattle.alethe.specs.Alethe.{Constraint, Relation, allTerms, sumBound, stronger, joined}
 use Rattle.rules.proofs.Valuations.{rationals}

@@ -19,10 +19,11 @@ use Rattle.numbers.proofs.Truths.{never}
 use Rattle.numbers.proofs.Ring.{_⊗_, neg, 𝟘, 𝟙, _≐_, _·_, _and_, _from_, derive}
 use Rattle.numbers.proofs.Quotient.{ℚ, ℚring, sum, product}
 use Rattle.rules.specs.Limits.{Limits}
-use Rattle.rules.specs.IndexMap.{add}
+use Rattle.index_map.specs.IndexMap.{add}
 use Rattle.linear_comb.specs.LinearComb.{LinearComb, mul}
-use Rattle.rules.specs.memory.Entries.{terms}
-use Rattle.linear_arithmetic.specs.LinearArithmetic.{joinOperators, scalar, weakened, isTrueAtZero}
+use Rattle.index_map.specs.memory.Entries.{terms}
+use Rattle.process_disequality.specs.ProcessDisequality.{joinOperators, scalar, weakened}
+use Rattle.linear_arithmetic.specs.LinearArithmetic.{isTrueAtZero}
 use Rattle.alethe.specs.AletheTerms.{Departure, Departures, carcara}
 use Rattle.alethe.specs.Alethe.{Relation, factor, ScaledRelation, stays, argumentZero, stronger, contradicts}
 use Rattle.alethe.specs.Alethe.Relation.{eq, ge, gt}

@@ -18,12 +18,13 @@ use Rattle.numbers.proofs.Comparisons.{of-eqP, of-lessP, of-lessEqP}
 use Rattle.numbers.proofs.Ring.{_⊕_, _⊖_, neg, 𝟘, 𝟙, _≐_, _·_, _and_, _from_, derive}
 use Rattle.numbers.proofs.Quotient.{ℚ, mk, ℚring, mk-eq}
 use Rattle.terms.proofs.Sums.{meant}
-use Rattle.terms.proofs.BookTerms.{Each, Closed}
+use Rattle.book.proofs.BookTerms.{Each, Closed}
 use Rattle.rules.specs.Refusal.Outcome.{ok}
 use Rattle.rules.specs.Limits.{Limits, theRust}
-use Rattle.rules.specs.IndexMap.{combination, sub}
-use Rattle.linear_comb.specs.LinearComb.{LinearComb, fromTerm}
-use Rattle.rules.specs.memory.Entries.{terms}
+use Rattle.index_map.specs.IndexMap.{combination, sub}
+use Rattle.linear_walk.specs.LinearTerms.{fromTerm}
+use Rattle.linear_comb.specs.LinearComb.{LinearComb}
+use Rattle.index_map.specs.memory.Entries.{terms}
 use Rattle.disequality.specs.Disequality as Literal
 use Rattle.disequality.specs.Disequality.{Disequality, disequalityOf, inner, twoSides, negateDisequality}
 use Rattle.alethe.specs.AletheTerms.{Departures, carcara, Sum, Linear}

@@ -16,13 +16,14 @@ use Rattle.terms.specs.Term.{Term}
 use Rattle.numbers.proofs.Ring.{_⊕_, neg, 𝟘, 𝟙, _≐_, _·_, _and_, _from_, solve, derive}
 use Rattle.numbers.proofs.Quotient.{ℚ, ℚring, sum, ι}
 use Rattle.numbers.proofs.LowestTerms.{whole-is-lowest}
-use Rattle.terms.proofs.BookTerms.{Closed}
+use Rattle.book.proofs.BookTerms.{Closed}
 use Rattle.rules.specs.Refusal.{Refusal}
 use Rattle.rules.specs.Refusal.Outcome.{ok, refused}
 use Rattle.rules.specs.Limits.{Limits, theRust}
-use Rattle.rules.specs.IndexMap.{isEmpty, new}
-use Rattle.rules.specs.memory.Entries as Entry
-use Rattle.linear_arithmetic.specs.LinearArithmetic.{Progress, foldLiterals, isTrueAtZero, laGenericPartial, laGeneric}
+use Rattle.index_map.specs.IndexMap.{isEmpty, new}
+use Rattle.index_map.specs.memory.Entries as Entry
+use Rattle.process_disequality.specs.ProcessDisequality.{Progress}
+use Rattle.linear_arithmetic.specs.LinearArithmetic.{foldLiterals, isTrueAtZero, laGenericPartial, laGeneric}
 use Rattle.alethe.specs.AletheTerms.{Departure, Departures, Cancels, nought}
 use Rattle.alethe.specs.Alethe.{Clause, Constraint, Relation, Lines, LaGeneric, Arguments, allTerms, sumBound, weaker}
 use Rattle.alethe.specs.Alethe.{stronger, joined, Joins, contradicts}

@@ -12,10 +12,11 @@ use lib.IntN.{pos}
 use Rattle.numbers.specs.Rational.{Rational, Lowest}
 use Rattle.terms.specs.Term.{Term}
 use Rattle.numbers.proofs.Quotient.{ℚring, sum}
-use Rattle.terms.proofs.BookTerms.{Closed}
+use Rattle.book.proofs.BookTerms.{Closed}
 use Rattle.rules.specs.Refusal.Outcome.{ok}
 use Rattle.rules.specs.Limits.{Limits}
-use Rattle.linear_arithmetic.specs.LinearArithmetic.{Progress, processDisequality, foldLiterals}
+use Rattle.process_disequality.specs.ProcessDisequality.{Progress, processDisequality}
+use Rattle.linear_arithmetic.specs.LinearArithmetic.{foldLiterals}
 use Rattle.rules.specs.Shapes.{Clause}
 use Rattle.alethe.specs.AletheTerms.{carcara}
 use Rattle.alethe.specs.Alethe.{Constraint, Line, Lines, end, line, sumBound}

@@ -18,14 +18,14 @@ use Rattle.terms.specs.Term.{Term}
 use Rattle.numbers.proofs.Truths.{both}
 use Rattle.numbers.proofs.Ring.{_⊕_, 𝟘, 𝟙, neg, _≐_, _·_, _and_, _from_, derive}
 use Rattle.numbers.proofs.Quotient.{ℚring}
-use Rattle.terms.proofs.BookTerms.{Closed}
+use Rattle.book.proofs.BookTerms.{Closed}
 use Rattle.rules.specs.Refusal.{assert}
 use Rattle.rules.specs.Refusal.Outcome.{ok}
 use Rattle.rules.specs.Refusal.Refusal.{wrongNumberOfArgs, disequalityIsNotContradiction}
 use Rattle.rules.specs.Limits.{Limits}
-use Rattle.rules.specs.IndexMap.{isEmpty, new}
-use Rattle.linear_arithmetic.specs.LinearArithmetic.{Progress, readArgs, foldLiterals, isTrueAtZero, laGenericPartial}
-use Rattle.linear_arithmetic.specs.LinearArithmetic.{laGeneric}
+use Rattle.index_map.specs.IndexMap.{isEmpty, new}
+use Rattle.process_disequality.specs.ProcessDisequality.{Progress}
+use Rattle.linear_arithmetic.specs.LinearArithmetic.{readArgs, foldLiterals, isTrueAtZero, laGenericPartial, laGeneric}
 use Rattle.rules.specs.Shapes.{Clause}
 use Rattle.alethe.specs.AletheTerms.{carcara, Cancels}
 use Rattle.alethe.specs.Alethe.{Constraint, allTerms, sumBound, stronger, joined, join, contradicts, LaGeneric}

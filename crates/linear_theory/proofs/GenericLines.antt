@@ -11,13 +11,13 @@ use lib.IntN.{pos}
 use Rattle.numbers.specs.Rational.{Rational, Lowest, mulQ}
 use Rattle.terms.specs.Term.{Term}
 use Rattle.numbers.proofs.Quotient.{ℚ, ℚring, sum, product}
-use Rattle.terms.proofs.BookTerms.{Closed}
+use Rattle.book.proofs.BookTerms.{Closed}
 use Rattle.rules.specs.Refusal.Outcome.{ok}
 use Rattle.rules.specs.Limits.{Limits}
-use Rattle.rules.specs.IndexMap.{combination}
+use Rattle.index_map.specs.IndexMap.{combination}
 use Rattle.linear_comb.specs.LinearComb.{LinearComb, mul}
-use Rattle.linear_arithmetic.specs.LinearArithmetic.{strengthened, Progress, joinOperators, weakened, scalar}
-use Rattle.linear_arithmetic.specs.LinearArithmetic.{processDisequality}
+use Rattle.process_disequality.specs.ProcessDisequality.{strengthened, Progress, joinOperators, weakened, scalar}
+use Rattle.process_disequality.specs.ProcessDisequality.{processDisequality}
 use Rattle.disequality.specs.Disequality.{Disequality}
 use Rattle.alethe.specs.AletheTerms.{carcara, timesEach}
 use Rattle.alethe.specs.Alethe.{Relation, Constraint, constraint, States, factor, Line, stronger}

@@ -3,18 +3,17 @@
 --     Strong       the operator and the sum after strengthening are a constraint
 use mathlib.Core.Path.{_≡_, refl, sym, _∙_, ap, subst}
 use mathlib.Core.Bool.{Bool, true, false}
-use mathlib.Core.List.{[]}
 use mathlib.Core.Logic.{⊎-elim}
 use Prim.Native.Nat.{ℕ}
 use lib.IntN.{ℤ, pos}
 use Rattle.numbers.specs.Rational.{Rational, whole, Lowest, addQ, floorQ, isInteger}
 use Rattle.terms.specs.Term.{Term}
-use Rattle.terms.proofs.BookTerms.{Closed}
+use Rattle.book.proofs.BookTerms.{Closed}
 use Rattle.rules.specs.Limits.{Limits}
-use Rattle.rules.specs.IndexMap.{Map, combination}
+use Rattle.index_map.specs.IndexMap.{Map, combination}
 use Rattle.linear_comb.specs.LinearComb.{LinearComb, coefficientsGcd}
 use Rattle.linear_comb.specs.LinearComb as Linear
-use Rattle.linear_arithmetic.specs.LinearArithmetic.{strengthened}
+use Rattle.process_disequality.specs.ProcessDisequality.{strengthened}
 use Rattle.disequality.specs.Disequality.{isIntegerTimes, raised, floored, strengthen}
 use Rattle.alethe.specs.AletheTerms.{carcara, one}
 use Rattle.alethe.specs.Alethe as Alethe

@@ -15,7 +15,7 @@ use Rattle.terms.specs.Term.{Term}
 use Rattle.terms.specs.Smtlib.{Assignment, holds, divsEven}
 use Rattle.numbers.proofs.Truths.{both}
 use Rattle.numbers.proofs.Quotient.{ℚ}
-use Rattle.terms.proofs.BookTerms.{Closed, closed-and, even-below}
+use Rattle.book.proofs.BookTerms.{Closed, closed-and, even-below}
 use Rattle.rules.specs.Limits.{theRust}
 use Rattle.linear_theory.specs.Premises.{allEven, wholeLiteral, wholeLiterals}
 use Rattle.alethe.specs.AletheTerms.{Departure, Departures, carcara}

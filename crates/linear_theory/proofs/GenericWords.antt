@@ -8,7 +8,7 @@ use mathlib.Core.List.{List, [], _∷_}
 use Rattle.numbers.specs.Rational.{Rational, isInteger, isZero}
 use Rattle.terms.specs.Term.{Term}
 use Rattle.numbers.proofs.Truths.{never}
-use Rattle.terms.proofs.BookTerms.{Closed}
+use Rattle.book.proofs.BookTerms.{Closed}
 use Rattle.linear_theory.specs.Premises.{allEven}
 use Rattle.alethe.specs.AletheTerms.{Departure, Departures, words, carcara}
 use Rattle.alethe.specs.Alethe as Alethe

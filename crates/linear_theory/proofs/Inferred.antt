@@ -3,16 +3,14 @@
 --     literal-again       one literal
 --     fold-again       the fold over the literals
 --     laGeneric-again       the step, with the inferred numbers appended as real constants
---     laGeneric-infers-nothing       the step with all arguments given
-use mathlib.Core.Path.{_≡_, refl, sym, subst, _∙_}
+use mathlib.Core.Path.{_≡_, refl, sym, subst}
 use mathlib.Core.Bool.{_&&_, not}
 use mathlib.Core.Option.{Option, some, none}
 use mathlib.Core.List.{List, [], _∷_, _++_, append-assoc, append-nil}
 use Prim.Native.Nat.{ℕ, _≤_}
 use native.Mathlib.Omega.{arith}
 use lib.ListN.{length, length-append}
-use borrow.Author.Tests.{eq-eqb, eqb-true}
-use lib.Dec.{eqb}
+use borrow.Author.Tests.{eq-eqb}
 use Rattle.numbers.specs.Rational.{Rational}
 use Rattle.terms.specs.Term.{Term, unary, binary}
 use Rattle.terms.specs.Term.Term.{rational}
@@ -22,15 +20,15 @@ use Rattle.rules.specs.Refusal.{_>>=_, assert, orElse}
 use Rattle.rules.specs.Refusal.Refusal.{disequalityIsNotContradiction}
 use Rattle.rules.specs.Refusal.Outcome.{ok}
 use Rattle.rules.specs.Limits.{Limits, fractionOf, fractionErr}
-use Rattle.rules.specs.IndexMap.{add, new, isEmpty}
+use Rattle.index_map.specs.IndexMap.{add, new, isEmpty}
 use Rattle.linear_comb.specs.LinearComb.{LinearComb, mul}
-use Rattle.rules.specs.memory.Entries.{terms}
-use Rattle.linear_arithmetic.specs.LinearArithmetic.{Progress, progress, inferred, argumentOf, strengthened, scalar}
-use Rattle.linear_arithmetic.specs.LinearArithmetic.{processDisequality, foldLiterals, isTrueAtZero, readArgs}
-use Rattle.linear_arithmetic.specs.LinearArithmetic.{laGenericPartial, laGeneric}
+use Rattle.index_map.specs.memory.Entries.{terms}
+use Rattle.process_disequality.specs.ProcessDisequality.{Progress, progress, inferred, argumentOf, strengthened, scalar}
+use Rattle.process_disequality.specs.ProcessDisequality.{processDisequality}
+use Rattle.linear_arithmetic.specs.LinearArithmetic.{foldLiterals, isTrueAtZero, readArgs, laGenericPartial, laGeneric}
 use Rattle.disequality.specs.Disequality.{disequalityOf}
 use Rattle.rules.specs.Shapes.{Clause}
-use Rattle.rules.proofs.Yields.{Yields, and-then, known, past, weaker, guarded}
+use Rattle.rules.proofs.Yields.{Yields, and-then, known, past, weaker}
 use Rattle.rules.proofs.Yields.Yields.{gives}
 
 -- with another trace
@@ -48,10 +46,6 @@ pub data Reals : List Term → List Rational → Type 0 where
   also :
       {q : Rational} {ts : List Term} {qs : List Rational} → (i : ℕ) → Reals ts qs →
       Reals (rational i q ∷ ts) (q ∷ qs)
-
-empty-list : {X : Type 0} (xs : List X) → length xs ≡ 0 → xs ≡ []
-empty-list [] e = refl
-empty-list (x ∷ xs) e = absurd (omega (arith, e))
 
 module _ (l : Limits) where
   -- the same literal with its argument given
@@ -174,16 +168,3 @@ module _ (l : Limits) where
       rw (length-append args ts, reals-length g, f .supplied, sym (r .0), sym (length-append qs (f .numbers))) (f .complete) in
       rw (eq-eqb (length (args ++ ts)) (length c) b, a, f .again [], e)
       )
-
-  -- a la_generic step has all arguments given
-  pub laGeneric-infers-nothing :
-      (c : Clause) (args : List Term) (n : ℕ) → Yields (λ p. p .trace ≡ []) (laGeneric l c args n)
-  unfolding laGenericPartial laGeneric
-  laGeneric-infers-nothing c args n =
-      guarded (eqb (length args) (length c)) _ λ e u.
-      let same = eqb-true (length args) (length c) e in
-      and-then (readArgs-again args) λ qs r.
-      and-then (fold-again c qs (progress Equals new [] n) (omega (arith, same, r .0))) λ p f.
-      past _ λ v.
-      let sum = length-append qs (f .numbers) in
-      gives (f .supplied ∙ empty-list (f .numbers) (omega (arith, same, r .0, f .complete, sum)))

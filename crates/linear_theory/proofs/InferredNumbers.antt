@@ -14,11 +14,11 @@ use Rattle.terms.specs.declared.term.Reading.the-variants.{Value, OutOfRange}
 use Rattle.numbers.proofs.Truths.{both}
 use Rattle.rules.specs.Refusal.{orElse}
 use Rattle.rules.specs.Limits.{limited, inLimit, ranged, over}
-use Rattle.rules.specs.IndexMap.{Map, get}
+use Rattle.index_map.specs.IndexMap.{Map, get}
 use Rattle.linear_comb.specs.LinearComb.{LinearComb}
-use Rattle.rules.specs.memory.Entries.{terms}
-use Rattle.linear_arithmetic.specs.LinearArithmetic.{Progress, inferred, argumentOf, processDisequality, foldLiterals}
-use Rattle.linear_arithmetic.specs.LinearArithmetic.{laGenericPartial, readArgs}
+use Rattle.index_map.specs.memory.Entries.{terms}
+use Rattle.process_disequality.specs.ProcessDisequality.{Progress, inferred, argumentOf, processDisequality}
+use Rattle.linear_arithmetic.specs.LinearArithmetic.{foldLiterals, laGenericPartial, readArgs}
 use Rattle.rules.specs.Shapes.{Clause}
 use Rattle.disequality.specs.Disequality.{disequalityOf}
 use Rattle.rules.proofs.Yields.{Yields, gives, refuses, and-then, past, weaker, guarded}

@@ -13,9 +13,9 @@ use Rattle.numbers.proofs.Truths.{same-test, if-either}
 use Rattle.rules.specs.Refusal.{assert}
 use Rattle.rules.specs.Refusal.Refusal.{polynomialSize}
 use Rattle.rules.specs.Limits.{Limits, times, plus}
-use Rattle.rules.specs.IndexMap.{Map, Keys, lastFirst, swapRemove, negAll, scaleAll, enter}
-use Rattle.rules.specs.memory.Entries.{terms}
-use Rattle.rules.proofs.KeyedMaps.{Lacks, nothing, another}
+use Rattle.index_map.specs.IndexMap.{Map, Keys, lastFirst, swapRemove, negAll, scaleAll, enter}
+use Rattle.index_map.specs.memory.Entries.{terms}
+use Rattle.index_map.proofs.KeyedMaps.{Lacks, nothing, another}
 use Rattle.rules.proofs.Yields.{Yields, gives, and-then, past, by-test}
 
 pub record Named {K : Type 0} (keys : Keys K) : Type 1 where

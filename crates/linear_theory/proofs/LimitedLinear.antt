@@ -13,14 +13,15 @@ use Rattle.terms.specs.Term.Term.{integer, rational, bitvector, atom, op}
 use Rattle.terms.specs.Term.Terms.{nil, _▹_}
 use Rattle.terms.specs.Operator.{Or, Equals, GreaterThan, GreaterEq}
 use Rattle.rules.specs.Limits.{Limits, theRust}
-use Rattle.rules.specs.IndexMap.{Map, Walked, walked, new, addEntry}
-use Rattle.linear_comb.specs.LinearComb.{LinearComb, mul, coefficientsGcd, armOf, addLeaf, factorsOf, addTerm, addArgs}
-use Rattle.linear_comb.specs.LinearComb.{addDifference, addFirst, addSecond, fromTerm, allInt}
-use Rattle.rules.specs.memory.Entries.{terms}
-use Rattle.linear_comb.specs.LinearComb.Arm.{sum}
-use Rattle.linear_arithmetic.specs.LinearArithmetic.{Progress, progress, inferred, argumentOf, strengthened, scalar}
-use Rattle.linear_arithmetic.specs.LinearArithmetic.{processDisequality, readArgs, foldLiterals, laGenericPartial}
-use Rattle.linear_arithmetic.specs.LinearArithmetic.{laGeneric, laTautology}
+use Rattle.index_map.specs.IndexMap.{Map, Walked, walked, new, addEntry}
+use Rattle.linear_walk.specs.LinearTerms.{armOf, addLeaf, factorsOf, addTerm, addArgs}
+use Rattle.linear_comb.specs.LinearComb.{LinearComb, mul, coefficientsGcd, allInt}
+use Rattle.linear_walk.specs.LinearTerms.{addDifference, addFirst, addSecond, fromTerm}
+use Rattle.index_map.specs.memory.Entries.{terms}
+use Rattle.linear_walk.specs.LinearTerms.Arm.{sum}
+use Rattle.process_disequality.specs.ProcessDisequality.{Progress, progress, inferred, argumentOf, strengthened, scalar}
+use Rattle.process_disequality.specs.ProcessDisequality.{processDisequality}
+use Rattle.linear_arithmetic.specs.LinearArithmetic.{readArgs, foldLiterals, laGenericPartial, laGeneric, laTautology}
 use Rattle.disequality.specs.Disequality.{negateDisequality, disequalityOf, isIntegerTimes, raised, floored, strengthen}
 use Rattle.rules.specs.Shapes.{Clause, onlyLiteral}
 use Rattle.rules_theory.proofs.Limited.{_≼_, bind, either, maybe, fractionOf-limited, fractionErr-limited}

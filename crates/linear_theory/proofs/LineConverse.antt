@@ -14,14 +14,14 @@ use Rattle.numbers.specs.Rational.{Rational, Lowest, isInteger, isZero}
 use Rattle.terms.specs.Term.{Term}
 use Rattle.numbers.proofs.Quotient.{ℚ, ℚring, sum, product, ι}
 use Rattle.numbers.proofs.Rationals.{mul-lowest}
-use Rattle.terms.proofs.BookTerms.{Closed}
+use Rattle.book.proofs.BookTerms.{Closed}
 use Rattle.rules.specs.Refusal.{Result, _>>=_}
 use Rattle.rules.specs.Limits.{theRust}
-use Rattle.rules.specs.IndexMap.{add}
+use Rattle.index_map.specs.IndexMap.{add}
 use Rattle.linear_comb.specs.LinearComb.{LinearComb, mul}
-use Rattle.rules.specs.memory.Entries.{terms}
-use Rattle.linear_arithmetic.specs.LinearArithmetic.{Progress, progress, argumentOf, joinOperators, scalar, weakened}
-use Rattle.linear_arithmetic.specs.LinearArithmetic.{processDisequality}
+use Rattle.index_map.specs.memory.Entries.{terms}
+use Rattle.process_disequality.specs.ProcessDisequality.{Progress, progress, argumentOf, joinOperators, scalar}
+use Rattle.process_disequality.specs.ProcessDisequality.{weakened, processDisequality}
 use Rattle.disequality.specs.Disequality.{Disequality}
 use Rattle.alethe.specs.AletheTerms.{Departure, Departures, timesEach}
 use Rattle.alethe.specs.Alethe.{Constraint, Relation, States, factor, ScaledRelation, Line}

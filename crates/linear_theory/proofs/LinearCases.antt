@@ -1,9 +1,9 @@
 -- What holds in each case of the linear walk holds of the choice: by the arm of a term, and by which factor of
 -- a product is a number. Of one choice (`by-arm`, `by-factors`), and of two by one case (`at-arm`, `at-factors`).
 use Rattle.numbers.specs.Rational.{Rational}
-use Rattle.linear_comb.specs.LinearComb.{Arm, Factors}
-use Rattle.linear_comb.specs.LinearComb.Arm.{sum, negation, difference, product, leaf}
-use Rattle.linear_comb.specs.LinearComb.Factors.{firstIs, secondIs, neitherIs}
+use Rattle.linear_walk.specs.LinearTerms.{Arm, Factors}
+use Rattle.linear_walk.specs.LinearTerms.Arm.{sum, negation, difference, product, leaf}
+use Rattle.linear_walk.specs.LinearTerms.Factors.{firstIs, secondIs, neitherIs}
 
 module _ {X : Type 0} (R : X → Type 0) where
   pub by-arm :

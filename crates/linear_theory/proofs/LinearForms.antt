@@ -12,11 +12,12 @@ use Rattle.terms.specs.Smtlib.{Assignment, value}
 use Rattle.numbers.proofs.Ring.{Ring, _⊕_, _⊗_, neg, 𝟘, 𝟙, _≐_, _·_, _and_, _from_, solve, derive}
 use Rattle.numbers.proofs.Quotient.{ℚ, ℚring}
 use Rattle.terms.proofs.Sums.{meant}
-use Rattle.terms.proofs.BookTerms.{Closed}
+use Rattle.book.proofs.BookTerms.{Closed}
 use Rattle.rules.specs.Refusal.Outcome.{ok}
 use Rattle.rules.specs.Limits.{Limits}
-use Rattle.rules.specs.IndexMap.{Map, Walked, walked, new}
-use Rattle.linear_comb.specs.LinearComb.{LinearComb, fromTerm}
+use Rattle.index_map.specs.IndexMap.{Map, Walked, walked, new}
+use Rattle.linear_walk.specs.LinearTerms.{fromTerm}
+use Rattle.linear_comb.specs.LinearComb.{LinearComb}
 use Rattle.alethe.specs.AletheTerms.{Entries, Sum, Linear}
 use Rattle.rules.proofs.Yields.{at-ok}
 use Rattle.rules.proofs.Valuations.{numberℚ, rationals, number-unique}

@@ -27,11 +27,11 @@ use Rattle.terms.specs.declared.term.Reading.the-variants.{Value, NotNumber, Ou
 use Rattle.numbers.proofs.Ring.{Ring}
 use Rattle.numbers.proofs.Truths.{never}
 use Rattle.numbers.proofs.Quotient.{ℚ, ℚring}
-use Rattle.terms.proofs.Fractions.{fraction-means}
+use Rattle.book.proofs.Fractions.{fraction-means}
 use Rattle.terms.proofs.Readings.{not-number, out-of-range}
-use Rattle.terms.proofs.BookTerms.{Closed}
-use Rattle.linear_comb.specs.LinearComb.{Arm, armOf}
-use Rattle.rules.specs.memory.Entries.{terms}
+use Rattle.book.proofs.BookTerms.{Closed}
+use Rattle.linear_walk.specs.LinearTerms.{Arm, armOf}
+use Rattle.index_map.specs.memory.Entries.{terms}
 use Rattle.rules.specs.Shapes.{size}
 use Rattle.alethe.specs.AletheTerms.{Is, Is2, is, Atom, Written}
 use Rattle.rules.proofs.Valuations.{numberℚ, rationals}

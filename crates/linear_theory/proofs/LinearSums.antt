@@ -21,9 +21,9 @@ use Rattle.terms.specs.Book.{countOk}
 use Rattle.numbers.proofs.Truths.{never}
 use Rattle.numbers.proofs.Ring.{Ring, _⊕_, _⊗_, neg, 𝟘, 𝟙, _≐_, _·_, _and_, _from_, lit, solve, derive}
 use Rattle.numbers.proofs.Quotient.{ℚ, ℚring}
-use Rattle.terms.proofs.WellFormed.{WellFormed}
-use Rattle.terms.proofs.BookTerms.{Each, Closed}
-use Rattle.linear_comb.specs.LinearComb.{Arm, armOf}
+use Rattle.book.proofs.WellFormed.{WellFormed}
+use Rattle.book.proofs.BookTerms.{Each, Closed}
+use Rattle.linear_walk.specs.LinearTerms.{Arm, armOf}
 use Rattle.rules.specs.Shapes.{size}
 use Rattle.alethe.specs.AletheTerms.{Is, is, Sum, sumOf, plus, times, timesEach, nought, one, minusOne, Linear}
 use Rattle.alethe.specs.AletheTerms.{LinearAll}

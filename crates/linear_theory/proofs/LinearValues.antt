@@ -17,9 +17,9 @@ use Rattle.terms.specs.Smtlib.{Assignment, asPair, value, values, meaning}
 use Rattle.numbers.proofs.Ring.{Ring, _⊗_, 𝟙, _≐_, solve}
 use Rattle.numbers.proofs.Quotient.{ℚ, ℚring, mk-eq, mk-whole}
 use Rattle.terms.proofs.Sums.{meant, sumOf, productOf, mk-sum, mk-opposite, mk-difference, mk-product}
-use Rattle.terms.proofs.Fractions.{fraction-means}
-use Rattle.terms.proofs.BookTerms.{Closed}
-use Rattle.rules.specs.memory.Entries.{terms}
+use Rattle.book.proofs.Fractions.{fraction-means}
+use Rattle.book.proofs.BookTerms.{Closed}
+use Rattle.index_map.specs.memory.Entries.{terms}
 use Rattle.rules.specs.Shapes.{size}
 use Rattle.rules_theory.proofs.IndexMaps.{Values}
 use Rattle.rules_theory.proofs.WrittenNumbers.{written-read}

@@ -15,16 +15,16 @@ use Rattle.terms.specs.Term.Terms.{nil, _▹_}
 use Rattle.terms.specs.Readers.{asOp}
 use Rattle.numbers.proofs.Ring.{Ring, _⊕_, _⊖_, _⊗_, neg, 𝟘, 𝟙, _≐_, _·_, _and_, _from_, solve, derive}
 use Rattle.numbers.proofs.Quotient.{ℚ, ℚring}
-use Rattle.terms.proofs.BookTerms.{Each, Closed}
+use Rattle.book.proofs.BookTerms.{Each, Closed}
 use Rattle.rules.specs.Refusal.{Refusal, Result, _>>=_}
 use Rattle.rules.specs.Refusal.Outcome.{ok}
 use Rattle.rules.specs.Limits.{Limits, times}
-use Rattle.rules.specs.IndexMap.{Walked, addEntry, addConstant}
-use Rattle.linear_comb.specs.LinearComb.{Arm, armOf, addLeaf, Factors, chosen, factorsOf, addTerm, addArgs}
-use Rattle.linear_comb.specs.LinearComb.{addDifference, addFirst, addSecond}
-use Rattle.rules.specs.memory.Entries.{terms}
+use Rattle.index_map.specs.IndexMap.{Walked, addEntry, addConstant}
+use Rattle.linear_walk.specs.LinearTerms.{Arm, armOf, addLeaf, Factors, chosen, factorsOf, addTerm, addArgs}
+use Rattle.linear_walk.specs.LinearTerms.{addDifference, addFirst, addSecond}
+use Rattle.index_map.specs.memory.Entries.{terms}
 use Rattle.rules.specs.Shapes.{size}
-use Rattle.linear_comb.specs.LinearComb.Factors.{firstIs, secondIs, neitherIs}
+use Rattle.linear_walk.specs.LinearTerms.Factors.{firstIs, secondIs, neitherIs}
 use Rattle.alethe.specs.AletheTerms.{Atom, Written}
 use Rattle.rules.proofs.Yields.{Yields, gives, and-then}
 use Rattle.rules.proofs.Valuations.{Stands, numberℚ, rationals, times-stands}

@@ -22,8 +22,8 @@ use Rattle.terms.specs.declared.term.Reading.the-variants.{Value, NotNumber, Ou
 use Rattle.numbers.proofs.Ring.{Ring, _⊕_, _⊗_, neg, 𝟘, 𝟙, _≐_, _·_, _from_, solve, derive}
 use Rattle.numbers.proofs.Truths.{never}
 use Rattle.numbers.proofs.Quotient.{ℚ, ℚring}
-use Rattle.terms.proofs.BookTerms.{Closed}
-use Rattle.linear_comb.specs.LinearComb.{Arm, armOf}
+use Rattle.book.proofs.BookTerms.{Closed}
+use Rattle.linear_walk.specs.LinearTerms.{Arm, armOf}
 use Rattle.rules.specs.Shapes.{size}
 use Rattle.alethe.specs.AletheTerms.{is, Constant, Unsigned, Atom, Written}
 use Rattle.alethe.specs.AletheTerms.IsDivision.{div, slash}

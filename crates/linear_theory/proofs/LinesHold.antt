@@ -19,9 +19,9 @@ use Rattle.numbers.proofs.Truths.{never}
 use Rattle.numbers.proofs.Ring.{_⊕_, _⊖_, _⊗_, neg, 𝟘, 𝟙, _≐_, _·_, _and_, _from_, derive}
 use Rattle.numbers.proofs.Quotient.{ℚ, ℚring, product}
 use Rattle.terms.proofs.Sums.{meant}
-use Rattle.terms.proofs.BookTerms.{Closed}
-use Rattle.rules.specs.IndexMap.{Map}
-use Rattle.linear_arithmetic.specs.LinearArithmetic.{scalar}
+use Rattle.book.proofs.BookTerms.{Closed}
+use Rattle.index_map.specs.IndexMap.{Map}
+use Rattle.process_disequality.specs.ProcessDisequality.{scalar}
 use Rattle.linear_theory.specs.Premises.{wholeCoefficients}
 use Rattle.alethe.specs.AletheTerms.{Departure, Departures, Entries, coefficientOf}
 use Rattle.alethe.specs.Alethe as Alethe

@@ -9,13 +9,14 @@ use Rattle.terms.specs.Term.{Term, Terms, unary}
 use Rattle.numbers.specs.Choice.{if_then_else_}
 use Rattle.terms.specs.Term.Terms.{nil, _▹_}
 use Rattle.terms.specs.Readers.{asOp, removeNegation}
-use Rattle.terms.proofs.BookTerms.{Each, Closed}
+use Rattle.book.proofs.BookTerms.{Each, Closed}
 use Rattle.rules.specs.Refusal.{Result, _>>=_, orElse}
 use Rattle.rules.specs.Refusal.Outcome.{ok}
 use Rattle.rules.specs.Limits.{Limits, theRust}
-use Rattle.rules.specs.IndexMap.{Walked, combination, sub}
-use Rattle.linear_comb.specs.LinearComb.{LinearComb, fromTerm}
-use Rattle.rules.specs.memory.Entries.{terms}
+use Rattle.index_map.specs.IndexMap.{Walked, combination, sub}
+use Rattle.linear_walk.specs.LinearTerms.{fromTerm}
+use Rattle.linear_comb.specs.LinearComb.{LinearComb}
+use Rattle.index_map.specs.memory.Entries.{terms}
 use Rattle.disequality.specs.Disequality as Literal
 use Rattle.disequality.specs.Disequality.{Disequality, inner, negateOperator, negateDisequality, disequalityOf}
 use Rattle.alethe.specs.AletheTerms.{is, equals, lessThan, lessEq, greaterThan, greaterEq}

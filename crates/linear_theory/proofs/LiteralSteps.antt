@@ -14,11 +14,11 @@ use Rattle.numbers.proofs.Rationals.{neg-lowest, div-lowest}
 use Rattle.rules.specs.Refusal.{Refusal, Result, orElse}
 use Rattle.rules.specs.Refusal.Outcome.{ok, refused}
 use Rattle.rules.specs.Limits.{Limits}
-use Rattle.rules.specs.IndexMap.{Map, get, add}
+use Rattle.index_map.specs.IndexMap.{Map, get, add}
 use Rattle.linear_comb.specs.LinearComb.{LinearComb, mul, allInt}
-use Rattle.rules.specs.memory.Entries.{terms}
-use Rattle.linear_arithmetic.specs.LinearArithmetic.{strengthened, Progress, progress, inferred, argumentOf}
-use Rattle.linear_arithmetic.specs.LinearArithmetic.{joinOperators, scalar, weakened, processDisequality}
+use Rattle.index_map.specs.memory.Entries.{terms}
+use Rattle.process_disequality.specs.ProcessDisequality.{strengthened, Progress, progress, inferred, argumentOf}
+use Rattle.process_disequality.specs.ProcessDisequality.{joinOperators, scalar, weakened, processDisequality}
 use Rattle.disequality.specs.Disequality.{Disequality, disequalityOf}
 use Rattle.linear_theory.specs.Premises.{wholeCoefficients, wholeLiteral}
 use Rattle.rules.proofs.Yields.{Yields, guarded, gives, refuses, at-ok, and-then, weaker, over-yields, by-answer}

@@ -16,17 +16,17 @@ use Rattle.terms.specs.Term.Sort.{int}
 use Rattle.numbers.proofs.Ring.{Ring, _⊕_, _⊗_, 𝟘, 𝟙, _≐_, _·_, _from_, derive}
 use Rattle.numbers.proofs.Quotient.{ℚ, ℚring}
 use Rattle.numbers.proofs.Truths.{both, never}
-use Rattle.rules.specs.IndexMap.{Map, isEmpty}
+use Rattle.index_map.specs.IndexMap.{Map, isEmpty}
 use Rattle.linear_comb.specs.LinearComb.{allInt}
-use Rattle.rules.specs.memory.Entries.{terms}
+use Rattle.index_map.specs.memory.Entries.{terms}
 use Rattle.linear_theory.specs.Premises.{wholeCoefficients}
 use Rattle.alethe.specs.AletheTerms.{nought}
-use Rattle.rules.proofs.KeyedMaps.{Lacks, nothing, another, sameKey}
+use Rattle.index_map.proofs.KeyedMaps.{Lacks, nothing, another, sameKey}
 use Rattle.linear_theory.proofs.KeyNames.{same-turned, term-names}
 use Rattle.linear_theory.proofs.NoZero.{NoZero, entry}
 use Rattle.rules.proofs.Valuations.{numberℚ, rationals}
 use Rattle.rules_theory.proofs.IndexMaps.{EntryOf, EntriesOf, total}
-use Rattle.rules.proofs.MapKeys.{keyOf}
+use Rattle.index_map.proofs.MapKeys.{keyOf}
 use Rattle.linear_theory.proofs.Multiples.{Multiple, EachMultiple}
 use Rattle.linear_theory.proofs.Weights.{delta, weights}
 open Ring ℚring using (add as _+_, mul as _*_, ι)

@@ -21,8 +21,8 @@ use Rattle.numbers.proofs.LowestTerms.{quotZ-mul-cancel}
 use Rattle.numbers.proofs.Rationals.{isInteger-whole, eqZ-eq}
 use Rattle.numbers.proofs.Quotient.{ℚring, sum, product, ι}
 use Rattle.terms.proofs.Sums.{meant}
-use Rattle.terms.proofs.BookTerms.{Closed}
-use Rattle.rules.specs.IndexMap.{Map}
+use Rattle.book.proofs.BookTerms.{Closed}
+use Rattle.index_map.specs.IndexMap.{Map}
 use Rattle.linear_comb.specs.LinearComb.{atLeastOne, gcdFrom}
 use Rattle.linear_theory.specs.Premises.{wholeCoefficients}
 use Rattle.rules.proofs.Valuations.{numberℚ, rationals}

@@ -20,19 +20,21 @@ use Rattle.rules.specs.Refusal.{Result, _>>=_, assert, orElse}
 use Rattle.rules.specs.Refusal.Outcome.{refused}
 use Rattle.rules.specs.Refusal.Refusal.{visitLimit, polynomialSize, invalidDisequalityOp, notUnit, coeffNotFound}
 use Rattle.rules.specs.Limits.{Limits, times, plus, over, fractionOf}
-use Rattle.rules.specs.IndexMap.{Map, Combination, Keys, Walked, walked, new, combination, lastFirst, swapRemove}
-use Rattle.rules.specs.IndexMap.{negAll, scaleAll, get, enter, insert, insertAll, add, neg, sub, visit, addEntry}
-use Rattle.rules.specs.IndexMap.{addConstant}
-use Rattle.linear_comb.specs.LinearComb.{LinearComb, mul, coefficientsGcd, armOf, addLeaf, factorsOf, addTerm, addArgs}
-use Rattle.linear_comb.specs.LinearComb.{addDifference, addFirst, addSecond, fromTerm}
-use Rattle.rules.specs.memory.Entries.{terms}
-use Rattle.linear_arithmetic.specs.LinearArithmetic.{Progress, inferred, argumentOf, strengthened, scalar}
-use Rattle.linear_arithmetic.specs.LinearArithmetic.{processDisequality, foldLiterals}
+use Rattle.index_map.specs.IndexMap.{Map, Combination, Keys, Walked, walked, new, combination, lastFirst, swapRemove}
+use Rattle.index_map.specs.IndexMap.{negAll, scaleAll, get, enter, insert, insertAll, add, neg, sub, visit, addEntry}
+use Rattle.index_map.specs.IndexMap.{addConstant}
+use Rattle.linear_walk.specs.LinearTerms.{armOf, addLeaf, factorsOf, addTerm, addArgs}
+use Rattle.linear_comb.specs.LinearComb.{LinearComb, mul, coefficientsGcd}
+use Rattle.linear_walk.specs.LinearTerms.{addDifference, addFirst, addSecond, fromTerm}
+use Rattle.index_map.specs.memory.Entries.{terms}
+use Rattle.process_disequality.specs.ProcessDisequality.{Progress, inferred, argumentOf, strengthened, scalar}
+use Rattle.process_disequality.specs.ProcessDisequality.{processDisequality}
+use Rattle.linear_arithmetic.specs.LinearArithmetic.{foldLiterals}
 use Rattle.disequality.specs.Disequality.{Disequality, inner, twoSides, negateDisequality, turned, disequalityOf}
 use Rattle.disequality.specs.Disequality.{isIntegerTimes, raised, floored, strengthen}
 use Rattle.rules.specs.Shapes.{Clause}
 use Rattle.alethe.proofs.NonzeroNumbers.{negQ-nonzero, mulQ-nonzero}
-use Rattle.rules.proofs.KeyedMaps.{Lacks, nothing, another, sameKey}
+use Rattle.index_map.proofs.KeyedMaps.{Lacks, nothing, another, sameKey}
 use Rattle.linear_theory.proofs.KeyNames.{Named, same-turned, term-names, swapRemove-lacks, negAll-lacks}
 use Rattle.linear_theory.proofs.KeyNames.{scaleAll-lacks, enter-lacks}
 use Rattle.rules.proofs.Yields.{Yields, gives, at-ok, and-then, known, past, weaker, by-test, by-option, ranged-yields}

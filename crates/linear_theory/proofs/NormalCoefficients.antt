@@ -17,8 +17,8 @@ use Rattle.numbers.proofs.Truths.{never}
 use Rattle.numbers.proofs.Quotient.{ℚ, ℚring, sum, product}
 use Rattle.rules.specs.Refusal.Outcome.{ok}
 use Rattle.rules.specs.Limits.{Limits, theRust}
-use Rattle.rules.specs.IndexMap.{Map, insert}
-use Rattle.rules.specs.memory.Entries.{terms}
+use Rattle.index_map.specs.IndexMap.{Map, insert}
+use Rattle.index_map.specs.memory.Entries.{terms}
 use Rattle.alethe.specs.AletheTerms.{Entries, coefficientOf}
 use Rattle.linear_theory.proofs.KeyNames.{term-names}
 use Rattle.linear_theory.proofs.NoZero.{NoZero, empty, insert-nonzero}
@@ -26,7 +26,7 @@ use Rattle.rules.proofs.Yields.{at-ok}
 use Rattle.rules_theory.proofs.Unlimited.{answer-of, insert-free}
 use Rattle.rules.proofs.Valuations.{numberℚ, Respects, number-unique}
 use Rattle.rules_theory.proofs.IndexMaps.{EntriesOf, total, Totals, insert-totals}
-use Rattle.rules.proofs.MapKeys.{keyOf}
+use Rattle.index_map.proofs.MapKeys.{keyOf}
 use Rattle.linear_theory.proofs.MapEntries.{Among, of-among, nonzero-among, numberAt, At, absent, present, at}
 use Rattle.linear_theory.proofs.MapEntries.{at-among, at-lowest, total-at}
 use Rattle.linear_theory.proofs.Weights.{weigh, numbered, delta, weights, EntriesFor, none, entry}

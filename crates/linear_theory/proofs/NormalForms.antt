@@ -22,8 +22,8 @@ use Rattle.terms.specs.Smtlib.{Assignment, value}
 use Rattle.numbers.proofs.Truths.{never, same-test}
 use Rattle.numbers.proofs.Rationals.{isInteger-whole}
 use Rattle.terms.proofs.Sums.{meant}
-use Rattle.terms.proofs.BookTerms.{Closed}
-use Rattle.rules.specs.IndexMap.{Map, combination}
+use Rattle.book.proofs.BookTerms.{Closed}
+use Rattle.index_map.specs.IndexMap.{Map, combination}
 use Rattle.linear_comb.specs.LinearComb.{atLeastOne, gcdFrom, coefficientsGcd}
 use Rattle.linear_comb.specs.LinearComb as Linear
 use Rattle.disequality.specs.Disequality.{floored}
@@ -32,7 +32,7 @@ use Rattle.alethe.specs.AletheTerms.{Entries, coefficientOf, Cancels, allIntIn}
 use Rattle.alethe.specs.Alethe.{Constraint, Common}
 use Rattle.rules_theory.proofs.IndexMaps.{total}
 use Rattle.linear_theory.proofs.LinearWalk.{atoms}
-use Rattle.rules.proofs.MapKeys.{keyOf}
+use Rattle.index_map.proofs.MapKeys.{keyOf}
 use Rattle.linear_theory.proofs.Multiples.{Multiple, of-multiple, zero-multiple, EachMultiple, Found, gcdFrom-found}
 use Rattle.linear_theory.proofs.Multiples.Found.{fraction, negative, greatest}
 use Rattle.linear_theory.proofs.MapEntries.{Among, here, all-among, among-all, int-test, whole-test, of-among}

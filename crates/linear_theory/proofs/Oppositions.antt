@@ -15,7 +15,7 @@ use Rattle.terms.specs.Term.Terms.{nil, _▹_}
 use Rattle.terms.specs.Readers.{asOp, removeNegation}
 use Rattle.terms.specs.Smtlib.{Assignment}
 use Rattle.terms.proofs.Readings.{by-option}
-use Rattle.terms.proofs.BookTerms.{Each, Closed}
+use Rattle.book.proofs.BookTerms.{Each, Closed}
 use Rattle.disequality.specs.Disequality.{negateOperator, negatedOp, inner}
 use Rattle.rules.specs.Shapes.{isRelation}
 use Rattle.alethe.specs.Alethe.{IsRelation, lessThan, lessEq, greaterThan, greaterEq, Turns, Opposite}

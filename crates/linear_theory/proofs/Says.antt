@@ -22,7 +22,8 @@ use Rattle.numbers.proofs.Order.{pos-nonneg}
 use Rattle.numbers.proofs.Rationals.{abs-lowest}
 use Rattle.numbers.proofs.Ring.{_⊕_, _⊖_, _⊗_, neg, 𝟘, 𝟙, _≐_, _·_, _and_, _from_, solve, derive}
 use Rattle.numbers.proofs.Quotient.{ℚ, ℚring, sum, product, ι}
-use Rattle.linear_arithmetic.specs.LinearArithmetic.{joinOperators, scalar, weakened, isTrueAtZero}
+use Rattle.process_disequality.specs.ProcessDisequality.{joinOperators, scalar, weakened}
+use Rattle.linear_arithmetic.specs.LinearArithmetic.{isTrueAtZero}
 use Rattle.rules.proofs.Valuations.{numberℚ, zero-number}
 use Rattle.alethe.proofs.Signs.{Nonneg, Positive, nonneg-as, positive-as, nonneg-add, positive-add, nonneg-mul}
 use Rattle.alethe.proofs.Signs.{positive-mul, nonneg-of-positive, nonneg-of-zero, zero-not-positive}

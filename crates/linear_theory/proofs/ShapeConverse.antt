@@ -10,8 +10,7 @@ use Rattle.terms.specs.Readers.{asOp}
 use Rattle.rules.specs.Refusal.{_>>=_, orElse}
 use Rattle.rules.specs.Refusal.Outcome.{ok}
 use Rattle.rules.specs.Shapes.{onlyLiteral, bind, bindAll, solve, solveAll, hasForm}
-use Rattle.linear_arithmetic.specs.LinearArithmetic.{laRwEq, laDisequality, laTotality, rwEqForm, disequalityForm}
-use Rattle.linear_arithmetic.specs.LinearArithmetic.{totalityForm}
+use Rattle.linear_shapes.specs.LinearShapes.{laRwEq, laDisequality, laTotality, rwEqForm, disequalityForm, totalityForm}
 use Rattle.alethe.specs.Alethe.{Is1, Is2, Is3, is, LaRwEq, LaDisequality, LaTotality}
 use Rattle.rules_theory.proofs.Shapes.{same-self}
 pub use Rattle.rules_theory.proofs.Shapes.{operation-of}

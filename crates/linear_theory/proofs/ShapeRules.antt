@@ -9,10 +9,9 @@ use mathlib.Core.List.{[], _∷_}
 use Rattle.numbers.specs.Pair.{Pair, eqP, lessEqP}
 use Rattle.terms.specs.Term.{Term}
 use Rattle.terms.specs.Smtlib.{asPair, isTrue, truth, value}
-use Rattle.terms.proofs.BookTerms.{Closed}
+use Rattle.book.proofs.BookTerms.{Closed}
 use Rattle.rules.specs.Refusal.Outcome.{ok}
-use Rattle.linear_arithmetic.specs.LinearArithmetic.{laRwEq, laDisequality, laTotality, rwEqForm, disequalityForm}
-use Rattle.linear_arithmetic.specs.LinearArithmetic.{totalityForm}
+use Rattle.linear_shapes.specs.LinearShapes.{laRwEq, laDisequality, laTotality, rwEqForm, disequalityForm, totalityForm}
 use Rattle.rules.specs.Shapes.{hasForm}
 use Rattle.alethe.specs.Alethe.{Clause, Valid, LaRwEq, LaDisequality, LaTotality, equals, lessEq}
 use Rattle.rules_theory.proofs.Forms.{has-form}

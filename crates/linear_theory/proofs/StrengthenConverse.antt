@@ -20,13 +20,13 @@ use Rattle.numbers.proofs.Floor.{floor-lowest}
 use Rattle.numbers.proofs.LowestTerms.{whole-is-lowest}
 use Rattle.numbers.proofs.Ring.{_⊕_, _⊖_, neg, 𝟙, _≐_, _·_, _and_, _from_, derive}
 use Rattle.numbers.proofs.Quotient.{ℚring, sum, ι}
-use Rattle.terms.proofs.BookTerms.{Closed}
+use Rattle.book.proofs.BookTerms.{Closed}
 use Rattle.rules.specs.Refusal.Outcome.{ok}
 use Rattle.rules.specs.Limits.{theRust}
-use Rattle.rules.specs.IndexMap.{combination}
+use Rattle.index_map.specs.IndexMap.{combination}
 use Rattle.linear_comb.specs.LinearComb.{LinearComb, coefficientsGcd}
 use Rattle.linear_comb.specs.LinearComb as Linear
-use Rattle.linear_arithmetic.specs.LinearArithmetic.{strengthened}
+use Rattle.process_disequality.specs.ProcessDisequality.{strengthened}
 use Rattle.disequality.specs.Disequality.{Disequality, isIntegerTimes, raised, strengthen, floored}
 use Rattle.alethe.specs.AletheTerms.{Departure, Departures, Cancels}
 use Rattle.alethe.specs.Alethe.{Constraint, constraint, Relation, Strengthens, allInt, wholeTimes}

@@ -27,11 +27,11 @@ use Rattle.numbers.proofs.Order.{pos-nonneg, add-one-le-of-lt, mul-le-mul-of-no
 use Rattle.numbers.proofs.Order.{sub-nonneg-of-le}
 use Rattle.numbers.proofs.Rationals.{isInteger-whole, isInteger-value, eqQ-eq}
 use Rattle.numbers.proofs.Floor.{floor-le, floor-lowest}
-use Rattle.terms.proofs.Meaning.{value-of-sort}
+use Rattle.book.proofs.Meaning.{value-of-sort}
 use Rattle.numbers.proofs.Quotient.{ℚ, ℚring, sum, opposite, ι, mk-eq, mk-whole, ≈-of-mk-eq}
 use Rattle.terms.proofs.Sums.{meant}
-use Rattle.terms.proofs.BookTerms.{Closed}
-use Rattle.rules.specs.IndexMap.{Map}
+use Rattle.book.proofs.BookTerms.{Closed}
+use Rattle.index_map.specs.IndexMap.{Map}
 use Rattle.disequality.specs.Disequality.{isIntegerTimes}
 use Rattle.linear_comb.specs.LinearComb.{allInt}
 use Rattle.linear_theory.specs.Premises.{wholeCoefficients}

@@ -13,8 +13,8 @@ use Rattle.terms.specs.Term.{Term, recordNumber, same, sort, sameSort}
 use Rattle.terms.specs.Term.Sort.{int}
 use Rattle.numbers.proofs.Truths.{never}
 use Rattle.numbers.proofs.Quotient.{ℚ, ℚring, sum, product, ι}
-use Rattle.rules.specs.IndexMap.{Map}
-use Rattle.rules.specs.memory.Entries.{terms}
+use Rattle.index_map.specs.IndexMap.{Map}
+use Rattle.index_map.specs.memory.Entries.{terms}
 use Rattle.alethe.specs.AletheTerms.{Entries, coefficientOf, allIntIn}
 use Rattle.rules.proofs.Valuations.{numberℚ, rationals, Respects}
 use Rattle.rules_theory.proofs.IndexMaps.{Values, total}

@@ -13,10 +13,10 @@ use Rattle.numbers.proofs.Ring.{Ring, _⊕_, _⊗_, neg, 𝟙, _≐_, _·_, _an
 use Rattle.numbers.proofs.Quotient.{ℚ, ℚring}
 use Rattle.rules.specs.Refusal.Outcome.{ok}
 use Rattle.rules.specs.Limits.{Limits, plus}
-use Rattle.rules.specs.IndexMap as IndexMap
-use Rattle.rules.specs.IndexMap.{combination, negAll, insertAll, add, sub}
+use Rattle.index_map.specs.IndexMap as IndexMap
+use Rattle.index_map.specs.IndexMap.{combination, negAll, insertAll, add, sub}
 use Rattle.linear_comb.specs.LinearComb.{LinearComb}
-use Rattle.rules.specs.memory.Entries.{terms}
+use Rattle.index_map.specs.memory.Entries.{terms}
 use Rattle.alethe.specs.AletheTerms.{Entries, Sum, timesEach, minusOne}
 use Rattle.rules.proofs.Yields.{Yields, gives, past, and-then, at-ok, plus-yields}
 use Rattle.rules.proofs.Valuations.{numberℚ, rationals, number-unique}

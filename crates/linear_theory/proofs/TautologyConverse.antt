@@ -19,13 +19,13 @@ use Rattle.terms.specs.declared.term.Reading.{Reading}
 use Rattle.terms.specs.declared.term.Reading.the-variants.{Value, NotNumber, OutOfRange}
 use Rattle.numbers.proofs.Truths.{T-true}
 use Rattle.terms.proofs.Readings.{not-number, out-of-range}
-use Rattle.terms.proofs.BookTerms.{Closed}
+use Rattle.book.proofs.BookTerms.{Closed}
 use Rattle.rules.specs.Refusal.{Refusal, Result, _>>=_, assert, orElse}
 use Rattle.rules.specs.Refusal.Outcome.{ok, refused}
 use Rattle.rules.specs.Refusal.Refusal.{expectedAnyNumber}
 use Rattle.rules.specs.Limits.{Limits, theRust, numberOr, signedNumberErr}
-use Rattle.linear_arithmetic.specs.LinearArithmetic.{isTautology, laTautology, assertLessThan, assertLessEq}
-use Rattle.linear_arithmetic.specs.LinearArithmetic.{tautologyCase}
+use Rattle.linear_shapes.specs.LinearShapes.{assertLessThan, assertLessEq, tautologyCase}
+use Rattle.linear_arithmetic.specs.LinearArithmetic.{isTautology, laTautology}
 use Rattle.disequality.specs.Disequality.{Disequality, disequalityOf}
 use Rattle.rules.specs.Shapes.{onlyLiteral, assertEq, boundsCase, negatedBinary}
 use Rattle.alethe.specs.AletheTerms.{Departures, is, Is1, Is2, Signed, Written, Cancels}

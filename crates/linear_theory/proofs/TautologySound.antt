@@ -13,12 +13,12 @@ use Rattle.terms.specs.Term.{Term, binary}
 use Rattle.numbers.specs.Choice.{if_then_else_}
 use Rattle.terms.specs.Smtlib.{isTrue}
 use Rattle.numbers.proofs.Truths.{both, true-or-false}
-use Rattle.terms.proofs.WellFormed.{WellFormed}
-use Rattle.terms.proofs.BookTerms.{Closed}
+use Rattle.book.proofs.WellFormed.{WellFormed}
+use Rattle.book.proofs.BookTerms.{Closed}
 use Rattle.rules.specs.Refusal.{_>>=_}
 use Rattle.rules.specs.Refusal.Outcome.{ok}
 use Rattle.rules.specs.Limits.{Limits}
-use Rattle.rules.specs.IndexMap.{isEmpty}
+use Rattle.index_map.specs.IndexMap.{isEmpty}
 use Rattle.linear_arithmetic.specs.LinearArithmetic.{isTrueAtZero, isTautology, laTautology}
 use Rattle.disequality.specs.Disequality.{Disequality, disequalityOf}
 use Rattle.rules.specs.Shapes.{onlyLiteral}

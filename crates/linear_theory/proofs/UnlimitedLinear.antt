@@ -20,10 +20,11 @@ use Rattle.terms.specs.declared.term.Reading.the-variants.{Value, NotNumber, Ou
 use Rattle.rules.specs.Refusal.{_>>=_}
 use Rattle.rules.specs.Refusal.Outcome.{ok}
 use Rattle.rules.specs.Limits.{theRust, numberOr, fractionOf}
-use Rattle.rules.specs.IndexMap.{Walked, walked, combination, new}
-use Rattle.linear_comb.specs.LinearComb.{LinearComb, mul, armOf, addLeaf, factorsOf, addTerm, addArgs, addDifference}
-use Rattle.linear_comb.specs.LinearComb.{addFirst, addSecond, fromTerm}
-use Rattle.rules.specs.memory.Entries.{terms}
+use Rattle.index_map.specs.IndexMap.{Walked, walked, combination, new}
+use Rattle.linear_walk.specs.LinearTerms.{armOf, addLeaf, factorsOf, addTerm, addArgs, addDifference}
+use Rattle.linear_comb.specs.LinearComb.{LinearComb, mul}
+use Rattle.linear_walk.specs.LinearTerms.{addFirst, addSecond, fromTerm}
+use Rattle.index_map.specs.memory.Entries.{terms}
 use Rattle.disequality.specs.Disequality.{raised}
 use Rattle.linear_theory.proofs.LinearCases.{by-arm, by-factors}
 use Rattle.rules_theory.proofs.Unlimited.{Free, answers, freely, free-of, either-free, option-free, times-free}

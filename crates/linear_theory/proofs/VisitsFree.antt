@@ -16,12 +16,13 @@ use Rattle.terms.specs.Term.Terms.{nil, _▹_}
 use Rattle.rules.specs.Refusal.{Refusal, Result, _>>=_, assert}
 use Rattle.rules.specs.Refusal.Outcome.{ok, refused}
 use Rattle.rules.specs.Limits.{Limits, theRust, times}
-use Rattle.rules.specs.IndexMap as IndexMap
-use Rattle.rules.specs.IndexMap.{combination, Walked, walked, new, visit, addEntry, addConstant}
-use Rattle.linear_comb.specs.LinearComb.{LinearComb, armOf, addLeaf, addTerm, addArgs, addDifference, addFirst}
-use Rattle.linear_comb.specs.LinearComb.{addSecond, fromTerm}
-use Rattle.rules.specs.memory.Entries.{terms}
-use Rattle.linear_comb.specs.LinearComb.Arm.{sum}
+use Rattle.index_map.specs.IndexMap as IndexMap
+use Rattle.index_map.specs.IndexMap.{combination, Walked, walked, new, visit, addEntry, addConstant}
+use Rattle.linear_walk.specs.LinearTerms.{armOf, addLeaf, addTerm, addArgs, addDifference, addFirst}
+use Rattle.linear_comb.specs.LinearComb.{LinearComb}
+use Rattle.linear_walk.specs.LinearTerms.{addSecond, fromTerm}
+use Rattle.index_map.specs.memory.Entries.{terms}
+use Rattle.linear_walk.specs.LinearTerms.Arm.{sum}
 use Rattle.disequality.specs.Disequality.{Disequality, disequality, negateDisequality, turned, disequalityOf}
 use Rattle.rules_theory.proofs.Limited.{_≼_, sub-limited, Unbounded}
 use Rattle.rules_theory.proofs.Limited._≼_.{equal, stopped}

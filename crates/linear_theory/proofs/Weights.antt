@@ -13,7 +13,7 @@ use Rattle.numbers.proofs.Ring.{Ring, _⊕_, _⊗_, 𝟘, 𝟙, _≐_, _·_, _a
 use Rattle.numbers.proofs.LowestTerms.{whole-is-lowest}
 use Rattle.numbers.proofs.Rationals.{add-lowest, mul-lowest}
 use Rattle.numbers.proofs.Quotient.{ℚ, ℚring}
-use Rattle.rules.specs.memory.Entries.{terms}
+use Rattle.index_map.specs.memory.Entries.{terms}
 use Rattle.alethe.specs.AletheTerms.{Entries, timesEach, coefficientOf}
 use Rattle.rules.proofs.Valuations.{numberℚ, rationals}
 use Rattle.rules_theory.proofs.IndexMaps.{Values}

@@ -10,7 +10,7 @@ use Rattle.terms.specs.declared.term.Reading.{Reading}
 use Rattle.terms.specs.declared.term.Reading.the-variants.{Value, NotNumber, OutOfRange}
 use Rattle.rules.specs.Refusal.Outcome.{ok, refused}
 use Rattle.rules.specs.Limits.{theRust}
-use Rattle.rules.specs.IndexMap.{Map}
+use Rattle.index_map.specs.IndexMap.{Map}
 use Rattle.disequality.specs.Disequality.{disequalityOf}
 use Rattle.linear_comb.specs.LinearComb.{allInt}
 use Rattle.rules.specs.Shapes.{Clause}

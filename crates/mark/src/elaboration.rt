@@ -1,28 +1,32 @@
 // A run elaborated over a book, and its elaboration marked again.
-use crate::arguments::OUT_RUN;
-use crate::arguments::OUT_TAIL;
-use crate::arguments::path_of;
-use crate::arguments::print_word;
-use crate::files::remove;
-use crate::files::write_new;
-use crate::format::RUN_RECORDS;
-use crate::format::is_lent;
-use crate::marking::print_answer;
-use crate::printing::complain;
-use crate::printing::print;
-use crate::printing::print_number;
+ghost use mathlib.Core.Path.{_≡_};
+ghost use lib.ListN.{length};
+use crate::answer::print_answer;
+use crate::options::OUT_RUN;
+use crate::options::OUT_TAIL;
 use again::again::elaborate_and_mark;
 use elaborate::elaborate::Elaborated;
 use elaborate::elaborate::written;
-use terms::areas::WORK_BYTES;
-use terms::format::MAX_RECORDS;
-use terms::format::RECORD_BYTES;
+use listing::format::RUN_RECORDS;
+use listing::format::is_lent;
+use programs::arguments::path_of;
+use programs::arguments::print_word;
+use programs::files::remove;
+use programs::files::write_new;
+use programs::printing::complain;
+use programs::printing::print;
+use programs::printing::print_number;
 use terms::format::RUN_RECORD_BYTES;
 
-// The bytes of the longest run and of the largest book.
+// The bytes of the longest run.
 const RUN_BYTES: usize = RUN_RECORD_BYTES * RUN_RECORDS;
 
-const BOOK_BYTES: usize = RECORD_BYTES * MAX_RECORDS;
+// Room for the longest run. The contract has what lending it asks for, so that its length is worked out but once.
+fn run_area() -> [u8; RUN_BYTES]
+    ensures { λ r. ⌜ 16384 ≡ length r ⌝ }
+{
+    [0; RUN_BYTES]
+}
 
 // ---- the files
 
@@ -49,15 +53,18 @@ fn write_both(run: &[u8], tail: &[u8]) -> bool {
 
 // ---- what is said
 
+// So many bytes, in the file that argument i names.
+fn print_file(bytes: usize, i: usize) {
+    print_number(bytes as u64);
+    print(b" bytes to ");
+    print_word(i);
+}
+
 fn print_written(run: usize, tail: usize) {
     print(b"written ");
-    print_number(run as u64);
-    print(b" bytes to ");
-    print_word(OUT_RUN);
+    print_file(run, OUT_RUN);
     print(b" and ");
-    print_number(tail as u64);
-    print(b" bytes to ");
-    print_word(OUT_TAIL);
+    print_file(tail, OUT_TAIL);
     print(b"\n");
 }
 
@@ -67,9 +74,10 @@ fn print_again(steps: usize, again: bool) {
         print(b"marked again: nothing was accepted, so the elaboration has no steps\n");
     } else if again {
         print(
-            b"marked again: accepted whole, with the same steps and visits, and nothing inferred\n",
+            b"marked again: accepted whole, with the same steps and visits, and nothing inferred
+what that says of the clauses: 'What verdict 0 means' in the README
+",
         );
-        print(b"what that says of the clauses: 'What verdict 0 means' in the README\n");
     } else {
         print(b"marked again: not the same answer; see demand 3's premises in the README\n");
     }
@@ -93,14 +101,15 @@ fn answer(book: &[u8], run: &[u8], a: Elaborated, again: bool, outrun: &[u8], ou
     }
 }
 
-// Elaborates, marks the elaboration again, writes both files and answers.
+// Elaborates, marks the elaboration again, writes both files and answers. A work area and the largest book have 65,536
+// bytes, as the large buffer.
 pub(crate) fn elaborate_files(book: &[u8], run: &[u8], limit: u32) {
-    let mut work = [0u8; WORK_BYTES];
-    let mut outrun = [0u8; RUN_BYTES];
-    let mut outtail = [0u8; BOOK_BYTES];
-    let mut joined = [0u8; BOOK_BYTES];
-    let mut againrun = [0u8; RUN_BYTES];
-    let mut againtail = [0u8; BOOK_BYTES];
+    let mut work = io::large_buffer();
+    let mut outrun = run_area();
+    let mut outtail = io::large_buffer();
+    let mut joined = io::large_buffer();
+    let mut againrun = run_area();
+    let mut againtail = io::large_buffer();
     let t = elaborate_and_mark(
         book,
         run,

@@ -1,41 +1,36 @@
 // `mark BOOK` lists the records of a book file. `mark BOOK RUN [LIMIT]` marks a run over it, and `mark BOOK RUN --list`
 // lists its steps. `mark --elaborate BOOK RUN LIMIT OUT_RUN OUT_TAIL` writes the elaboration of its accepted steps and
 // marks it again.
-mod arguments;
+mod answer;
 mod elaboration;
-mod faults;
-mod files;
-mod format;
 mod help;
-mod listing;
-mod marking;
-mod printing;
-mod refusals;
-mod steps;
-mod words;
+mod options;
+mod run_listing;
 
+ghost use mathlib.Core.Path.{_≡_};
 ghost use Prim.Native.Nat.{_≤_};
-use arguments::ELABORATED_BOOK;
-use arguments::ELABORATED_LIMIT;
-use arguments::FIRST;
-use arguments::LIMIT;
-use arguments::OUT_TAIL;
-use arguments::RUN;
-use arguments::Word;
-use arguments::all_plain;
-use arguments::has_unknown;
-use arguments::limit_of;
-use arguments::word_at;
+ghost use lib.ListN.{length};
+use answer::mark;
 use elaboration::elaborate_files;
-use files::read_arg;
-use format::RUN_RECORDS;
 use help::help;
 use help::usage;
 use help::version;
-use listing::list_book;
-use marking::mark;
-use runs::check::MAX_LIMIT;
-use steps::list_run;
+use listing::book::list_book;
+use listing::format::RUN_RECORDS;
+use marking::check::MAX_LIMIT;
+use options::ELABORATED_BOOK;
+use options::ELABORATED_LIMIT;
+use options::FIRST;
+use options::LIMIT;
+use options::OUT_TAIL;
+use options::RUN;
+use options::Word;
+use options::all_plain;
+use options::has_unknown;
+use options::limit_of;
+use options::word_at;
+use programs::files::read_arg;
+use run_listing::list_run;
 use terms::format::MAX_RECORDS;
 use terms::format::RECORD_BYTES;
 use terms::format::RUN_RECORD_BYTES;
@@ -44,6 +39,13 @@ use terms::format::RUN_RECORD_BYTES;
 const BOOK_SPACE: usize = RECORD_BYTES * MAX_RECORDS + RECORD_BYTES;
 
 const RUN_SPACE: usize = RUN_RECORD_BYTES * RUN_RECORDS + RUN_RECORD_BYTES;
+
+// Room for a book. The contract has what lending it asks for, so that its length is worked out but once.
+fn book_space() -> [u8; BOOK_SPACE]
+    ensures { λ r. ⌜ 65568 ≡ length r ⌝ }
+{
+    [0; BOOK_SPACE]
+}
 
 // What is done with a book and a run.
 enum Task {
@@ -55,7 +57,7 @@ enum Task {
 // ---- the commands
 
 fn with_book() {
-    let mut book = [0u8; BOOK_SPACE];
+    let mut book = book_space();
     let b = read_arg(FIRST, b"BOOK", &mut book);
     if b.ok {
         let n = b.bytes;
@@ -71,20 +73,25 @@ fn perform(task: Task, book: &[u8], run: &[u8], limit: u32) {
     }
 }
 
+// Reads the run that argument i names, and performs a task on it and a book.
+fn with_run(task: Task, i: usize, book: &[u8], limit: u32) {
+    let mut run = [0u8; RUN_SPACE];
+    let r = read_arg(i, b"RUN", &mut run);
+    if r.ok {
+        let n = r.bytes;
+        perform(task, book, &run[..n], limit);
+    }
+}
+
 // Reads the files that arguments i and i + 1 name, and performs a task on them.
 fn with_files(task: Task, i: usize, limit: u32)
     requires { ⌜ i ≤ 2 ⌝ }
 {
-    let mut book = [0u8; BOOK_SPACE];
-    let mut run = [0u8; RUN_SPACE];
+    let mut book = book_space();
     let b = read_arg(i, b"BOOK", &mut book);
     if b.ok {
-        let r = read_arg(i + 1, b"RUN", &mut run);
-        if r.ok {
-            let n = b.bytes;
-            let m = r.bytes;
-            perform(task, &book[..n], &run[..m], limit);
-        }
+        let n = b.bytes;
+        with_run(task, i + 1, &book[..n], limit);
     }
 }
 

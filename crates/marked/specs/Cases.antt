@@ -4,18 +4,18 @@ use mathlib.Core.Bool.{Bool, true, false, _&&_}
 use mathlib.Core.List.{List, [], _∷_, _++_}
 use Prim.Native.Nat.{ℕ, _/_, _%_}
 use lib.Dec.{eqb}
-use Rattle.numbers.specs.Bytes.{Bytes, bytesOf}
-use Rattle.numbers.specs.Bytes.{sameBytes}
+use Rattle.numbers.specs.Bytes.{Bytes, bytesOf, sameBytes}
 use Rattle.terms.specs.BookExamples.{joined}
 use Rattle.alethe_examples.specs.Computes.{rules}
 use Rattle.runs.specs.Verdict.{verdictNumber}
 use Rattle.runs.specs.Rule.{withNumber, ruleOf}
 use Rattle.runs.specs.Run.{headRule, S, P, C, A, recs, leading, after, allRight, numbersOf, termsOf, readStep}
 use Rattle.runs.specs.Run.{readSteps, readRun, premiseBytes, termBytes}
-use Rattle.runs.specs.Check.{checkRule, clausesOf, checkStep, turn, turns, checkSteps, markRun, mark, check}
-use Rattle.elaborate.specs.Elaborate as Elaborate
-use Rattle.elaborate.specs.Elaborate.{Answer, findReal, placeIn, addReal, addReals, stepBytes, addSteps, tailBytes}
-use Rattle.elaborate.specs.Elaborate.{fits, elaborated, elaborateUnder, elaborate}
+use Rattle.steps.specs.CheckStep.{checkRule, clausesOf, checkStep}
+use Rattle.marking.specs.Check.{turn, turns, checkSteps, markRun, mark, check}
+use Rattle.out_areas.specs.Farkas as Farkas
+use Rattle.elaborate.specs.Elaborate.{Answer, addSteps, elaborated, elaborateUnder, elaborate}
+use Rattle.out_areas.specs.Farkas.{findReal, placeIn, addReal, addReals, stepBytes, tailBytes, fits}
 
 -- ---- runs from their parts
 
@@ -66,7 +66,7 @@ allMarked (c ∷ cs) = elim (isMarked c) [ true ↦ allMarked cs | false ↦ fal
 
 unfoldable pub marks : Unit {0}
 unfolding rules recs leading after allRight numbersOf termsOf withNumber ruleOf headRule readStep readSteps readRun
-    clausesOf checkRule checkStep turn turns checkSteps markRun mark check bytesOf Elaborate.realRecord findReal placeIn
+    clausesOf checkRule checkStep turn turns checkSteps markRun mark check bytesOf Farkas.realRecord findReal placeIn
     addReal addReals premiseBytes termBytes stepBytes addSteps tailBytes fits elaborated elaborateUnder elaborate
     runRecord runRecords stepRecords allMarked
 marks = tt

@@ -17,7 +17,7 @@ use Rattle.numbers.specs.Rational as Rational
 use Rattle.rules.specs.Limits.{limited}
 use Rattle.runs.specs.Verdict.{Verdict}
 use Rattle.runs.specs.Run.{stepsOf}
-use Rattle.runs.specs.Check.{mark}
+use Rattle.marking.specs.Check.{mark}
 use Rattle.marked.specs.Cases.{stepRecords, marks}
 use Rattle.elaborate.specs.Statements.{clauses}
 

@@ -21,12 +21,12 @@ use Rattle.numbers.specs.Bytes.{Bytes, numberAt}
 use Rattle.numbers.proofs.Machine.{machine, back, at-negative, at-natural}
 use Rattle.numbers.proofs.Modulo.{modulo-lt}
 use Rattle.numbers.proofs.Ranges.{num, makes}
-use Rattle.rules.specs.IndexMap.{Map}
+use Rattle.index_map.specs.IndexMap.{Map}
 use Rattle.polynomial.specs.Polynomial.{Monomial}
 use Rattle.poly_simp.specs.PolySimp.{moduloAll}
 use Rattle.polynomial.specs.memory.PolynomialArea.{noEntry, keyAt, putEntry, Held, Poly}
 use Rattle.poly_simp.specs.memory.PolynomialSteps.{modulus, reducedBy, ReducedLeft}
-use Rattle.rules.proofs.CheckedNumbers.{whole-proper}
+use Rattle.index_map.proofs.CheckedNumbers.{whole-proper}
 use Rattle.polynomial.proofs.StoredMonomials.{read-key, read-value, write-value}
 use Rattle.polynomial.proofs.StackAreas.{lent-held, lent-put}
 

@@ -11,21 +11,19 @@ use Rattle.rules.specs.Refusal.{_>>=_, assert}
 use Rattle.rules.specs.Refusal.Outcome.{ok}
 use Rattle.rules.specs.Refusal.Refusal.{polynomialsNotEqual}
 use Rattle.rules.specs.Limits.{limited}
-use Rattle.rules.specs.IndexMap.{Map, combination, sub}
+use Rattle.index_map.specs.IndexMap.{Map, combination, sub}
 use Rattle.polynomial.specs.Polynomial.{Monomial, monomials, isNought}
 use Rattle.rules.specs.memory.Parts.{verdictOf}
 use Rattle.polynomial.specs.memory.PolynomialArea as area
-use Rattle.polynomial.specs.memory.PolynomialArea.{Poly, PolyHas, polyWith, AllGood, Stacked, StackHas}
-use Rattle.polynomial.specs.memory.PolynomialArea.{combinedRefusal}
+use Rattle.polynomial.specs.memory.PolynomialArea.{Poly, PolyHas, polyWith, AllGood, Stacked, StackHas, combinedRefusal}
 use Rattle.poly_simp.specs.memory.PolynomialSteps.{reducedBy, ReducedLeft, differs, DiffersLeft}
 use Rattle.rules.specs.declared.verdict.Verdict.{Verdict}
 use Rattle.rules.specs.declared.verdict.Verdict.the-variants as verdict
 use Rattle.polynomial.specs.declared.polynomial.Combined.{Combined}
 use Rattle.polynomial.specs.declared.polynomial.Combined.the-variants as combined
 use Rattle.polynomial.proofs.StackAreas.{stack-less, stack-room}
-use Rattle.rules.proofs.Results.{coded}
+use Rattle.rules.proofs.Results.{coded, refused-then, refused-verdict}
 use Rattle.poly_simp.proofs.TurnedEntries.{Clears, Subtracts}
-use Rattle.rules.proofs.Results.{refused-then, refused-verdict}
 
 -- ---- two polynomials in a stack
 

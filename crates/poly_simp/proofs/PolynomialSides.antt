@@ -12,7 +12,7 @@ use Rattle.numbers.specs.Bytes.{Bytes}
 use Rattle.terms.specs.Book.{count, tree}
 use Rattle.rules.specs.Refusal.{_>>=_}
 use Rattle.rules.specs.Limits.{limited}
-use Rattle.rules.specs.IndexMap.{Map, walked}
+use Rattle.index_map.specs.IndexMap.{Map, walked}
 use Rattle.polynomial.specs.Polynomial.{Monomial}
 use Rattle.polynomial_walk.specs.PolynomialTerms.{addTerm, fromTerm}
 use Rattle.rules.specs.memory.Parts.{Refuses, Laid, verdictOf}
@@ -24,13 +24,11 @@ use Rattle.rules.specs.declared.verdict.Verdict.{Verdict}
 use Rattle.rules.specs.declared.verdict.Verdict.the-variants as verdict
 use Rattle.polynomial.specs.declared.polynomial.Walk.{Walk}
 use Rattle.polynomial.specs.declared.polynomial.Walk.the-variants as walk
-use Rattle.rules.proofs.CheckedNumbers.{whole-proper}
-use Rattle.polynomial.proofs.StackAreas.{stack-none, stack-more, stack-less, stack-lowest, stack-above}
-use Rattle.polynomial.proofs.StackAreas.{stack-cons}
-use Rattle.rules.proofs.Results.{coded}
+use Rattle.index_map.proofs.CheckedNumbers.{whole-proper}
+use Rattle.polynomial.proofs.StackAreas.{stack-none, stack-more, stack-less, stack-lowest, stack-above, stack-cons}
+use Rattle.rules.proofs.Results.{coded, refused-then, refused-verdict}
 use Rattle.poly_simp.proofs.PolynomialDifferences.{two-areas, one-area}
 use Rattle.poly_simp.proofs.TurnedEntries.{Clears}
-use Rattle.rules.proofs.Results.{refused-then, refused-verdict}
 
 -- ---- one side of an equality, in a stack that is empty so far
 

@@ -19,7 +19,7 @@ use Rattle.terms.specs.declared.term.Only.{Only}
 use Rattle.terms.specs.declared.term.Only.the-variants as only
 use Rattle.terms.specs.declared.term.Two.{Two}
 use Rattle.terms.specs.declared.term.Two.the-variants as two
-use Rattle.terms.proofs.BookTerms.{recordNumber-tree}
+use Rattle.terms.proofs.NumberedNodes.{recordNumber-tree}
 use Rattle.terms.proofs.Readings.{binary-shape}
 use Rattle.terms.proofs.RecordReadings.{argumentsOf-record}
 use Rattle.terms.proofs.RecordBytes.{earlier-before}
@@ -28,7 +28,7 @@ use Rattle.rules.specs.Refusal.{Refusal, _>>=_, assert, number}
 use Rattle.rules.specs.Refusal.Outcome.{ok, refused}
 use Rattle.rules.specs.Refusal.Refusal.{polynomialsNotEqual}
 use Rattle.rules.specs.Limits.{Limits}
-use Rattle.rules.specs.IndexMap.{sub}
+use Rattle.index_map.specs.IndexMap.{sub}
 use Rattle.rules.specs.Shapes.{Clause, onlyLiteral, binaryErr}
 use Rattle.rules.specs.memory.ShapeRecords.{pairOf}
 use Rattle.rules.specs.memory.Parts.{named, numbersIn, Inside, verdictOf, Laid, Ready}
@@ -38,7 +38,7 @@ use Rattle.poly_simp.specs.PolySimp.{reduced, polySimp}
 use Rattle.poly_simp.specs.memory.PolynomialSteps.{reducedBy, differs, equalSides}
 use Rattle.rules.specs.declared.verdict.Verdict.{Verdict}
 use Rattle.rules.specs.declared.verdict.Verdict.the-variants as verdict
-use Rattle.rules.proofs.ArgumentsBelow.{args-below}
+use Rattle.book.proofs.ArgumentsBelow.{args-below}
 use Rattle.rules.proofs.ShapeSteps.{OnlyIn, literal-is}
 use Rattle.poly_simp.proofs.SortBounds.{sort-small, reduced-is}
 

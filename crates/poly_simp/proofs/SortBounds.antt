@@ -19,9 +19,9 @@ use Rattle.numbers.proofs.Truths.{both}
 use Rattle.terms.proofs.Nodes.{Laid, an-integer, a-rational, a-vector, an-atom, an-operation, laid, node-integer}
 use Rattle.terms.proofs.Nodes.{node-rational, node-vector, node-atom, node-operation, integer-number, real-number}
 use Rattle.terms.proofs.Nodes.{vector-fields, vector-width}
-use Rattle.terms.proofs.RecordSorts.{wide-below}
-use Rattle.terms.proofs.SortRules.{Wide, either}
-use Rattle.terms.proofs.WellFormed.{operates}
+use Rattle.book.proofs.RecordSorts.{wide-below}
+use Rattle.book.proofs.SortRules.{Wide, either}
+use Rattle.book.proofs.WellFormed.{operates}
 use Rattle.polynomial.specs.Polynomial.{Polynomial}
 use Rattle.poly_simp.specs.PolySimp.{reduced}
 use Rattle.poly_simp.specs.memory.PolynomialSteps.{reducedBy}

@@ -16,7 +16,7 @@ use Rattle.rules.specs.Refusal.{Result, _>>=_}
 use Rattle.rules.specs.Refusal.Outcome.{ok, refused}
 use Rattle.rules.specs.Refusal.Refusal.{numberRange}
 use Rattle.rules.specs.Limits.{limited, plus}
-use Rattle.rules.specs.IndexMap.{Map, insert, insertAll, negAll, add, neg, sub}
+use Rattle.index_map.specs.IndexMap.{Map, insert, insertAll, negAll, add, neg, sub}
 use Rattle.polynomial.specs.Polynomial.{Monomial, monomials}
 use Rattle.rules.specs.memory.Parts.{Refuses}
 use Rattle.polynomial.specs.memory.PolynomialArea as area
@@ -26,11 +26,10 @@ use Rattle.polynomial.specs.declared.monomials.Inserted.{Inserted}
 use Rattle.polynomial.specs.declared.monomials.Inserted.the-variants as inserted
 use Rattle.polynomial.specs.declared.polynomial.Combined.{Combined}
 use Rattle.polynomial.specs.declared.polynomial.Combined.the-variants as combined
-use Rattle.rules.proofs.CheckedNumbers.{plus-value, plus-out}
+use Rattle.index_map.proofs.CheckedNumbers.{plus-value, plus-out}
 use Rattle.polynomial.proofs.ProductEntries.{key-there, value-there}
 use Rattle.polynomial.proofs.StackAreas.{stack-part, stack-less}
-use Rattle.rules.proofs.Results.{refused-then}
-use Rattle.rules.proofs.Results.{coded}
+use Rattle.rules.proofs.Results.{refused-then, coded}
 
 -- ---- one entry
 

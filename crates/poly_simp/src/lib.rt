@@ -1,3 +1,2 @@
-// Layer 2: the rules of src/checker/rules/polynomial.rs on one step.
+// Layer 2: the rule poly_simp of src/checker/rules/polynomial.rs on one step.
 pub mod poly_simp;
-pub mod polynomial_rel;

@@ -10,10 +10,10 @@ use lib.ListN.{length, getD, replicate, length-append}
 use lib.Seq.{append-snoc}
 use Rattle.numbers.specs.Bytes.{Bytes, le, put, bytesOf}
 use Rattle.terms.specs.Term.{Term, recordNumber}
-use Rattle.polynomial.specs.Polynomial.{Monomial, place}
+use Rattle.polynomial.specs.Polynomial.{Monomial}
 use Rattle.polynomial.specs.memory.PolynomialArea.{atomBytes, monomialBytes, firstAbove, Atom, Atoms, Key}
 use Rattle.polynomial.proofs.MonomialBytes.{length-atoms}
-use Rattle.rules.proofs.NumberBytes.{put-at, le-at}
+use Rattle.index_map.proofs.NumberBytes.{put-at, le-at}
 
 -- ---- atoms in bytes
 

@@ -11,7 +11,7 @@ use Rattle.numbers.specs.declared.number.Checked.the-variants as answer
 use Rattle.rules.specs.Refusal.{Result, Refusal, number}
 use Rattle.rules.specs.Refusal.Outcome.{refused}
 use Rattle.rules.specs.Refusal.Refusal.{numberRange, polynomialSize}
-use Rattle.rules.specs.IndexMap.{Map}
+use Rattle.index_map.specs.IndexMap.{Map}
 use Rattle.polynomial.specs.Polynomial.{Monomial, joined}
 use Rattle.polynomial.specs.memory.PolynomialArea.{keyAt, Key, partAt, Stacked, InsertsAt, noEntry, mulEntry}
 use Rattle.polynomial.specs.declared.monomials.Inserted.{Inserted}

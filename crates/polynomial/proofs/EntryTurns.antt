@@ -12,7 +12,7 @@ use Rattle.numbers.specs.Rational.{Rational}
 use Rattle.numbers.specs.Bytes.{Bytes}
 use Rattle.rules.specs.Refusal.{Result, _>>=_}
 use Rattle.rules.specs.Refusal.Outcome.{ok}
-use Rattle.rules.specs.IndexMap.{Map}
+use Rattle.index_map.specs.IndexMap.{Map}
 use Rattle.polynomial.specs.Polynomial.{Monomial}
 use Rattle.polynomial.specs.memory.PolynomialArea.{places, Stacked, InsertsAt, Few, noEntry}
 use Rattle.rules.specs.memory.Parts.{Refuses}

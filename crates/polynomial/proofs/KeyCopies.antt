@@ -8,7 +8,7 @@ use lib.ListN.{length, take, drop, length-drop, drop-of-length-le}
 use lib.Seq.{paste, take-length, length-take-le}
 use Rattle.numbers.specs.Rational.{Rational}
 use Rattle.numbers.specs.Bytes.{Bytes, putNumber}
-use Rattle.rules.specs.memory.StoredMaps as maps
+use Rattle.index_map.specs.memory.StoredMaps as maps
 use Rattle.polynomial.specs.memory.PolynomialArea.{keyAt, pasted, putEntry}
 
 pub copied-over : (d s : Bytes) {w : Bytes} → length d ≡ length s → w ≡ paste d 0 s (length s) → w ≡ s

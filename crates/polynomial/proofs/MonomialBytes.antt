@@ -7,13 +7,12 @@ use native.Mathlib.Omega.{arith}
 use borrow.Author.Tests.{eqb-true, eqb-false, eq-eqb}
 use lib.Dec.{eqb}
 use lib.ListN.{length, getD, replicate, length-append, length-replicate}
-use Rattle.numbers.specs.Bytes.{Bytes, bytesOf}
+use Rattle.numbers.specs.Bytes.{Bytes, bytesOf, sameBytes}
 use Rattle.terms.specs.Term.{recordNumber, same}
-use Rattle.numbers.specs.Bytes.{sameBytes}
 use Rattle.numbers.proofs.SameBytes.{sameBytes-refl, sameBytes-false}
 use Rattle.polynomial.specs.Polynomial.{Monomial, sameMonomial}
 use Rattle.polynomial.specs.memory.PolynomialArea.{atomBytes, monomialBytes, Atoms}
-use Rattle.rules.proofs.NumberBytes.{length-bytesOf}
+use Rattle.index_map.proofs.NumberBytes.{length-bytesOf}
 
 -- ---- the bytes of a monomial
 

@@ -14,15 +14,15 @@ use Rattle.numbers.specs.declared.number.Checked.the-variants as answer
 use Rattle.rules.specs.Refusal.{Result, _>>=_, assert}
 use Rattle.rules.specs.Refusal.Refusal.{numberRange, polynomialSize}
 use Rattle.rules.specs.Limits.{limited}
-use Rattle.rules.specs.IndexMap.{Map, insert}
+use Rattle.index_map.specs.IndexMap.{Map, insert}
 use Rattle.polynomial.specs.Polynomial.{Monomial, monomials}
 use Rattle.polynomial.specs.memory.PolynomialArea.{places, polynomials, keysOf, place, putEntry, blanked, swapped, Key}
 use Rattle.polynomial.specs.memory.PolynomialArea.{Good, Held, Inserts}
 use Rattle.polynomial.specs.declared.monomials.Inserted.{Inserted}
 use Rattle.polynomial.specs.declared.monomials.Inserted.the-variants.{Length, Refused}
-use Rattle.rules.proofs.FoundEntries.{Sought, Made, new-held, cleared, nowhere, sum-out, sum-gone, sum-put}
-use Rattle.rules.proofs.KeyedMaps.{insert-zero, insert-missing}
-use Rattle.rules.proofs.MapEnds.{all-map}
+use Rattle.index_map.proofs.FoundEntries.{Sought, Made, new-held, cleared, nowhere, sum-out, sum-gone, sum-put}
+use Rattle.index_map.proofs.KeyedMaps.{insert-zero, insert-missing}
+use Rattle.index_map.proofs.MapEnds.{all-map}
 use Rattle.rules.proofs.Results.{refuses}
 use Rattle.polynomial.proofs.StoredMonomials.{bytes-copied, goods, good-new, same-key, entry-key}
 

@@ -7,7 +7,7 @@ use native.Mathlib.Omega.{arith}
 use lib.ListN.{length, getD, take, drop, set, length-drop}
 use lib.Seq.{getD-drop}
 use Rattle.numbers.specs.Bytes.{Bytes}
-use Rattle.rules.specs.IndexMap.{Map}
+use Rattle.index_map.specs.IndexMap.{Map}
 use Rattle.polynomial.specs.Polynomial.{Monomial}
 use Rattle.polynomial.specs.memory.PolynomialArea.{StackHas, partAt, Stacked}
 use Rattle.numbers.proofs.CopiedBytes.{Copied, front-more, front-rest}

@@ -16,8 +16,8 @@ use Rattle.terms.specs.Term.{Term, recordNumber}
 use Rattle.numbers.proofs.LittleEndian.{length-put}
 use Rattle.polynomial.specs.Polynomial.{Monomial, place, joined}
 use Rattle.polynomial.specs.memory.PolynomialArea.{atomBytes, monomialBytes, firstAbove, Atom, Atoms, Key}
-use Rattle.rules.proofs.Zeros.{zeros-join}
-use Rattle.rules.proofs.NumberBytes.{length-bytesOf}
+use Rattle.index_map.proofs.Zeros.{zeros-join}
+use Rattle.index_map.proofs.NumberBytes.{length-bytesOf}
 use Rattle.polynomial.proofs.AtomPlaces.{small, atom-of, atoms-with, front, read-at, write-at, front-more, key-parts, Turn}
 use Rattle.polynomial.proofs.AtomPlaces.{first, at, past, last, above-here, above-past, key-count}
 

@@ -15,12 +15,12 @@ use Rattle.rules.specs.Refusal.{_>>=_, assert}
 use Rattle.rules.specs.Refusal.Outcome.{ok, refused}
 use Rattle.rules.specs.Refusal.Refusal.{numberRange, polynomialSize}
 use Rattle.rules.specs.Limits.{limited}
-use Rattle.rules.specs.IndexMap.{Map, combination, insert}
+use Rattle.index_map.specs.IndexMap.{Map, combination, insert}
 use Rattle.polynomial.specs.Polynomial.{Monomial, monomials, joined, mulEach, mulLeft, insertScaled}
 use Rattle.polynomial.specs.memory.PolynomialArea.{keyAt, Key, Held, StackHas, partAt, Stacked, InsertsAt, noEntry}
 use Rattle.polynomial.specs.memory.PolynomialArea.{enterProduct, mulEntry, enterScaled}
 use Rattle.polynomial.specs.declared.monomials.Inserted.{Inserted}
-use Rattle.rules.proofs.CheckedNumbers.{times-value, times-out}
+use Rattle.index_map.proofs.CheckedNumbers.{times-value, times-out}
 use Rattle.polynomial.proofs.AtomPlaces.{key-count}
 use Rattle.polynomial.proofs.StoredMonomials.{read-key, read-value}
 

@@ -13,7 +13,7 @@ use Rattle.terms.specs.Readers.{within}
 use Rattle.rules.specs.Refusal.{Result, assert}
 use Rattle.rules.specs.Refusal.Refusal.{polynomialSize}
 use Rattle.rules.specs.Limits.{Limits, limited, times}
-use Rattle.rules.specs.IndexMap.{Map, combination, insert}
+use Rattle.index_map.specs.IndexMap.{Map, combination, insert}
 use Rattle.polynomial.specs.Polynomial.{Monomial, Polynomial, monomials, joined, mulEach, mulLeft, insertScaled}
 use Rattle.polynomial.specs.memory.PolynomialArea.{places, Key, Stacked, Few, enterProduct, mulEntry, enterScaled}
 use Rattle.polynomial.specs.declared.monomials.Inserted.{Inserted}

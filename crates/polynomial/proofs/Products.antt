@@ -13,7 +13,7 @@ use Rattle.rules.specs.Refusal.{Result, _>>=_}
 use Rattle.rules.specs.Refusal.Outcome.{ok, refused}
 use Rattle.rules.specs.Refusal.Refusal.{numberRange}
 use Rattle.rules.specs.Limits.{limited}
-use Rattle.rules.specs.IndexMap.{Map, combination}
+use Rattle.index_map.specs.IndexMap.{Map, combination}
 use Rattle.polynomial.specs.Polynomial.{Monomial, Polynomial, mulLeft, insertScaled, mul}
 use Rattle.polynomial.specs.memory.PolynomialArea.{StackHas, Stacked, InsertsAt, Poly, PolyHas, polyWith, Combines}
 use Rattle.polynomial.specs.memory.PolynomialArea.{insertedRefusal}
@@ -22,7 +22,7 @@ use Rattle.polynomial.specs.declared.monomials.Inserted.{Inserted}
 use Rattle.polynomial.specs.declared.monomials.Inserted.the-variants.{Length, Refused}
 use Rattle.polynomial.specs.declared.polynomial.Combined.{Combined}
 use Rattle.polynomial.specs.declared.polynomial.Combined.the-variants as combined
-use Rattle.rules.proofs.CheckedNumbers.{times-value, times-out}
+use Rattle.index_map.proofs.CheckedNumbers.{times-value, times-out}
 use Rattle.polynomial.proofs.StackAreas.{stack-more, stack-less}
 use Rattle.rules.proofs.Results.{refuses, refused-then}
 use Rattle.polynomial.proofs.ProductEntries.{ClearSays, LeftSays, AllScaledSays}

@@ -9,13 +9,13 @@ use lib.ListN.{length, getD, set, take, drop, replicate, length-append, length-d
 use lib.Seq.{take-at, drop-at, drop-drop, take-add}
 use Rattle.numbers.specs.Bytes.{Bytes}
 use Rattle.rules.specs.Refusal.{Result}
-use Rattle.rules.specs.IndexMap.{Map}
-use Rattle.rules.specs.memory.StoredMaps as maps
+use Rattle.index_map.specs.IndexMap.{Map}
+use Rattle.index_map.specs.memory.StoredMaps as maps
 use Rattle.polynomial.specs.Polynomial.{Monomial}
 use Rattle.polynomial.specs.memory.PolynomialArea.{places, stored, blanked, Held, Inserts, stackBytes, AllGood, partAt, Stacked}
 use Rattle.polynomial.specs.memory.PolynomialArea.{InsertsAt}
 use Rattle.polynomial.specs.declared.monomials.Inserted.{Inserted}
-use Rattle.rules.proofs.Zeros.{zeros, zeros-join}
+use Rattle.index_map.proofs.Zeros.{zeros, zeros-join}
 use Rattle.polynomial.proofs.StoredMonomials.{goods, stored-length, held-length, clear-all}
 
 -- w with other bytes in area j

@@ -7,16 +7,15 @@ use native.Mathlib.Omega.{arith}
 use lib.ListN.{length, take, drop, length-append}
 use lib.Seq.{take-at, drop-at, drop-drop}
 use Rattle.numbers.specs.Rational.{Rational, Proper}
-use Rattle.numbers.specs.Bytes.{Bytes, numberAt}
-use Rattle.numbers.specs.Bytes.{sameBytes}
+use Rattle.numbers.specs.Bytes.{Bytes, numberAt, sameBytes}
 use Rattle.numbers.proofs.SameBytes.{sameBytes-true}
-use Rattle.rules.specs.IndexMap.{Map}
-use Rattle.rules.specs.memory.StoredMaps.{All, none, more}
-use Rattle.rules.proofs.EntryBytes.{Coded}
-use Rattle.rules.proofs.HeldEntries as held
-use Rattle.rules.proofs.HeldEntries.{Goods}
-use Rattle.rules.proofs.MapEnds.{length-middle, all-join, all-cut, all-map}
-use Rattle.rules.proofs.StoredBytes.{Fit, length-stored}
+use Rattle.index_map.specs.IndexMap.{Map}
+use Rattle.index_map.specs.memory.StoredMaps.{All, none, more}
+use Rattle.index_map.proofs.EntryBytes.{Coded}
+use Rattle.index_map.proofs.HeldEntries as held
+use Rattle.index_map.proofs.HeldEntries.{Goods}
+use Rattle.index_map.proofs.MapEnds.{length-middle, all-join, all-cut, all-map}
+use Rattle.index_map.proofs.StoredBytes.{Fit, length-stored}
 use Rattle.polynomial.specs.Polynomial.{Monomial, sameMonomial}
 use Rattle.polynomial.specs.memory.PolynomialArea.{places, monomialBytes, pasted, polynomials, stored, keyAt, putEntry}
 use Rattle.polynomial.specs.memory.PolynomialArea.{blanked, Key, Entry, Good, Held}

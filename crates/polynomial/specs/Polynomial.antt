@@ -12,7 +12,7 @@ use Rattle.rules.specs.Refusal.{Result, _>>=_, assert}
 use Rattle.rules.specs.Refusal.Outcome.{ok}
 use Rattle.rules.specs.Refusal.Refusal.{polynomialSize}
 use Rattle.rules.specs.Limits.{Limits, times}
-use Rattle.rules.specs.IndexMap.{Map, Combination, Keys, combination, insert, isEmpty}
+use Rattle.index_map.specs.IndexMap.{Map, Combination, Keys, combination, insert, isEmpty}
 
 -- ---- Monomial: atoms by record number, where the Rust sorts by pointer
 

@@ -9,7 +9,7 @@ ghost use lib.ListN.{length, getD, set};
 ghost use Rattle.numbers.specs.Rational.{Proper};
 ghost use Rattle.numbers.specs.Bytes.{Bytes};
 ghost use Rattle.rules.specs.Limits.{limited};
-ghost use Rattle.rules.specs.IndexMap.{Map, insert, combination};
+ghost use Rattle.index_map.specs.IndexMap.{Map, insert, combination};
 ghost use Rattle.polynomial.specs.Polynomial.{Monomial, monomials, mulEach, mulLeft, insertScaled, mul};
 ghost use Rattle.polynomial.specs.memory.PolynomialArea as area;
 ghost use Rattle.polynomial.specs.memory.PolynomialArea.{places, keySize, partAt, Key, Few, Stacked, StackHas};

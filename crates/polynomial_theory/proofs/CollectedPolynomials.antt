@@ -9,10 +9,10 @@ use Rattle.terms.specs.Term.{Term}
 use Rattle.terms.specs.Readers.{unbounded, asFraction}
 use Rattle.terms.specs.declared.term.Reading.the-variants.{Value}
 use Rattle.numbers.proofs.Ring.{Ring, _⊕_, _⊗_, 𝟙, _≐_, _·_, _and_, _from_, derive}
-use Rattle.terms.proofs.Fractions.{asFraction-value}
-use Rattle.terms.proofs.BookTerms.{Closed}
+use Rattle.book.proofs.Fractions.{asFraction-value}
+use Rattle.book.proofs.BookTerms.{Closed}
 use Rattle.rules.specs.Limits.{Limits}
-use Rattle.rules.specs.IndexMap.{Map}
+use Rattle.index_map.specs.IndexMap.{Map}
 use Rattle.polynomial.specs.Polynomial.{Monomial, Polynomial, monomials}
 use Rattle.polynomial_walk.specs.PolynomialTerms.{fromTerm}
 use Rattle.alethe.specs.AletheTerms.{Products, Expands, coefficientIn}

@@ -12,7 +12,7 @@ use Rattle.terms.specs.Term.{Sort, Term}
 use Rattle.terms.specs.Term.Sort.{bool, int, real, bits}
 use Rattle.numbers.proofs.LowestTerms.{whole-is-lowest}
 use Rattle.numbers.proofs.Quotient.{ℚring}
-use Rattle.rules.specs.IndexMap.{Map}
+use Rattle.index_map.specs.IndexMap.{Map}
 use Rattle.polynomial.specs.Polynomial.{Monomial, Polynomial}
 use Rattle.poly_simp.specs.PolySimp.{moduloAll, reduced}
 use Rattle.alethe.specs.AletheTerms.{Products, nought, sameAtoms, coefficientIn}

@@ -19,8 +19,8 @@ use Rattle.terms.specs.Term.Terms.{nil, _▹_}
 use Rattle.terms.specs.Book.{countOk}
 use Rattle.numbers.proofs.Ring.{Ring, _⊕_, _⊗_, neg, 𝟘, 𝟙, lit, _≐_, _·_, _and_, _from_, solve, derive}
 use Rattle.numbers.proofs.Truths.{never}
-use Rattle.terms.proofs.WellFormed.{WellFormed}
-use Rattle.terms.proofs.BookTerms.{Each}
+use Rattle.book.proofs.WellFormed.{WellFormed}
+use Rattle.book.proofs.BookTerms.{Each}
 use Rattle.rules.specs.Shapes.{size}
 use Rattle.polynomial_walk.specs.PolynomialTerms.{armOf}
 use Rattle.alethe.specs.AletheTerms.{is, Products, scaleEach, timesOne, multiply, one, minusOne, IsSum, IsMinus}

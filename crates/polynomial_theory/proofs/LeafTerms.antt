@@ -19,7 +19,7 @@ use Rattle.terms.specs.Book.{countOk}
 use Rattle.terms.specs.declared.term.Reading.{Reading}
 use Rattle.terms.specs.declared.term.Reading.the-variants.{Value, NotNumber, OutOfRange}
 use Rattle.numbers.proofs.Truths.{never}
-use Rattle.terms.proofs.WellFormed.{WellFormed, Operation}
+use Rattle.book.proofs.WellFormed.{WellFormed, Operation}
 use Rattle.terms.proofs.Operators.{by-operator}
 use Rattle.polynomial_walk.specs.PolynomialTerms.{Arm, armOf}
 use Rattle.alethe.specs.AletheTerms.{is, Constant, Unsigned, Written, IsSum, IsMinus, IsDifference, IsProduct}

@@ -14,12 +14,13 @@ use Rattle.terms.specs.declared.term.BitVector.the-variants.{Bits, NotBitvector
 use Rattle.rules.specs.Refusal.{Result}
 use Rattle.rules.specs.Refusal.Outcome.{ok, refused}
 use Rattle.rules.specs.Limits.{Limits, theRust}
-use Rattle.rules.specs.IndexMap.{Map, Walked, walked, new, combination, insert}
+use Rattle.index_map.specs.IndexMap.{Map, Walked, walked, new, combination, insert}
 use Rattle.rules.specs.Shapes.{Clause}
 use Rattle.polynomial.specs.Polynomial.{Monomial, Polynomial, joined, monomials, mulEach, mulLeft, insertScaled, mul}
 use Rattle.polynomial_walk.specs.PolynomialTerms.{Arm, armOf, addLeaf, divisorOf, addTerm, addArgs, addDifference}
 use Rattle.polynomial_walk.specs.PolynomialTerms.{addFirst, firstFactor, otherFactors, fromTerm}
-use Rattle.poly_simp.specs.PolySimp.{Scaled, reduced, polySimp, scaled, numberCase, polySimpRel}
+use Rattle.polynomial_rel.specs.PolySimpRel.{Scaled, scaled, numberCase, polySimpRel}
+use Rattle.poly_simp.specs.PolySimp.{reduced, polySimp}
 use Rattle.polynomial_walk.specs.PolynomialTerms.Arm.{sum, negation, difference, product, quotient, leaf}
 use Rattle.rules_theory.proofs.Limited.{_≼_, bind, maybe, tested, fractionOf-limited, fractionErr-limited}
 use Rattle.rules_theory.proofs.Limited.{times-limited, over-limited, insert-limited, sub-limited, visit-limited}

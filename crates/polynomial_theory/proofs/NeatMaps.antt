@@ -14,8 +14,8 @@ use Rattle.numbers.proofs.Truths.{if-either, never}
 use Rattle.rules.specs.Refusal.{Refusal, Result, _>>=_, assert}
 use Rattle.rules.specs.Refusal.Outcome.{ok, refused}
 use Rattle.rules.specs.Limits.{Limits, theRust, inLimit, ranged, plus, times, over}
-use Rattle.rules.specs.IndexMap as IndexMap
-use Rattle.rules.specs.IndexMap.{Map, Combination, lastFirst, swapRemove, negAll, enter, insert, insertAll, sub}
+use Rattle.index_map.specs.IndexMap as IndexMap
+use Rattle.index_map.specs.IndexMap.{Map, Combination, lastFirst, swapRemove, negAll, enter, insert, insertAll, sub}
 use Rattle.polynomial.specs.Polynomial.{Monomial, monomials, sameMonomial}
 use Rattle.alethe.specs.AletheTerms.{sameAtoms}
 use Rattle.rules.proofs.Yields.{Yields, at-ok}

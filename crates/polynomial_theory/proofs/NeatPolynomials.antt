@@ -22,7 +22,7 @@ use Rattle.terms.proofs.Readings.{fraction-unbounded}
 use Rattle.rules.specs.Refusal.{Result, _>>=_}
 use Rattle.rules.specs.Refusal.Outcome.{ok}
 use Rattle.rules.specs.Limits.{Limits, theRust, numberOr, times, fractionOf}
-use Rattle.rules.specs.IndexMap.{Map, combination, insert, new, Walked, walked, visit, addEntry, addConstant}
+use Rattle.index_map.specs.IndexMap.{Map, combination, insert, new, Walked, walked, visit, addEntry, addConstant}
 use Rattle.polynomial.specs.Polynomial.{Monomial, Polynomial, monomials, joined, mulEach, mulLeft, insertScaled, mul}
 use Rattle.polynomial_walk.specs.PolynomialTerms.{armOf, addLeaf, nonzero, divisorOf, addTerm, addArgs, addDifference}
 use Rattle.polynomial_walk.specs.PolynomialTerms.{addFirst, firstFactor, otherFactors, fromTerm}

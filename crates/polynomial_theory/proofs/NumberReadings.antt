@@ -27,11 +27,11 @@ use Rattle.terms.specs.Smtlib
 use Rattle.terms.specs.Smtlib.{Assignment, asPair, reduce, minus, meaning, value, values}
 use Rattle.numbers.proofs.Ring.{_⊗_, neg, _≐_, _·_, _and_, _from_, derive}
 use Rattle.numbers.proofs.Truths.{both, never}
-use Rattle.terms.proofs.WellFormed.{WellFormed, Operation}
+use Rattle.book.proofs.WellFormed.{WellFormed, Operation}
 use Rattle.terms.proofs.Operators.{by-operator}
 use Rattle.numbers.proofs.Rationals.{div-value, div-lowest}
-use Rattle.terms.proofs.Fractions.{asFraction-value, real-div-value}
-use Rattle.terms.proofs.BookTerms.{Each, Closed}
+use Rattle.book.proofs.Fractions.{asFraction-value, real-div-value}
+use Rattle.book.proofs.BookTerms.{Each, Closed}
 use Rattle.terms.proofs.Sums as Sums
 use Rattle.terms.proofs.Sums.{meant, mk-sum, mk-product, mk-opposite, mk-difference}
 use Rattle.numbers.proofs.Quotient.{ℚ, mk, ℚring, sum, product, opposite, mk-eq, mk-mul, mk-whole}

@@ -16,12 +16,12 @@ use Rattle.terms.specs.Term.{Sort, Term, sort, binary}
 use Rattle.terms.specs.Term.Sort.{bool, int, real, bits}
 use Rattle.numbers.proofs.Ring.{_⊖_, neg, 𝟘, 𝟙, _≐_, _·_, _and_, _from_, derive}
 use Rattle.numbers.proofs.Truths.{never}
-use Rattle.terms.proofs.BookTerms.{Closed}
+use Rattle.book.proofs.BookTerms.{Closed}
 use Rattle.rules.specs.Refusal.{Refusal, Result, _>>=_, assert, orElse}
 use Rattle.rules.specs.Refusal.Refusal.{polynomialsNotEqual}
 use Rattle.rules.specs.Refusal.Outcome.{ok, refused}
 use Rattle.rules.specs.Limits.{Limits, theRust}
-use Rattle.rules.specs.IndexMap.{Map, combination, Walked}
+use Rattle.index_map.specs.IndexMap.{Map, combination, Walked}
 use Rattle.rules.specs.Shapes.{onlyLiteral}
 use Rattle.polynomial.specs.Polynomial.{Polynomial, Monomial, monomials, isNought}
 use Rattle.polynomial_walk.specs.PolynomialTerms.{fromTerm}

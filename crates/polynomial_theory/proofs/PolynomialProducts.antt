@@ -7,7 +7,7 @@ use Rattle.numbers.specs.Rational.{Rational}
 use Rattle.terms.specs.Term.{Term}
 use Rattle.numbers.proofs.Ring.{Ring, _⊕_, _⊗_, 𝟘, 𝟙, _≐_, _·_, _and_, _from_, solve, derive}
 use Rattle.rules.specs.Limits.{Limits}
-use Rattle.rules.specs.IndexMap.{Map}
+use Rattle.index_map.specs.IndexMap.{Map}
 use Rattle.polynomial.specs.Polynomial.{Monomial, Polynomial, joined, monomials, mulEach, mulLeft, insertScaled, mul}
 use Rattle.rules.proofs.Yields.{Yields, gives, and-then, weaker, guarded}
 use Rattle.rules.proofs.Valuations.{Valuation, times-stands, Respects}

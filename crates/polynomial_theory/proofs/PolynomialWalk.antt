@@ -14,12 +14,12 @@ use Rattle.terms.specs.Term.Term.{integer, rational, bitvector, atom, op}
 use Rattle.terms.specs.Term.Terms.{nil, _▹_}
 use Rattle.terms.specs.Readers.{asBitvector}
 use Rattle.terms.specs.declared.term.BitVector.the-variants.{Bits}
-use Rattle.terms.proofs.BookTerms.{Each}
+use Rattle.book.proofs.BookTerms.{Each}
 use Rattle.numbers.proofs.Ring.{Ring, _⊕_, _⊗_, neg, 𝟘, 𝟙, _≐_, _·_, _and_, _from_, solve, derive}
 use Rattle.rules.specs.Refusal.{Result, _>>=_}
 use Rattle.rules.specs.Refusal.Outcome.{ok}
 use Rattle.rules.specs.Limits.{Limits, times, over}
-use Rattle.rules.specs.IndexMap.{combination, new, Walked, walked, visit, addEntry, addConstant}
+use Rattle.index_map.specs.IndexMap.{combination, new, Walked, walked, visit, addEntry, addConstant}
 use Rattle.polynomial.specs.Polynomial.{Monomial, monomials, insertScaled}
 use Rattle.polynomial_walk.specs.PolynomialTerms.{armOf, addLeaf, nonzero, divisorOf, addTerm, addArgs, addDifference}
 use Rattle.polynomial_walk.specs.PolynomialTerms.{addFirst, firstFactor, otherFactors, fromTerm}

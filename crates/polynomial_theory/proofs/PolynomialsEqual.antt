@@ -12,8 +12,7 @@ use lib.IntN.{pos, natAbs}
 use Rattle.numbers.specs.Pair.{_≈_}
 use Rattle.numbers.specs.Rational.{Rational, Lowest, modulo}
 use Rattle.terms.specs.Operator.{Equals}
-use Rattle.terms.specs.Term.{Sort, Term, sort, sorts, isNumeric, isBits}
-use Rattle.terms.specs.Term.{binary, recordNumber}
+use Rattle.terms.specs.Term.{Sort, Term, sort, sorts, isNumeric, isBits, binary, recordNumber}
 use Rattle.terms.specs.Term.Sort.{bool, int, real, bits}
 use Rattle.terms.specs.Term.Terms.{nil, _▹_}
 use Rattle.terms.specs.Smtlib.{Assignment, Meant, asPair, value}
@@ -21,16 +20,16 @@ use Rattle.numbers.proofs.Ring.{_⊕_, _⊖_, neg, 𝟘, 𝟙, _≐_, _·_, _an
 use Rattle.numbers.proofs.Truths.{never}
 use Rattle.numbers.proofs.Comparisons.{eqP-true}
 use Rattle.terms.proofs.Readings.{binary-shape}
-use Rattle.terms.proofs.BookTerms.{Closed}
+use Rattle.book.proofs.BookTerms.{Closed}
 use Rattle.numbers.proofs.Modulo.{two-pow-pos, cong-of-modulo-eq}
 use Rattle.numbers.proofs.Quotient.{≈-of-mk-eq}
 use Rattle.numbers.proofs.Residues.{residue-eq, cong-of-residue-eq}
-use Rattle.terms.proofs.Vectors.{width-positive, vector-value, equal-vectors}
+use Rattle.book.proofs.Vectors.{width-positive, vector-value, equal-vectors}
 use Rattle.rules.specs.Refusal.{Result, _>>=_, assert, orElse}
 use Rattle.rules.specs.Refusal.Refusal.{polynomialsNotEqual, termOfWrongForm}
 use Rattle.rules.specs.Refusal.Outcome.{ok}
 use Rattle.rules.specs.Limits.{Limits}
-use Rattle.rules.specs.IndexMap.{Map, combination, sub}
+use Rattle.index_map.specs.IndexMap.{Map, combination, sub}
 use Rattle.rules.specs.Shapes.{onlyLiteral}
 use Rattle.polynomial.specs.Polynomial.{Polynomial, Monomial, monomials, isNought}
 use Rattle.polynomial_walk.specs.PolynomialTerms.{fromTerm}

@@ -12,7 +12,7 @@ use native.Mathlib.Omega.{arith}
 use lib.IntN.{ℤ, pos}
 use Rattle.numbers.specs.Rational.{Rational, whole, addQ, mulQ, negQ, divQ, isZero}
 use Rattle.terms.specs.Term.{Term}
-use Rattle.numbers.proofs.Ring.{Ring, _⊕_, _⊗_, neg, 𝟘, 𝟙, _≐_, _·_, _and_, _from_, solve, derive}
+use Rattle.numbers.proofs.Ring.{Ring, _⊕_, _⊗_, neg, 𝟘, 𝟙, _≐_, _·_, _from_, solve, derive}
 use Rattle.numbers.proofs.Quotient.{ℚ, ℚ-set, ℚring}
 use Rattle.numbers.proofs.QuotientRings.{RingUpTo, quotientRing, addᶜ, mulᶜ, negᶜ, ιᶜ}
 use Rattle.alethe.proofs.Exponents.{hasAtoms}

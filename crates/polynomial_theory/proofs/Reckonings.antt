@@ -17,7 +17,7 @@ use Rattle.terms.specs.Readers.{unbounded, asFraction}
 use Rattle.terms.specs.declared.term.Reading.{Reading}
 use Rattle.terms.specs.declared.term.Reading.the-variants.{Value, NotNumber, OutOfRange}
 use Rattle.numbers.proofs.Ring.{Ring, _⊗_, neg, 𝟙, _≐_, _·_, _and_, _from_, derive}
-use Rattle.terms.proofs.BookTerms.{Each, Closed}
+use Rattle.book.proofs.BookTerms.{Each, Closed}
 use Rattle.polynomial_walk.specs.PolynomialTerms.{Arm, armOf}
 use Rattle.polynomial_walk.specs.PolynomialTerms.Arm.{sum, negation, difference, product, quotient, leaf}
 use Rattle.alethe.specs.AletheTerms.{is, Constant, Signed, IsDivision, Unsigned, Written, one}

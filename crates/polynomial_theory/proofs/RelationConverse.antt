@@ -20,8 +20,8 @@ use Rattle.rules.specs.Refusal.Outcome.{ok, refused}
 use Rattle.rules.specs.Refusal.Refusal.{termOfWrongForm, expectedOperationTerm}
 use Rattle.rules.specs.Limits.{Limits, theRust, bitvectorErr, opErr}
 use Rattle.rules.specs.Shapes.{onlyLiteral, isRelation, assertEq, bind, bindAll, solve, solveAll}
-use Rattle.poly_simp.specs.PolySimp.{Scaled, equated, difference, scaled, assertSides, assertOdd, bitvectorCase}
-use Rattle.poly_simp.specs.PolySimp.{numberCase, polySimpRel}
+use Rattle.polynomial_rel.specs.PolySimpRel.{Scaled, equated, difference, scaled, assertSides, assertOdd, bitvectorCase}
+use Rattle.polynomial_rel.specs.PolySimpRel.{numberCase, polySimpRel}
 use Rattle.alethe.specs.Alethe.{Departures, Is, is, Is2, IsRelation, equals, lessThan, lessEq, greaterThan, greaterEq}
 use Rattle.alethe.specs.Alethe.{Difference, ScaledNumbers, ScaledVectors, PolySimpRel}
 use Rattle.alethe.specs.Alethe.Difference.{plain, realDifference}

@@ -21,8 +21,8 @@ use Rattle.numbers.proofs.Truths.{true-T, T-true, same-test, true-or-false, nev
 use Rattle.numbers.proofs.Comparisons.{of-eqP, eqP-true, lessP-not}
 use Rattle.numbers.proofs.Ring.{_⊕_, _⊖_, _⊗_, neg, 𝟘, 𝟙, _≐_, _·_, _and_, _from_, solve, derive}
 use Rattle.numbers.proofs.Quotient.{ℚ, mk, ℚring, product, opposite, ι, mk-eq, ≈-of-mk-eq, mk-mul}
-use Rattle.terms.proofs.WellFormed.{WellFormed}
-use Rattle.terms.proofs.Fractions.{asFraction-value}
+use Rattle.book.proofs.WellFormed.{WellFormed}
+use Rattle.book.proofs.Fractions.{asFraction-value}
 use Rattle.alethe.specs.Alethe.{Departures, Is2, is, Difference, Written, ScaledNumbers, IsRelation, equals, lessThan}
 use Rattle.alethe.specs.Alethe.{lessEq, greaterThan, greaterEq}
 use Rattle.alethe.specs.Alethe.Difference.{plain, realDifference}

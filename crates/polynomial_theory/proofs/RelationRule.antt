@@ -14,12 +14,12 @@ use Rattle.terms.specs.Operator.{Equals, Sub, Mult, BvSub, BvMul}
 use Rattle.terms.specs.Term.{Term}
 use Rattle.terms.specs.Term.Terms.{nil, _▹_}
 use Rattle.numbers.proofs.Truths.{both, never}
-use Rattle.terms.proofs.BookTerms.{Closed}
+use Rattle.book.proofs.BookTerms.{Closed}
 use Rattle.rules.specs.Refusal.{Refusal, _>>=_}
 use Rattle.rules.specs.Refusal.Outcome.{ok, refused}
 use Rattle.rules.specs.Limits.{Limits}
 use Rattle.rules.specs.Shapes.{Clause, onlyLiteral, isRelation}
-use Rattle.poly_simp.specs.PolySimp.{Scaled, assertSides, bitvectorCase, numberCase, polySimpRel}
+use Rattle.polynomial_rel.specs.PolySimpRel.{Scaled, assertSides, bitvectorCase, numberCase, polySimpRel}
 use Rattle.alethe.specs.Alethe.{carcara, Is2, IsRelation, equals, Difference, ScaledNumbers, ScaledVectors, PolySimpRel}
 use Rattle.rules.proofs.Yields.{Yields, at-ok, and-then, weaker, guarded}
 use Rattle.rules_theory.proofs.Shapes.{Found, binaryErr-found, relation-of}

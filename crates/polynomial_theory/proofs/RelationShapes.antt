@@ -15,14 +15,14 @@ use Rattle.terms.specs.Term.{Term, Terms, unary, binary}
 use Rattle.terms.specs.Term.Term.{integer, rational, bitvector, atom, op}
 use Rattle.terms.specs.Term.Terms.{nil, _▹_}
 use Rattle.terms.specs.Readers.{asBitvector, asOp}
-use Rattle.terms.proofs.BookTerms.{Closed}
+use Rattle.book.proofs.BookTerms.{Closed}
 use Rattle.rules.specs.Refusal.{Refusal, Result, _>>=_, orElse}
 use Rattle.rules.specs.Refusal.Outcome.{ok, refused}
 use Rattle.rules.specs.Refusal.Refusal.{termOfWrongForm}
 use Rattle.rules.specs.Limits.{bitvectorErr, opErr}
 use Rattle.rules.specs.Shapes.{Names, matches}
-use Rattle.poly_simp.specs.PolySimp.{Scaled, equatedForm, equatedIn, equated, difference, scaled, assertSides}
-use Rattle.poly_simp.specs.PolySimp.{assertOdd, operands}
+use Rattle.polynomial_rel.specs.PolySimpRel.{Scaled, equatedForm, equatedIn, equated, difference, scaled, assertSides}
+use Rattle.polynomial_rel.specs.PolySimpRel.{assertOdd, operands}
 use Rattle.alethe.specs.Alethe.{Is, is, Is2, carcara, Difference}
 use Rattle.alethe.specs.Alethe.Difference.{plain, realDifference}
 use Rattle.rules.proofs.Yields.{Yields, gives, refuses, and-then, weaker}

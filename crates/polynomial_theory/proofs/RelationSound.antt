@@ -22,11 +22,11 @@ use Rattle.terms.specs.Smtlib.{Assignment, asVector, isTrue, truth, value, valu
 use Rattle.numbers.proofs.Integers.{_⊕_, _⊖_, _⊗_, neg, 𝟘, 𝟙, _≐_, _·_, _from_, deriveℤ, solveℤ, *ℤ-idr}
 use Rattle.numbers.proofs.Truths.{both, same-test}
 use Rattle.numbers.proofs.Comparisons.{of-eqP, eqP-refl}
-use Rattle.terms.proofs.WellFormed.{WellFormed}
+use Rattle.book.proofs.WellFormed.{WellFormed}
 use Rattle.numbers.proofs.Modulo.{Cong, cong-refl, cong-sym, cong-trans, cong-of-eq, cong-mul, modulo-cong, two-pow-pos}
 use Rattle.numbers.proofs.Modulo.{odd, odd-cancel-zero}
-use Rattle.terms.proofs.Vectors.{not-vector, by-vector-operator, width-is, width-positive, argument-sort, vector-value}
-use Rattle.terms.proofs.Vectors.{equal-vectors}
+use Rattle.book.proofs.Vectors.{not-vector, by-vector-operator, width-is, width-positive, argument-sort, vector-value}
+use Rattle.book.proofs.Vectors.{equal-vectors}
 use Rattle.alethe.specs.Alethe.{Departures, Is2, is, IsRelation, equals, ScaledVectors, PolySimpRel}
 use Rattle.alethe.proofs.Literals.{test, at, says, relation-value, relation-says}
 use Rattle.rules_theory.proofs.Shapes.{arguments-formed}

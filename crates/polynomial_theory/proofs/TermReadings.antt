@@ -14,7 +14,7 @@ use Rattle.terms.specs.Term.Terms.{nil, _▹_}
 use Rattle.terms.specs.Readers.{unbounded, asFraction}
 use Rattle.terms.specs.declared.term.Reading.the-variants.{Value}
 use Rattle.numbers.proofs.Ring.{Ring}
-use Rattle.terms.proofs.BookTerms.{Each}
+use Rattle.book.proofs.BookTerms.{Each}
 use Rattle.polynomial_walk.specs.PolynomialTerms.{Arm, armOf}
 use Rattle.polynomial_walk.specs.PolynomialTerms.Arm.{sum, negation, difference, product, quotient, leaf}
 use Rattle.rules.proofs.Valuations.{Valuation, Respects}

@@ -22,12 +22,12 @@ use Rattle.terms.specs.Smtlib.{values}
 use Rattle.terms.specs.declared.term.Reading.the-variants.{Value}
 use Rattle.numbers.proofs.Ring.{neg, Ring}
 use Rattle.numbers.proofs.Truths.{both}
-use Rattle.terms.proofs.WellFormed.{WellFormed, Operation}
+use Rattle.book.proofs.WellFormed.{WellFormed, Operation}
 use Rattle.terms.proofs.Readings.{not-number}
-use Rattle.terms.proofs.BookTerms.{Each, Closed}
+use Rattle.book.proofs.BookTerms.{Each, Closed}
 use Rattle.numbers.proofs.Modulo.{two-pow-pos}
 use Rattle.numbers.proofs.Residues.{residues, residue, residue-add, residue-mul, residue-neg, residue-modulo}
-use Rattle.terms.proofs.Vectors.{not-vector, by-vector-operator, width-is, argument-sort}
+use Rattle.book.proofs.Vectors.{not-vector, by-vector-operator, width-is, argument-sort}
 use Rattle.polynomial_walk.specs.PolynomialTerms.{armOf}
 use Rattle.rules.proofs.WholeNumbers.{wholes, IsWhole, numberₘ}
 use Rattle.polynomial_theory.proofs.TermReadings.{TermReading, sumOf, differenceOf, factorsOf, productOf, Taken}

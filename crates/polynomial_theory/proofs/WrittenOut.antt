@@ -18,9 +18,9 @@ use Rattle.terms.specs.declared.term.Reading.{Reading}
 use Rattle.terms.specs.declared.term.Reading.the-variants.{Value, NotNumber, OutOfRange}
 use Rattle.numbers.proofs.Truths.{never}
 use Rattle.terms.proofs.Readings.{not-number, out-of-range}
-use Rattle.terms.proofs.WellFormed.{WellFormed, AllWellFormed, Operation}
+use Rattle.book.proofs.WellFormed.{WellFormed, AllWellFormed, Operation}
 use Rattle.terms.proofs.Operators.{by-operator}
-use Rattle.terms.proofs.BookTerms.{Each}
+use Rattle.book.proofs.BookTerms.{Each}
 use Rattle.alethe.specs.AletheTerms.{Is, is, Is2, Constant, Unsigned, Written, Products, IsSum, IsMinus, IsDifference}
 use Rattle.alethe.specs.AletheTerms.{IsProduct, Indivisible, Expands, ExpandsAll, Factors}
 use Rattle.rules_theory.proofs.WrittenNumbers.{written-read, read-written}

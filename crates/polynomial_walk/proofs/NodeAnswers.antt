@@ -31,7 +31,7 @@ use Rattle.terms.specs.declared.term.Reading.the-variants.{Value, NotNumber, Ou
 use Rattle.terms.specs.declared.term.BitVector.{BitVector}
 use Rattle.terms.specs.declared.term.BitVector.the-variants.{Bits, NotBitvector}
 use Rattle.numbers.proofs.Truths.{both}
-use Rattle.terms.proofs.BookTerms.{recordNumber-tree}
+use Rattle.terms.proofs.NumberedNodes.{recordNumber-tree}
 use Rattle.terms.proofs.Layouts.{width-bounded}
 use Rattle.numbers.proofs.Machine.{R}
 use Rattle.terms.proofs.RecordBytes.{argument-of-arguments}
@@ -45,7 +45,7 @@ use Rattle.polynomial_walk.specs.memory.PolynomialNodes.{operationNode, 
 use Rattle.polynomial_walk.specs.declared.polynomial_walk.Node.{Node}
 use Rattle.polynomial_walk.specs.declared.polynomial_walk.Node.the-variants as node
 use Rattle.rules.proofs.ArgumentsLeft.{arguments-count, by-operator}
-use Rattle.rules.proofs.CheckedNumbers.{whole-proper, small-fits, small-back}
+use Rattle.index_map.proofs.CheckedNumbers.{whole-proper, small-fits, small-back}
 
 node-is : {r d : Node} → NodeProper r → r ≡ d → NodeIs r d
 node-is p e = record { is = e; proper = p }

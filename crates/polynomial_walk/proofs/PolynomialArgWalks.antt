@@ -16,7 +16,7 @@ use Rattle.terms.specs.Book.{tree, argumentAt}
 use Rattle.rules.specs.Refusal.{Refusal, Result, _>>=_}
 use Rattle.rules.specs.Refusal.Outcome.{ok, refused}
 use Rattle.rules.specs.Limits.{Limits, limited}
-use Rattle.rules.specs.IndexMap.{Map, Walked, walked}
+use Rattle.index_map.specs.IndexMap.{Map, Walked, walked}
 use Rattle.polynomial.specs.Polynomial.{Monomial}
 use Rattle.polynomial_walk.specs.PolynomialTerms.{addTerm, addArgs}
 use Rattle.polynomial.specs.memory.PolynomialArea.{Stacked, Poly, PolyHas, polyWith, Walks}

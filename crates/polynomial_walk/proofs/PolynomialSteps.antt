@@ -20,13 +20,13 @@ use Rattle.terms.specs.declared.term.Reading.{Reading}
 use Rattle.terms.specs.declared.term.Reading.the-variants.{Value, NotNumber, OutOfRange}
 use Rattle.terms.specs.declared.term.BitVector.{BitVector}
 use Rattle.terms.specs.declared.term.BitVector.the-variants.{Bits, NotBitvector}
-use Rattle.terms.proofs.BookTerms.{Each}
+use Rattle.book.proofs.BookTerms.{Each}
 use Rattle.terms.proofs.RecordReadings.{argumentsOf-record}
 use Rattle.rules.specs.Refusal.{Result, _>>=_, assert}
 use Rattle.rules.specs.Refusal.Outcome.{ok, refused}
 use Rattle.rules.specs.Refusal.Refusal.{numberRange, polynomialSize}
 use Rattle.rules.specs.Limits.{Limits, limited, numberOr, times, over, fractionOf}
-use Rattle.rules.specs.IndexMap.{Walked, walked, combination, visit, addEntry, addConstant}
+use Rattle.index_map.specs.IndexMap.{Walked, walked, combination, visit, addEntry, addConstant}
 use Rattle.polynomial_walk.specs.PolynomialTerms as definition-walk
 use Rattle.polynomial.specs.Polynomial.{Monomial, monomials, insertScaled}
 use Rattle.polynomial_walk.specs.PolynomialTerms.{armOf, addLeaf, nonzero, divisorOf, addTerm, addArgs}
@@ -37,9 +37,9 @@ use Rattle.polynomial_walk.specs.memory.PolynomialNodes.{constantNode, c
 use Rattle.polynomial_walk.specs.memory.PolynomialNodes.{quotientNode, operationNode, nodeOf, addEach, addProduct}
 use Rattle.polynomial_walk.specs.declared.polynomial_walk.Node.{Node}
 use Rattle.polynomial_walk.specs.declared.polynomial_walk.Node.the-variants as node
-use Rattle.rules.proofs.CheckedNumbers.{over-value, over-out, on-answer, on-product}
+use Rattle.index_map.proofs.CheckedNumbers.{over-value, over-out, on-answer, on-product}
 use Rattle.rules.proofs.Results.{bind-same}
-use Rattle.rules.proofs.ArgumentsBelow.{Own, Below, forest-own, arguments-below}
+use Rattle.book.proofs.ArgumentsBelow.{Own, Below, forest-own, arguments-below}
 
 -- what the walk does at a node of the term t, under d products and after the visit
 abbrev pub act : Bytes → Limits → ℕ → Term → Rational → Node → Walked Monomial → Result (Walked Monomial)

@@ -15,12 +15,12 @@ use Rattle.terms.specs.Term.{Term, recordNumber}
 use Rattle.terms.specs.Book.{count, tree}
 use Rattle.numbers.specs.declared.number.Checked.{Checked}
 use Rattle.numbers.specs.declared.number.Checked.the-variants as checked
-use Rattle.terms.proofs.BookTerms.{recordNumber-tree}
+use Rattle.terms.proofs.NumberedNodes.{recordNumber-tree}
 use Rattle.rules.specs.Refusal.{Refusal, Result, _>>=_, number}
 use Rattle.rules.specs.Refusal.Outcome.{ok, refused}
 use Rattle.rules.specs.Refusal.Refusal.{numberRange}
 use Rattle.rules.specs.Limits.{limited, plus, times}
-use Rattle.rules.specs.IndexMap.{Map, Walked, walked, combination, insert, addEntry, addConstant}
+use Rattle.index_map.specs.IndexMap.{Map, Walked, walked, combination, insert, addEntry, addConstant}
 use Rattle.polynomial.specs.Polynomial.{Monomial, monomials, insertScaled, place}
 use Rattle.rules.specs.memory.Parts.{Refuses}
 use Rattle.polynomial.specs.memory.PolynomialArea.{atomBytes, monomialBytes, Atom, Atoms, Key, Stacked, Poly}
@@ -29,7 +29,7 @@ use Rattle.polynomial.specs.declared.monomials.Inserted.{Inserted}
 use Rattle.polynomial.specs.declared.monomials.Inserted.the-variants as inserted
 use Rattle.polynomial.specs.declared.polynomial.Walk.{Walk}
 use Rattle.polynomial.specs.declared.polynomial.Walk.the-variants.{Done, Refused}
-use Rattle.rules.proofs.CheckedNumbers.{plus-value, plus-out, times-value, times-out}
+use Rattle.index_map.proofs.CheckedNumbers.{plus-value, plus-out, times-value, times-out}
 use Rattle.polynomial.proofs.StackAreas.{stack-less}
 use Rattle.rules.proofs.Results.{refuses, refused-then}
 use Rattle.polynomial.proofs.ProductEntries.{ClearSays, AllScaledSays}

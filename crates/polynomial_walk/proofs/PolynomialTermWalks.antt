@@ -23,7 +23,7 @@ use Rattle.terms.specs.Readers.{argumentsOf}
 use Rattle.rules.specs.Refusal.{Result, _>>=_, assert}
 use Rattle.rules.specs.Refusal.Refusal.{visitLimit, numberRange, polynomialSize}
 use Rattle.rules.specs.Limits.{limited}
-use Rattle.rules.specs.IndexMap.{Map, Walked, walked, visit}
+use Rattle.index_map.specs.IndexMap.{Map, Walked, walked, visit}
 use Rattle.polynomial.specs.Polynomial.{Monomial, Polynomial}
 use Rattle.polynomial_walk.specs.PolynomialTerms.{addTerm, firstFactor}
 use Rattle.polynomial.specs.memory.PolynomialArea.{StackHas, AllGood, Stacked, Poly, PolyHas, polyWith, Walks, addScaled}
@@ -33,10 +33,9 @@ use Rattle.polynomial_walk.specs.memory.PolynomialNodes.{addProduct}
 use Rattle.polynomial.specs.declared.polynomial.Walk.{Walk}
 use Rattle.polynomial.specs.declared.polynomial.Walk.the-variants.{Done, Refused}
 use Rattle.polynomial_walk.specs.declared.polynomial_walk.Node.{Node}
-use Rattle.polynomial_walk.specs.declared.polynomial_walk.Node.the-variants.{Args, Quotient, Constant}
-use Rattle.polynomial_walk.specs.declared.polynomial_walk.Node.the-variants.{OutOfRange}
+use Rattle.polynomial_walk.specs.declared.polynomial_walk.Node.the-variants.{Args, Quotient, Constant, OutOfRange}
 use Rattle.polynomial.proofs.StackAreas.{stack-less, stack-above, stack-on}
-use Rattle.rules.proofs.ArgumentsBelow.{args-below}
+use Rattle.book.proofs.ArgumentsBelow.{args-below}
 use Rattle.polynomial.proofs.ProductEntries.{ClearSays}
 use Rattle.polynomial_walk.proofs.PolynomialSums.{refuses-same, refuses-empty, refused-by}
 use Rattle.rules.proofs.Results.{ends}

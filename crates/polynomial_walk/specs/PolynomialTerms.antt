@@ -18,7 +18,7 @@ use Rattle.rules.specs.Refusal.{Result, _>>=_, assert}
 use Rattle.rules.specs.Refusal.Outcome.{ok}
 use Rattle.rules.specs.Refusal.Refusal.{polynomialSize}
 use Rattle.rules.specs.Limits.{Limits, times, over, fractionOf}
-use Rattle.rules.specs.IndexMap.{combination, new, Walked, walked, visit, addEntry, addConstant}
+use Rattle.index_map.specs.IndexMap.{combination, new, Walked, walked, visit, addEntry, addConstant}
 use Rattle.rules.specs.Shapes.{size}
 use Rattle.polynomial.specs.Polynomial.{Monomial, insertScaled, monomials, mul}
 

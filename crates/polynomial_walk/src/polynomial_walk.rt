@@ -1,37 +1,30 @@
 // `add_term` of src/checker/rules/polynomial.rs: a walk of a term and of the lists of its arguments. The factors of a
 // product are walked into the areas above the one that is filled.
-ghost use mathlib.Core.Path.{_≡_};
 ghost use mathlib.Core.List.{[], _∷_};
-ghost use Prim.Native.Nat.{ℕ, _≤_, _<_};
 ghost use Rattle.numbers.specs.Rational.{Proper};
-ghost use Rattle.numbers.specs.Bytes.{Bytes};
-ghost use Rattle.terms.specs.Book.{count, tree, numbers, arguments, forest};
+ghost use Rattle.terms.specs.Book.{tree, numbers, arguments, forest};
 ghost use Rattle.terms.specs.Readers.{argumentsOf};
 ghost use Rattle.rules.specs.Limits.{limited};
-ghost use Rattle.rules.specs.IndexMap.{Map, walked, addConstant, addEntry};
-ghost use Rattle.polynomial.specs.Polynomial.{Monomial, monomials};
-ghost use Rattle.polynomial_walk.specs.PolynomialTerms.{addTerm, firstFactor, otherFactors};
-ghost use Rattle.polynomial.specs.memory.PolynomialArea.{places, StackHas, Stacked, PolyHas, polyWith, Walks};
-ghost use Rattle.polynomial.specs.memory.PolynomialArea.{addScaled};
+ghost use Rattle.index_map.specs.IndexMap.{Map, walked};
+ghost use Rattle.polynomial.specs.Polynomial.{Monomial};
+ghost use Rattle.polynomial_walk.specs.PolynomialTerms.{firstFactor, otherFactors};
+ghost use Rattle.polynomial.specs.memory.PolynomialArea.{Stacked, PolyHas, polyWith, Walks};
 ghost use Rattle.polynomial_walk.specs.memory.PolynomialNodes.{NodeIs, leafNode, nodeOf, constantOf, quotientOf};
-ghost use Rattle.polynomial_walk.specs.memory.PolynomialNodes.{addEach, addProduct, othersOf, TermPre, ArgsPre};
-ghost use Rattle.polynomial_walk.specs.memory.PolynomialNodes.{FactorsPre, OthersPre};
+ghost use Rattle.polynomial_walk.specs.memory.PolynomialNodes.{addEach, addProduct, TermPre, ArgsPre};
+ghost use Rattle.polynomial_walk.specs.memory.PolynomialNodes.{FactorsPre, OthersPre, TermWalks};
+use crate::additions::add_atom;
+use crate::additions::add_constant;
+use crate::additions::add_scaled;
 use numbers::number::Checked;
 use numbers::number::Number;
-use polynomial::monomials::Inserted;
-use polynomial::monomials::inserted_refusal;
-use polynomial::monomials::put_atom;
 use polynomial::polynomial::Combined;
 use polynomial::polynomial::Polynomial;
 use polynomial::polynomial::Walk;
 use polynomial::polynomial::clear_at;
 use polynomial::polynomial::combined_refusal;
-use polynomial::polynomial::insert_at;
-use polynomial::polynomial::insert_scaled;
 use polynomial::polynomial::mul;
 use polynomial::polynomial::walk_refusal;
 use terms::areas::MAX_DEPTH;
-use terms::areas::MONOMIAL_BYTES;
 use terms::areas::POLYNOMIAL_BYTES;
 use terms::operator::ADD;
 use terms::operator::BV_ADD;
@@ -140,65 +133,6 @@ fn look(book: &[u8], id: usize, coeff: Number) -> Node
     }
 }
 
-// ---- what is added
-
-fn add_constant(stack: &mut [u8], s: Polynomial, visits: u32, q: Number) -> Walk
-    requires { ⌜ StackHas 0 (now stack) × ((s .len ≤ places) × (Proper (s .constant) × Proper q)) ⌝ }
-    ensures { λ r. ⌜ ((b : Bytes) (m : Map Monomial) → Stacked b (now (stack .entry)) (m ∷ []) → PolyHas s m → (l : ℕ) →
-        Walks b (now (stack .exit)) r (addConstant (limited l) q (walked (polyWith s m) visits))) ⌝ }
-{
-    let n = s.len;
-    let c = s.constant;
-    let Checked::Value(constant) = c.add(q) else {
-        clear_at(stack, 0, n);
-        return Walk::Refused(NUMBER_RANGE);
-    };
-    Walk::Done(Polynomial { len: n, constant }, visits)
-}
-
-// The monomial of one atom.
-fn add_atom(stack: &mut [u8], s: Polynomial, visits: u32, id: usize, value: Number) -> Walk
-    requires { ⌜ StackHas 0 (now stack) ×
-        ((s .len ≤ places) × (Proper (s .constant) × ((id < 65536) × Proper value))) ⌝ }
-    ensures { λ r. ⌜ ((b : Bytes) (m : Map Monomial) → Stacked b (now (stack .entry)) (m ∷ []) → PolyHas s m →
-        id < count b → (l : ℕ) → Walks b (now (stack .exit)) r
-        (addEntry monomials (limited l) (tree b id ∷ []) value (walked (polyWith s m) visits))) ⌝ }
-{
-    let n = s.len;
-    let constant = s.constant;
-    let mut key = [0u8; MONOMIAL_BYTES];
-    put_atom(&mut key, id);
-    let answer = insert_at(stack, 0, n, &key, value);
-    let Inserted::Length(len) = answer else {
-        return Walk::Refused(inserted_refusal(answer));
-    };
-    Walk::Done(Polynomial { len, constant }, visits)
-}
-
-// A product p, in area 1, times a number is added to the polynomial of area 0; area 1 is empty afterwards.
-fn add_scaled(stack: &mut [u8], s: Polynomial, p: Polynomial, coeff: Number, visits: u32) -> Walk
-    requires { ⌜ StackHas 1 (now stack) × (((s .len ≤ places) × (p .len ≤ places)) ×
-        ((Proper (s .constant) × Proper (p .constant)) × Proper coeff)) ⌝ }
-    ensures { λ r. ⌜ ((b : Bytes) (m n : Map Monomial) → Stacked b (now (stack .entry)) (m ∷ n ∷ []) → PolyHas s m →
-        PolyHas p n → (l : ℕ) → Walks b (now (stack .exit)) r
-        (addScaled (limited l) coeff (polyWith p n) (walked (polyWith s m) visits))) ⌝ }
-{
-    let n = s.len;
-    let c = s.constant;
-    let k = p.len;
-    let d = p.constant;
-    let answer = insert_scaled(stack, 1, k, coeff, 0, n);
-    clear_at(stack, 1, k);
-    let Inserted::Length(len) = answer else {
-        return Walk::Refused(inserted_refusal(answer));
-    };
-    let Checked::Value(scaled) = coeff.mul(d) else {
-        clear_at(stack, 0, len);
-        return Walk::Refused(NUMBER_RANGE);
-    };
-    add_constant(stack, Polynomial { len, constant: c }, visits, scaled)
-}
-
 // ---- the walk
 
 // Adds coeff times the term of record `id`, under `depth` products. One call is one visit, counted before it is made.
@@ -213,9 +147,8 @@ pub fn add_term(
     depth: u8,
 ) -> Walk
     requires { ⌜ TermPre (now book) (now stack) id coeff s depth ⌝ }
-    ensures { λ r. ⌜ ((m : Map Monomial) → Stacked (now (book .entry)) (now (stack .entry)) (m ∷ []) → PolyHas s m →
-        Walks (now (book .entry)) (now (stack .exit)) r
-        (addTerm (tree (now (book .entry)) id) (limited limit) depth coeff (walked (polyWith s m) visits))) ⌝ }
+    ensures { λ r. ⌜ TermWalks (now (book .entry)) (now (stack .entry)) (now (stack .exit)) id coeff s visits limit
+        depth r ⌝ }
 {
     let n = s.len;
     if limit <= visits {
@@ -224,20 +157,12 @@ pub fn add_term(
     }
     let seen = visits + 1;
     match look(book, id, coeff) {
-        Node::Args(first, others) => add_args(
-            book,
-            stack,
-            args(book, id),
-            id,
-            first,
-            others,
-            s,
-            seen,
-            limit,
-            depth,
-        ),
+        Node::Args(first, others) => {
+            let part = args(book, id);
+            add_args(book, stack, part, id, first, others, s, seen, limit, depth)
+        }
         Node::Product => add_product(book, stack, id, coeff, s, seen, limit, depth),
-        Node::Quotient(x, c) => add_term(book, stack, x, c, s, seen, limit, depth),
+        Node::Quotient(x, c) => add_dividend(book, stack, x, c, s, seen, limit, depth),
         Node::Constant(q) => add_constant(stack, s, seen, q),
         Node::Atom => add_atom(stack, s, seen, id, coeff),
         Node::OutOfRange => {
@@ -245,6 +170,25 @@ pub fn add_term(
             Walk::Refused(NUMBER_RANGE)
         }
     }
+}
+
+// The term of record `id` in the place of a quotient. `add_term` has no call of itself: the compiler then lays what its
+// arms keep in memory one over the other, and a deep term takes less stack.
+fn add_dividend(
+    book: &[u8],
+    stack: &mut [u8],
+    id: usize,
+    coeff: Number,
+    s: Polynomial,
+    visits: u32,
+    limit: u32,
+    depth: u8,
+) -> Walk
+    requires { ⌜ TermPre (now book) (now stack) id coeff s depth ⌝ }
+    ensures { λ r. ⌜ TermWalks (now (book .entry)) (now (stack .entry)) (now (stack .exit)) id coeff s visits limit
+        depth r ⌝ }
+{
+    add_term(book, stack, id, coeff, s, visits, limit, depth)
 }
 
 // coeff times the product that is the term of record `id`, which is made in the areas above, is added.
@@ -347,51 +291,54 @@ fn first_factor(
     let Walk::Done(product, seen) = first else {
         return first;
     };
-    other_factors(book, stack, args, id, product, seen, limit, depth)
+    other_factors(book, stack, &args[2..], id, product, seen, limit, depth)
 }
 
-// The product p of the lowest area times each argument of record `id` but the first, which is walked above it.
+// The product p of the lowest area times each argument in `rest`, the part of record `id` behind those that p is made
+// of. Each is walked above p.
 fn other_factors(
     book: &[u8],
     stack: &mut [u8],
-    args: &[u8],
+    rest: &[u8],
     id: usize,
     p: Polynomial,
     visits: u32,
     limit: u32,
     depth: u8,
 ) -> Walk
-    requires { ⌜ OthersPre (now book) (now stack) (now args) id p depth ⌝ }
+    requires { ⌜ OthersPre (now book) (now stack) (now rest) id p depth ⌝ }
     ensures { λ r. ⌜ ((m : Map Monomial) → Stacked (now (book .entry)) (now (stack .entry)) (m ∷ []) → PolyHas p m →
         Walks (now (book .entry)) (now (stack .exit)) r
-        (otherFactors (othersOf (forest (tree (now (book .entry))) (arguments id (numbers (now (args .entry))))))
-        (limited limit) depth (walked (polyWith p m) visits))) ⌝ }
+        (otherFactors (forest (tree (now (book .entry))) (arguments id (numbers (now (rest .entry))))) (limited limit)
+        depth (walked (polyWith p m) visits))) ⌝ }
 {
-    let n = args.len() / 2;
+    if rest.len() / 2 == 0 {
+        return Walk::Done(p, visits);
+    }
     let none = Polynomial {
         len: 0,
         constant: Number::whole(0),
     };
     let one = Number::whole(1);
-    let above = POLYNOMIAL_BYTES;
-    let mut product = p;
-    let mut seen = visits;
-    let mut k = 1;
-    while k < n {
-        let x = argument(args, k, id);
-        let factor = add_term(book, &mut stack[above..], x, one, none, seen, limit, depth);
-        let Walk::Done(q, v) = factor else {
-            let m = product.len;
-            clear_at(stack, 0, m);
-            return Walk::Refused(walk_refusal(factor));
-        };
-        let combined = mul(stack, product, q);
-        let Combined::Is(r) = combined else {
-            return Walk::Refused(combined_refusal(combined));
-        };
-        product = r;
-        seen = v;
-        k += 1;
-    }
-    Walk::Done(product, seen)
+    let n = p.len;
+    let x = argument(rest, 0, id);
+    let factor = add_term(
+        book,
+        &mut stack[POLYNOMIAL_BYTES..],
+        x,
+        one,
+        none,
+        visits,
+        limit,
+        depth,
+    );
+    let Walk::Done(q, seen) = factor else {
+        clear_at(stack, 0, n);
+        return Walk::Refused(walk_refusal(factor));
+    };
+    let combined = mul(stack, p, q);
+    let Combined::Is(product) = combined else {
+        return Walk::Refused(combined_refusal(combined));
+    };
+    other_factors(book, stack, &rest[2..], id, product, seen, limit, depth)
 }

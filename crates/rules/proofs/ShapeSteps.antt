@@ -19,7 +19,7 @@ use Rattle.terms.specs.declared.term.Only.{Only}
 use Rattle.terms.specs.declared.term.Only.the-variants as only
 use Rattle.terms.specs.declared.term.Two.{Two}
 use Rattle.terms.specs.declared.term.Two.the-variants as two
-use Rattle.terms.proofs.BookTerms.{recordNumber-tree}
+use Rattle.terms.proofs.NumberedNodes.{recordNumber-tree}
 use Rattle.rules.specs.Refusal.{Result, assert, orElse}
 use Rattle.rules.specs.Refusal.Outcome.{ok, refused}
 use Rattle.rules.specs.Refusal.Refusal.{wrongLengthOfClause, termOfWrongForm}

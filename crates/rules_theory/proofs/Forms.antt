@@ -13,7 +13,7 @@ use Rattle.terms.specs.Term.{Term, Terms, same}
 use Rattle.terms.specs.Term.Term.{integer, rational, bitvector, atom, op}
 use Rattle.terms.specs.Term.Terms.{nil, _▹_}
 use Rattle.terms.specs.Readers.{operatorOf, argumentsOf, asOp}
-use Rattle.terms.proofs.BookTerms.{Each, Closed}
+use Rattle.book.proofs.BookTerms.{Each, Closed}
 use Rattle.rules.specs.Refusal.{_>>=_, orElse}
 use Rattle.rules.specs.Refusal.Outcome.{ok}
 use Rattle.rules.specs.Refusal.Refusal.{termOfWrongForm}

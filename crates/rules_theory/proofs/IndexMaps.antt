@@ -15,9 +15,9 @@ use Rattle.numbers.specs.Rational.{Rational, whole, negQ, isZero}
 use Rattle.numbers.specs.Choice.{if_then_else_}
 use Rattle.numbers.proofs.Ring.{Ring, _⊕_, _⊗_, neg, 𝟘, 𝟙, _≐_, _·_, _and_, _from_, solve, derive}
 use Rattle.rules.specs.Limits.{Limits}
-use Rattle.rules.specs.IndexMap as IndexMap
-use Rattle.rules.specs.IndexMap.{Map, Combination, Keys, lastFirst, swapRemove, negAll, scaleAll, enter, insert}
-use Rattle.rules.specs.IndexMap.{insertAll, new}
+use Rattle.index_map.specs.IndexMap as IndexMap
+use Rattle.index_map.specs.IndexMap.{Map, Combination, Keys, lastFirst, swapRemove, negAll, scaleAll, enter, insert}
+use Rattle.index_map.specs.IndexMap.{insertAll, new}
 use Rattle.numbers.proofs.Truths.{if-either}
 use Rattle.rules.proofs.Yields.{Yields, gives, and-then, weaker, guarded, by-test}
 use Rattle.rules.proofs.Valuations.{Valuation, Stands, plus-stands, times-stands}

@@ -21,8 +21,8 @@ use Rattle.rules.specs.Refusal.{Refusal, Result, _>>=_, assert}
 use Rattle.rules.specs.Refusal.Outcome.{ok, refused}
 use Rattle.rules.specs.Refusal.Refusal.{visitLimit, numberRange, polynomialSize}
 use Rattle.rules.specs.Limits.{Limits, theRust, numberOr, inLimit, ranged, times, plus, over, fractionOf, fractionErr}
-use Rattle.rules.specs.IndexMap.{Map, Combination, Keys, Walked, scaleAll, enter, insert, insertAll, add, neg, sub}
-use Rattle.rules.specs.IndexMap.{visit, addEntry, addConstant}
+use Rattle.index_map.specs.IndexMap.{Map, Combination, Keys, Walked, scaleAll, enter, insert, insertAll, add, neg, sub}
+use Rattle.index_map.specs.IndexMap.{visit, addEntry, addConstant}
 
 -- ---- the relation
 

@@ -20,8 +20,8 @@ use Rattle.terms.specs.Term.Terms.{nil, _▹_}
 use Rattle.terms.specs.Readers.{asOp, removeNegation}
 use Rattle.numbers.proofs.Truths.{both}
 use Rattle.terms.proofs.Readings.{by-option, unary-shape, binary-shape}
-use Rattle.terms.proofs.WellFormed.{WellFormed, AllWellFormed}
-use Rattle.terms.proofs.BookTerms.{Each, Closed}
+use Rattle.book.proofs.WellFormed.{WellFormed, AllWellFormed}
+use Rattle.book.proofs.BookTerms.{Each, Closed}
 use Rattle.rules.specs.Refusal.{Refusal, Result, _>>=_, assert, orElse}
 use Rattle.rules.specs.Refusal.Outcome.{ok}
 use Rattle.rules.specs.Shapes.{Clause, onlyLiteral, unaryErr, binaryErr, negatedBinary, assertEq, isRelation}

@@ -17,8 +17,8 @@ use Rattle.terms.specs.Readers.{bounded}
 use Rattle.rules.specs.Refusal.{Refusal, Result, _>>=_, assert}
 use Rattle.rules.specs.Refusal.Outcome.{ok}
 use Rattle.rules.specs.Limits.{theRust, ranged, times, plus}
-use Rattle.rules.specs.IndexMap.{Map, Combination, Keys, Walked, scaleAll, enter, insert, insertAll, add, neg, sub}
-use Rattle.rules.specs.IndexMap.{visit, addEntry, addConstant}
+use Rattle.index_map.specs.IndexMap.{Map, Combination, Keys, Walked, scaleAll, enter, insert, insertAll, add, neg, sub}
+use Rattle.index_map.specs.IndexMap.{visit, addEntry, addConstant}
 use Rattle.rules.proofs.Yields.{Yields, gives, at-ok}
 use Rattle.rules_theory.proofs.Limited.{Unbounded}
 

@@ -8,7 +8,7 @@ use Rattle.numbers.specs.Rational.{Rational}
 use Rattle.numbers.proofs.Ring.{Ring, _⊕_, 𝟘, 𝟙, _≐_, _·_, _and_, _from_, solve, derive}
 use Rattle.rules.specs.Refusal.{Result, _>>=_}
 use Rattle.rules.specs.Limits.{Limits}
-use Rattle.rules.specs.IndexMap.{Keys, Walked, visit, addEntry, addConstant}
+use Rattle.index_map.specs.IndexMap.{Keys, Walked, visit, addEntry, addConstant}
 use Rattle.rules.proofs.Yields.{Yields, gives, and-then, weaker, guarded}
 use Rattle.rules.proofs.Valuations.{plus-stands}
 use Rattle.rules_theory.proofs.IndexMaps.{Values, entry, total, worth, GoodEntry, GoodCombination, insert-totals}

@@ -1,16 +1,11 @@
--- rules, verdicts and turns
+-- rules
 pub mod Rules
-pub mod Verdicts
-pub mod Turns
 -- the records of a run, in bytes
 pub mod RowRecords
 pub mod RunRecords
 pub mod StepAreas
 pub mod StepRules
 pub mod StepReading
+-- before the first step, and what a step stands on
+pub mod Prepared
 pub mod Standing
--- steps and runs in memory
-pub mod CheckedSteps
-pub mod TurnOutcomes
-pub mod CheckLoops
-pub mod EntryPoints

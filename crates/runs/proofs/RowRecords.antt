@@ -17,7 +17,8 @@ use Rattle.terms.specs.Term.{Term, recordNumber, sort, sameSort}
 use Rattle.terms.specs.Term.Sort.{bool}
 use Rattle.terms.specs.Book.{count, tree}
 use Rattle.numbers.proofs.Truths.{both}
-use Rattle.terms.proofs.BookTerms.{OfBook, recordNumber-tree}
+use Rattle.terms.proofs.NumberedNodes.{recordNumber-tree}
+use Rattle.book.proofs.BookTerms.{OfBook}
 use Rattle.runs.specs.Run.{Rec, P, rec, recs, leading, after, allRight, numbersOf, termsOf, Every, recordBytes}
 use Rattle.runs.specs.Run.{premiseBytes, termBytes, end, also}
 

@@ -28,8 +28,7 @@ use Rattle.runs.specs.Verdict.LentRefusal.{runRecord}
 use Rattle.runs.specs.Rule.{ruleOf}
 use Rattle.runs.specs.Rule.Rule.{assume}
 use Rattle.runs.specs.Run.{Step, step, recs, allRight, headRule, readStep, readRun, Every, stepsOf, end, also}
-use Rattle.runs.specs.memory.StepParts.{premisesIn, clauseIn, argsIn, nextIn, bytesIn, headIn, readIn, ruleIn}
-use Rattle.runs.specs.memory.StepParts.{stepIn}
+use Rattle.runs.specs.memory.StepParts.{premisesIn, clauseIn, argsIn, nextIn, bytesIn, headIn, readIn, ruleIn, stepIn}
 use Rattle.runs.specs.memory.StepParts.{stepFrom, StandsIn}
 use Rattle.runs.proofs.RowRecords.{isLiteral, right-numbers}
 use Rattle.runs.proofs.RunRecords.{length-recs, numbers-of, terms-of, rowsIn, length-own, next-drop}

@@ -16,8 +16,7 @@ use Rattle.numbers.specs.Bytes.{Bytes}
 use Rattle.rules.proofs.RunParts.{drop-to-end}
 use Rattle.runs.specs.Run.{recs, leading, P, C, A}
 use Rattle.runs.specs.memory.StepParts.{leadingIn, afterIn, premisesIn, clauseIn, argsIn, nextIn, bytesIn}
-use Rattle.runs.specs.memory.StepParts.{partsIn}
-use Rattle.runs.specs.memory.StepParts.{stepFrom}
+use Rattle.runs.specs.memory.StepParts.{partsIn, stepFrom}
 use Rattle.runs.specs.declared.run.StepParts.{StepParts}
 use Rattle.runs.proofs.RunRecords.{length-recs, recAt, recs-cons, leading-has, leading-stops, leading-take}
 use Rattle.runs.proofs.RunRecords.{cut, next-drop, next-shorter, bytes-within, partFrom}

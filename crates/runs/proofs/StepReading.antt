@@ -22,17 +22,16 @@ use Rattle.numbers.specs.Bytes.{Bytes, le}
 use Rattle.terms.specs.Book.{count, SortsBelow}
 use Rattle.terms.proofs.Layouts.{all, Walk, walk-on, walk-fails, walk-end}
 use Rattle.numbers.proofs.Truths.{never}
-use Rattle.linear_arithmetic.specs.memory.LinearSteps.{maxRunBytes}
+use Rattle.terms.specs.Format.{maxRunBytes, maxRunRecords}
 use Rattle.rules.specs.Refusal.{Outcome, _>>=_, assert, orElse}
 use Rattle.rules.specs.Refusal.Outcome.{ok, refused}
 use Rattle.runs.specs.Verdict.{LentRefusal}
 use Rattle.runs.specs.Verdict.LentRefusal.{runRecord}
 use Rattle.runs.specs.Rule.{Rule, ruleOf}
 use Rattle.runs.specs.Run.{Step, Rec, rec, P, C, A, recs, leading, after, allRight, isEmpty, shapeOk, headRule}
-use Rattle.runs.specs.Run.{readStep, readSteps, readRun, maxRunRecords}
+use Rattle.runs.specs.Run.{readStep, readSteps, readRun}
 use Rattle.runs.specs.memory.StepParts.{afterIn, premisesIn, clauseIn, argsIn, nextIn, bytesIn, headIn, partsOk}
-use Rattle.runs.specs.memory.StepParts.{readIn}
-use Rattle.runs.specs.memory.StepParts.{partsIn, ruleIn, isOk, runReadOf}
+use Rattle.runs.specs.memory.StepParts.{readIn, partsIn, ruleIn, isOk, runReadOf}
 use Rattle.runs.specs.declared.run.StepParts.{StepParts}
 use Rattle.runs.specs.declared.run.RunRead.{RunRead}
 use Rattle.runs.specs.declared.run.RunRead.the-variants as runRead

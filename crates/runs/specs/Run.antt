@@ -10,6 +10,7 @@ use Rattle.numbers.specs.Bytes.{Bytes, bytesOf}
 use Rattle.terms.specs.Term.{Term, sort, sameSort, recordNumber}
 use Rattle.terms.specs.Term.Sort.{bool}
 use Rattle.terms.specs.Book.{count, tree}
+use Rattle.terms.specs.Format.{runRecordBytes, maxRunRecords}
 use Rattle.rules.specs.Refusal.{Outcome, _>>=_, assert, orElse}
 use Rattle.rules.specs.Refusal.Outcome.{ok, refused}
 use Rattle.runs.specs.Verdict.{LentRefusal}
@@ -27,12 +28,6 @@ abbrev pub step : Rule → List ℕ → List Term → List Term → Step
 step r p c a = record { rule = r; premises = p; clause = c; args = a }
 
 -- ---- records
-
-abbrev pub runRecordBytes : ℕ
-runRecordBytes = 4
-
-abbrev pub maxRunRecords : ℕ
-maxRunRecords = 4096
 
 pub record Rec : Type 0 where
   pub mark : ℕ

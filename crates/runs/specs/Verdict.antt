@@ -3,7 +3,7 @@
 use mathlib.Core.Bool.{Bool, true, false, _||_, not}
 use Prim.Native.Nat.{ℕ}
 use Rattle.terms.specs.Book.{bookNumber}
-use Rattle.terms.specs.declared.book.BookRefusal.{BookRefusal}
+use Rattle.terms.specs.declared.reading.BookRefusal.{BookRefusal}
 use Rattle.rules.specs.Refusal.{Refusal, number, isLimit}
 
 -- of the work area or the limit, of the book, of the run, of the out areas

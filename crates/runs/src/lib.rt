@@ -1,4 +1,4 @@
-// Layer 3: runs, read and marked.
-pub mod check;
+// Layer 3: book and run are read.
+pub mod prepare;
 pub mod rule;
 pub mod run;

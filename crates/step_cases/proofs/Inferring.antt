@@ -15,7 +15,7 @@ use Rattle.rules.specs.memory.Parts.{Ready, Inside}
 use Rattle.linear_arithmetic.specs.memory.LinearSteps.{AllNumbers}
 use Rattle.linear_arithmetic.specs.declared.linear_arithmetic.Folded.{Folded}
 use Rattle.linear_arithmetic.specs.declared.linear_arithmetic.Folded.the-variants as folded
-use Rattle.linear_arithmetic.specs.declared.process_disequality.Progress as by-value
+use Rattle.process_disequality.specs.declared.process_disequality.Progress as by-value
 use Rattle.linear_arithmetic.proofs.FoldedAreas.{Given}
 use Rattle.linear_arithmetic.proofs.PartialFold.{PartSoFar, part-begin, Rested, part-more, part-again}
 

@@ -1,23 +1,22 @@
 -- Laws of what a record's bytes hold: numbers of two bytes, the arguments that they make, and the comparison of bytes with
 -- those of earlier records. Each is an induction over a list or a number; the functions of `book.rt` meet their contracts
 -- by them.
-use mathlib.Core.Path.{_≡_, refl, sym, ap, ap₂, _∙_}
+use mathlib.Core.Path.{_≡_, refl, sym, ap, _∙_}
 use mathlib.Core.Bool.{Bool, true, false, cond}
 use mathlib.Core.Logic.{_⊎_, ⊎-elim, inl, inr}
 use mathlib.Core.List.{List, [], _∷_}
-use Prim.Native.Nat.{ℕ, zero, suc, _+_, _*_, _-_, _/_, _≤_, _<_, min}
+use Prim.Native.Nat.{ℕ, zero, suc, _*_, _-_, _/_, _≤_, _<_, min}
 use native.Mathlib.Nat.{eq-or-lt-of-le, le-of-suc-le-suc}
 use native.Mathlib.Omega.{arith}
-use borrow.Author.Tests.{lt-ltb, le-ltb, eq-eqb, ne-eqb, eqb-true}
+use borrow.Author.Tests.{lt-ltb, le-ltb, eq-eqb, ne-eqb}
 use lib.Dec.{ltb, eqb}
 use lib.ListN.{length, getD, take, drop, length-drop, List·getD-eq-default}
-use lib.Seq.{take-nil, ext-getD}
-use Rattle.numbers.specs.Bytes.{Bytes, le}
+use lib.Seq.{take-nil}
+use Rattle.numbers.specs.Bytes.{Bytes, le, sameBytes}
 use Rattle.terms.specs.Term.{Term, Terms}
 use Rattle.terms.specs.Term.Terms.{nil, _▹_}
 use Rattle.terms.specs.Book.{recordOf, kind, argCount, argBytes, numbers, nothing, earlier, argumentAt, arguments}
 use Rattle.terms.specs.Book.{forest, stands}
-use Rattle.numbers.specs.Bytes.{sameBytes}
 use Rattle.numbers.proofs.LittleEndian.{le-cons, le-of-two}
 
 -- ---- the part of a record that holds its arguments, as the function `arg_bytes` finds it

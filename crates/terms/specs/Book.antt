@@ -13,6 +13,7 @@ use lib.Signed.{ltZ}
 use Rattle.numbers.specs.Rational.{Rational, frac, whole, gcd, inRange}
 use Rattle.numbers.specs.Bytes.{Bytes, sameBytes, le, signed}
 use Rattle.terms.specs.Format.{recordBytes, maxRecords, maxArgs, maxWidth, boolSort, intSort, realSort, bitsSort}
+use Rattle.terms.specs.Format.{firstAt, secondAt, fieldsEnd, argsAt}
 use Rattle.terms.specs.Format.{integerKind, realKind, vectorKind, atomKind, operationKind}
 use Rattle.terms.specs.Operator.{Not, Sub, IntDiv, RealDiv, ToReal, BvSub, BvNeg, BvMul}
 use Rattle.terms.specs.Term.{Sort, Term, Terms, sort, sorts, sortCode, takes}
@@ -20,12 +21,13 @@ use Rattle.numbers.specs.Choice.{if_then_else_}
 use Rattle.terms.specs.Term.Sort.{bool, int, real, bits}
 use Rattle.terms.specs.Term.Term.{integer, rational, bitvector, atom, op}
 use Rattle.terms.specs.Term.Terms.{nil, _▹_}
-use Rattle.terms.specs.declared.book.BookRefusal.{BookRefusal}
-use Rattle.terms.specs.declared.book.BookRefusal.the-variants.{BookSize, RecordLayout, SortBroken, RecordRepeated}
-use Rattle.terms.specs.declared.book.BookRead.{BookRead}
-use Rattle.terms.specs.declared.book.BookRead.the-variants.{Records, RefusedAt}
-use Rattle.terms.specs.declared.book.RecordRead.{RecordRead}
-use Rattle.terms.specs.declared.book.RecordRead.the-variants.{Sorted, Refused}
+use Rattle.terms.specs.declared.reading.BookRefusal.{BookRefusal}
+use Rattle.terms.specs.declared.reading.BookRefusal.the-variants.{BookSize, RecordLayout, SortBroken}
+use Rattle.terms.specs.declared.reading.BookRefusal.the-variants.{RecordRepeated}
+use Rattle.terms.specs.declared.reading.BookRead.{BookRead}
+use Rattle.terms.specs.declared.reading.BookRead.the-variants.{Records, RefusedAt}
+use Rattle.terms.specs.declared.reading.RecordRead.{RecordRead}
+use Rattle.terms.specs.declared.reading.RecordRead.the-variants.{Sorted, Refused}
 
 -- ---- a record's fields
 
@@ -51,10 +53,10 @@ sortByte r = getD r 3 0
 
 -- the two fields of eight bytes: a value, numerator or name, and a denominator or width
 abbrev pub field1 : Bytes → ℕ
-field1 r = le 8 r 4
+field1 r = le 8 r firstAt
 
 abbrev pub field2 : Bytes → ℕ
-field2 r = le 8 r 12
+field2 r = le 8 r secondAt
 
 abbrev pub integerOf : Bytes → Rational
 integerOf r = whole (signed 8 (field1 r))
@@ -87,7 +89,7 @@ numbers (x ∷ y ∷ l) = (x + 256 * y) ∷ numbers l
 
 -- the part of a record that holds its arguments
 abbrev pub argBytes : Bytes → Bytes
-argBytes r = cond (eqb (kind r) operationKind) (take (2 * argCount r) (drop 4 r)) []
+argBytes r = cond (eqb (kind r) operationKind) (take (2 * argCount r) (drop argsAt r)) []
 
 -- ---- the term below a record
 
@@ -156,20 +158,21 @@ allBelow i [] = true
 allBelow i (a ∷ l) = ltb a i && allBelow i l
 
 abbrev pub integerOk : Bytes → Bool
-integerOk r = unused 3 r 1 && (unused 20 r 12 && isNumber (integerOf r))
+integerOk r = unused 3 r 1 && (unused (recordBytes - secondAt) r secondAt && isNumber (integerOf r))
 
 abbrev pub realOk : Bytes → Bool
 realOk r =
     unused 3 r 1
-    && (unused 12 r 20 && (isNumber (realOf r) && eqb (gcd (natAbs (realOf r .num)) (natAbs (realOf r .den))) 1))
+    && (unused (recordBytes - fieldsEnd) r fieldsEnd
+    && (isNumber (realOf r) && eqb (gcd (natAbs (realOf r .num)) (natAbs (realOf r .den))) 1))
 
 abbrev pub vectorOk : Bytes → Bool
-vectorOk r = unused 3 r 1 && (unused 12 r 20 && isVector r)
+vectorOk r = unused 3 r 1 && (unused (recordBytes - fieldsEnd) r fieldsEnd && isVector r)
 
 abbrev pub atomOk : Bytes → Bool
 atomOk r =
     unused 2 r 1
-    && (unused 12 r 20
+    && (unused (recordBytes - fieldsEnd) r fieldsEnd
     && cond (eqb (sortByte r) bitsSort) (isWidth (field2 r))
     (leb boolSort (sortByte r) && (leb (sortByte r) realSort && eqb (field2 r) 0)))
 
@@ -178,7 +181,8 @@ abbrev pub argumentsOk : ℕ → Bytes → Bool
 argumentsOk i r =
     countOk (operator r) (argCount r)
     && (eqb (sortByte r) 0
-    && (unused (28 - 2 * argCount r) r (4 + 2 * argCount r) && allBelow i (numbers (argBytes r))))
+    && (unused (recordBytes - argsAt - 2 * argCount r) r (argsAt + 2 * argCount r)
+    && allBelow i (numbers (argBytes r))))
 
 abbrev pub operationOk : ℕ → Bytes → Bool
 operationOk i r = leb Not (operator r) && (leb (operator r) BvMul && argumentsOk i r)

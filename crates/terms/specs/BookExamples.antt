@@ -25,8 +25,8 @@ use Rattle.terms.specs.Readers.{asNumber, asSignedNumber, quotientOf, as
 use Rattle.terms.specs.Readers.{removeNegation, bounded, ranged}
 use Rattle.terms.specs.Smtlib.{Assignment, asPair, value, meaning, every, any, chain, foldLeft, sumZ, productZ}
 use Rattle.terms.specs.Smtlib.{divsEven}
-use Rattle.terms.specs.declared.book.BookRead.{BookRead}
-use Rattle.terms.specs.declared.book.BookRead.the-variants.{Records}
+use Rattle.terms.specs.declared.reading.BookRead.{BookRead}
+use Rattle.terms.specs.declared.reading.BookRead.the-variants.{Records}
 use Rattle.terms.specs.declared.term.BitVector.the-variants.{Bits}
 use Rattle.terms.specs.declared.term.Reading.{Reading}
 use Rattle.terms.specs.declared.term.Reading.the-variants.{Value, NotNumber}

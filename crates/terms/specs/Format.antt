@@ -1,5 +1,5 @@
--- The codes and sizes of a book's records, by name.
-use Prim.Native.Nat.{ℕ}
+-- The codes and sizes of book, run and work area, by name.
+use Prim.Native.Nat.{ℕ, _*_}
 
 abbrev pub recordBytes : ℕ
 recordBytes = 32
@@ -12,6 +12,21 @@ maxArgs = 14
 
 abbrev pub maxWidth : ℕ
 maxWidth = 30
+
+-- ---- the fields of a record: a value, a numerator or a name, then a denominator or a width; or two bytes an argument
+
+abbrev pub firstAt : ℕ
+firstAt = 4
+
+abbrev pub secondAt : ℕ
+secondAt = 12
+
+-- behind the second field
+abbrev pub fieldsEnd : ℕ
+fieldsEnd = 20
+
+abbrev pub argsAt : ℕ
+argsAt = 4
 
 -- ---- the kinds, byte 0 of a record
 
@@ -46,3 +61,22 @@ bitsSort = 4
 
 abbrev pub bitsCode : ℕ
 bitsCode = 3
+
+-- ---- the run
+
+abbrev pub runRecordBytes : ℕ
+runRecordBytes = 4
+
+abbrev pub maxRunRecords : ℕ
+maxRunRecords = 4096
+
+abbrev pub maxRunBytes : ℕ
+maxRunBytes = runRecordBytes * maxRunRecords
+
+-- ---- the work area: a sort for each record, then the bytes of a step
+
+abbrev pub workBytes : ℕ
+workBytes = 65536
+
+abbrev pub stepAt : ℕ
+stepAt = 2048

@@ -6,4 +6,3 @@ pub mod BookExamples
 pub mod MeaningExamples
 pub mod Operator
 pub mod Term
-pub mod memory

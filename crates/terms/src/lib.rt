@@ -1,12 +1,9 @@
-// Layer 1: books of terms, read; their sorts, meaning, and the readers of numbers. Each file knows those before it: the
-// codes, a record's bytes, its layout, sort and equality, the book, and the readers of terms.
+// Layer 1: terms, as records of a book: the codes, a record's bytes and fields, and the readers of terms.
 pub mod areas;
-pub mod book;
+pub mod fields;
 pub mod format;
-pub mod index;
-pub mod layout;
 pub mod operator;
+pub mod reading;
 pub mod records;
 pub mod refusal;
-pub mod sort;
 pub mod term;

@@ -15,24 +15,25 @@ use mir.Val.{Fits}
 use Rattle.numbers.specs.Bytes.{Bytes}
 use Rattle.numbers.proofs.Truths.{both}
 use Rattle.terms.specs.Book.{readBook}
-use Rattle.terms.specs.Format.{maxRecords}
-use Rattle.terms.specs.declared.book.BookRead.{BookRead}
-use Rattle.terms.specs.declared.book.BookRead.the-variants.{Records, RefusedAt}
+use Rattle.terms.specs.Format.{maxRecords, maxRunRecords}
+use Rattle.terms.specs.declared.reading.BookRead.{BookRead}
+use Rattle.terms.specs.declared.reading.BookRead.the-variants.{Records, RefusedAt}
 use Rattle.rules.specs.Refusal.{Outcome}
 use Rattle.rules.specs.Limits.{Limits, limited}
 use Rattle.rules.proofs.Yields.{Yields, past, and-then, weaker, guarded}
 use Rattle.rules.proofs.Yields.Yields.{gives, refuses}
 use Rattle.runs.specs.Verdict.{LentRefusal}
-use Rattle.runs.specs.Run.{Step, Rec, maxRunRecords, readSteps, readRun}
-use Rattle.runs.specs.Check.{Marking, markRun, mark, lentOk, check}
-use Rattle.runs.specs.Answers.{markedOf}
-use Rattle.runs.specs.declared.check.Marked.{Marked}
-use Rattle.runs.proofs.Turns.{Marks, ends, stops, goes-on, marks, checkSteps-from, markBook}
-use Rattle.elaborate.specs.Elaborate.{Written, written, addSteps, fits, Answer, elaborated, elaborate}
+use Rattle.runs.specs.Run.{Step, Rec, readSteps, readRun}
+use Rattle.marking.specs.Check.{Marking, markRun, mark, lentOk, check}
+use Rattle.marking.specs.Answers.{markedOf}
+use Rattle.marking.specs.declared.check.Marked.{Marked}
+use Rattle.marking.proofs.Turns.{Marks, ends, stops, goes-on, marks, checkSteps-from, markBook}
+use Rattle.elaborate.specs.Elaborate.{addSteps, Answer, elaborated, elaborate}
+use Rattle.out_areas.specs.Farkas.{Written, written, fits}
 use Rattle.elaborate.specs.LentMemory.{elaboratedOf}
 use Rattle.elaborate.specs.declared.elaborate.Elaborated.{Elaborated}
-use Rattle.elaborate.proofs.Memory.{tailBytes-length}
-use Rattle.elaborate.proofs.OutAreas.{fit-of}
+use Rattle.out_areas.proofs.RealRecord.{tailBytes-length}
+use Rattle.out_areas.proofs.OutAreas.{fit-of}
 use Rattle.elaborate.proofs.Unrefused.{chosen, checked, elaborate-is}
 
 -- ---- accepted steps

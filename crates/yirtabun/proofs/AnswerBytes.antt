@@ -10,8 +10,8 @@ use native.Mathlib.Omega.{arith}
 use lib.ListN.{length, getD, replicate, length-append, length-replicate}
 use Rattle.numbers.specs.Bytes.{Bytes, put, putDigits, bytesOf}
 use Rattle.numbers.proofs.CopiedBytes.{Copied, front-all}
-use Rattle.runs.specs.Answers.{area}
-use Rattle.runs.specs.declared.check.Marked.{Marked}
+use Rattle.marking.specs.Answers.{area}
+use Rattle.marking.specs.declared.check.Marked.{Marked}
 use Rattle.elaborate.specs.declared.elaborate.Elaborated.{Elaborated}
 use Rattle.yirtabun.specs.Answers.{numberBytes, shown}
 

@@ -6,9 +6,9 @@ use Prim.Native.Nat.{ℕ}
 use lib.ListN.{length, take}
 use Rattle.numbers.specs.Bytes.{Bytes, bytesOf}
 use Rattle.runs.specs.Verdict.{verdictNumber}
-use Rattle.runs.specs.Check.{Marking, check}
+use Rattle.marking.specs.Check.{Marking, check}
 use Rattle.elaborate.specs.Elaborate.{Answer, writtenPart}
-use Rattle.runs.specs.Answers.{area, zeros}
+use Rattle.marking.specs.Answers.{area, zeros}
 use Rattle.elaborate.specs.LentMemory.{Memory, answerTo}
 use Rattle.elaborate.specs.LentMemory.{elaboratedOf}
 use Rattle.elaborate.specs.ElaborateEntry.{ElaborateDone}

@@ -11,9 +11,9 @@ ghost use Rattle.elaborate.specs.LentMemory.{lent};
 ghost use Rattle.yirtabun.specs.Answers.{numberBytes, shown, CheckShown, ElaborateShown, WrittenShown};
 use elaborate::elaborate::elaborate;
 use elaborate::elaborate::written;
+use marking::check::check;
 use numbers::bytes::byte;
 use numbers::bytes::write_u32;
-use runs::check::check;
 
 // Puts as many bytes of a text as it takes into a slice, and zeros behind them.
 fn show(text: &[u8], answer: &mut [u8])

@@ -10,18 +10,19 @@ use Rattle.numbers.specs.Bytes.{Bytes}
 use Rattle.terms.specs.Term.{Term, Terms}
 use Rattle.terms.specs.Book.{count, tree, SortsBelow}
 use Rattle.terms.specs.Readers.{argumentsOf}
+use Rattle.terms.specs.Format.{workBytes}
 use Rattle.rules.specs.Refusal.{Result, orElse, number, _>>=_}
 use Rattle.rules.specs.Refusal.Outcome.{ok, refused}
 use Rattle.rules.specs.Refusal.Refusal.{numberRange, invalidDisequalityOp}
 use Rattle.rules.specs.Limits.{Limits, times}
-use Rattle.rules.specs.IndexMap.{Map, combination, sub, new, Walked, walked, addConstant}
+use Rattle.index_map.specs.IndexMap.{Map, combination, sub, new, Walked, walked, addConstant}
 use Rattle.linear_comb.specs.LinearComb.{LinearComb}
-use Rattle.rules.specs.memory.Entries.{terms, slots, stored, Held}
+use Rattle.index_map.specs.memory.Entries.{terms, slots, stored, Held}
 use Rattle.disequality.specs.Disequality.{inner, twoSides, Disequality, disequality, turned}
-use Rattle.linear_comb.specs.memory.WorkArea.{workBytes, leftSide, rightSide}
+use Rattle.linear_comb.specs.memory.WorkArea.{leftSide, rightSide}
 use Rattle.linear_comb.specs.memory.WorkArea.{areaOf, withArea, OnlyArea, SumHas, combWith}
 use Rattle.rules.specs.memory.Parts.{Refuses, after, Laid}
-use Rattle.rules.specs.declared.index_map.Coefficient.the-variants.{Of}
+use Rattle.index_map.specs.declared.index_map.Coefficient.the-variants.{Of}
 use Rattle.disequality.specs.declared.disequality.Operation.{Operation}
 use Rattle.disequality.specs.declared.disequality.Operation.the-variants as operation
 use Rattle.disequality.specs.declared.disequality.Relation.{Relation}

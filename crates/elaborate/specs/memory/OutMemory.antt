@@ -1,25 +1,20 @@
 -- What the functions of `elaborate` answer, and what they leave in lent memory, in terms of the definitions.
 use mathlib.Core.Path.{_≡_}
 use mathlib.Core.List.{[]}
-use mathlib.Core.Option.{Option, some, none}
 use Prim.Native.Nat.{ℕ}
 use lib.ListN.{length}
 use Rattle.numbers.specs.Bytes.{Bytes}
 use Rattle.runs.specs.Verdict.{verdictNumber}
 use Rattle.runs.specs.Run.{stepsOf}
-use Rattle.runs.specs.Check.{Marking, State, turn}
-use Rattle.elaborate.specs.Elaborate.{written, addSteps, Answer}
-use Rattle.runs.specs.Answers.{area}
-use Rattle.runs.specs.memory.Lent.{stateOf, Reached}
+use Rattle.marking.specs.Check.{Marking, State, turn}
+use Rattle.elaborate.specs.Elaborate.{addSteps, Answer}
+use Rattle.out_areas.specs.Farkas.{written}
+use Rattle.marking.specs.Answers.{area}
+use Rattle.marking.specs.memory.Lent.{stateOf, Reached}
 use Rattle.elaborate.specs.declared.elaborate.Elaborating.{Elaborating}
 use Rattle.elaborate.specs.declared.elaborate.Elaborated.{Elaborated}
 use Rattle.elaborate.specs.LentMemory.{elaboratedOf}
-use Rattle.elaborate.specs.memory.OutAreas.{Holds}
-
--- the place that was found, or n
-abbrev pub placeOr : Option ℕ → ℕ → ℕ
-placeOr (some i) n = i
-placeOr none n = n
+use Rattle.out_areas.specs.memory.OutAreas.{Holds}
 
 -- ---- a marking under way, and what of its elaboration is written
 

@@ -6,43 +6,27 @@ use mathlib.Core.Path.{_≡_}
 use mathlib.Core.Logic.{_≢_}
 use mathlib.Core.Bool.{Bool, true, false}
 use mathlib.Core.List.{[], _++_}
-use mathlib.Core.Option.{none}
 use Prim.Native.Nat.{ℕ, _+_, _*_, _≤_, _<_}
 use lib.ListN.{length, take, drop}
 use Rattle.numbers.specs.Rational.{Rational, Proper, negQ}
 use Rattle.numbers.specs.Bytes.{Bytes}
 use Rattle.terms.specs.Term.{Term}
-use Rattle.terms.specs.Format.{maxRecords}
+use Rattle.terms.specs.Format.{maxRecords, workBytes, stepAt}
 use Rattle.rules.specs.Refusal.{Result}
 use Rattle.rules.specs.Refusal.Outcome.{ok, refused}
 use Rattle.rules.specs.Refusal.Refusal.{numberRange}
-use Rattle.rules.specs.IndexMap.{Map, combination, negAll, neg, Walked, walked}
+use Rattle.index_map.specs.IndexMap.{Map, combination, negAll, neg}
 use Rattle.linear_comb.specs.LinearComb.{LinearComb}
 use Rattle.linear_comb.specs.declared.linear_comb.LinearComb as by-value
 use Rattle.linear_comb.specs.declared.linear_comb.Combined.{Combined}
 use Rattle.linear_comb.specs.declared.linear_comb.Combined.the-variants as combined
-use Rattle.linear_comb.specs.declared.linear_walk.Walk.{Walk}
-use Rattle.linear_comb.specs.declared.linear_walk.Walk.the-variants.{Done, Refused}
-use Rattle.rules.specs.memory.Parts.{Refuses}
-use Rattle.rules.specs.memory.Entries.{slots, entriesOf, Held, Kept, NewEntry}
+use Rattle.index_map.specs.memory.Entries.{slots, mostEntries, entriesOf, Held, Kept, NewEntry}
 
 -- ---- sizes and offsets
-
--- the whole work area
-abbrev pub workBytes : ℕ
-workBytes = 65536
-
--- the byte at which the areas begin, behind the sorts
-abbrev pub stepAt : ℕ
-stepAt = 2048
 
 -- an area
 abbrev pub sumBytes : ℕ
 sumBytes = 20480
-
--- as many entries as two areas have: no function on a sum is lent more
-abbrev pub mostEntries : ℕ
-mostEntries = 4096
 
 -- the areas of the accumulated combination and of a literal's two sides
 abbrev pub accumulated : ℕ
@@ -77,27 +61,12 @@ CombinedIs (combined.Is s) m d =
     (d ≡ ok (combination m (s .constant))) × ((s .len ≡ length m) × Proper (s .constant))
 CombinedIs combined.OutOfRange m d = (d ≡ refused numberRange) × (m ≡ [])
 
--- document 01's number of a walk's refusal; 0 where it is done
-abbrev pub walkRefusal : Walk → ℕ
-walkRefusal (Done s v) = 0
-walkRefusal (Refused c) = c
-
-abbrev pub WalkIs : Walk → Map Term → Result (Walked Term) → Type 0
-WalkIs (Done s v) m d =
-    (d ≡ ok (walked (combination m (s .constant)) v)) × ((s .len ≡ length m) × Proper (s .constant))
-WalkIs (Refused c) m d = Refuses c d × (m ≡ [])
-
 -- ---- promises about the bytes w that are left in an area
 
 pub record Combines (b w : Bytes) (r : Combined) (d : Result LinearComb) : Type 0 where
   pub map : Map Term
   pub held : Held b w map
   pub is : CombinedIs r map d
-
-pub record Walks (b w : Bytes) (r : Walk) (d : Result (Walked Term)) : Type 0 where
-  pub map : Map Term
-  pub held : Held b w map
-  pub is : WalkIs r map d
 
 -- ---- the three areas in the work area
 

@@ -9,17 +9,17 @@ use lib.IntN.{pos}
 use lib.ListN.{length, getD, set}
 use Rattle.numbers.specs.Rational.{Proper, whole, modulo}
 use Rattle.numbers.specs.Bytes.{Bytes}
-use Rattle.terms.specs.Format.{bitsCode, bitsSort, maxWidth}
+use Rattle.terms.specs.Format.{bitsCode, bitsSort, maxWidth, stepAt, workBytes}
 use Rattle.terms.specs.Term.{Term}
 use Rattle.rules.specs.Refusal.{Result, _>>=_, assert}
 use Rattle.rules.specs.Refusal.Outcome.{ok}
 use Rattle.rules.specs.Refusal.Refusal.{polynomialsNotEqual}
 use Rattle.rules.specs.Limits.{Limits}
-use Rattle.rules.specs.IndexMap.{Map, combination, sub}
+use Rattle.index_map.specs.IndexMap.{Map, combination, sub}
 use Rattle.polynomial.specs.Polynomial.{Monomial, Polynomial, monomials, isNought}
 use Rattle.polynomial_walk.specs.PolynomialTerms.{fromTerm}
 use Rattle.poly_simp.specs.PolySimp.{moduloAll}
-use Rattle.rules.specs.memory.Parts.{workBytes, stepStart, verdictOf}
+use Rattle.rules.specs.memory.Parts.{verdictOf}
 use Rattle.polynomial.specs.memory.PolynomialArea.{places, Poly, PolyHas, polyWith, StackHas, Stacked}
 use Rattle.rules.specs.declared.verdict.Verdict.{Verdict}
 
@@ -27,7 +27,7 @@ use Rattle.rules.specs.declared.verdict.Verdict.{Verdict}
 
 -- the bytes of the work area behind the sorts
 abbrev pub stackSize : ℕ
-stackSize = workBytes - stepStart
+stackSize = workBytes - stepAt
 
 -- of the widest bit-vector, of 30 bits, and its modulus
 abbrev pub maxSort : ℕ

@@ -17,9 +17,9 @@ use Rattle.rules.specs.Refusal.{Result, _>>=_, assert}
 use Rattle.rules.specs.Refusal.Outcome.{ok}
 use Rattle.rules.specs.Refusal.Refusal.{polynomialSize}
 use Rattle.rules.specs.Limits.{Limits, times}
-use Rattle.rules.specs.memory.StoredMaps as maps
-use Rattle.rules.specs.memory.StoredMaps.{Encoding, All}
-use Rattle.rules.specs.IndexMap.{Map, combination, insert, addConstant, Walked, walked}
+use Rattle.index_map.specs.memory.StoredMaps as maps
+use Rattle.index_map.specs.memory.StoredMaps.{Encoding, All}
+use Rattle.index_map.specs.IndexMap.{Map, combination, insert, addConstant, Walked, walked}
 use Rattle.polynomial.specs.Polynomial.{Monomial, Polynomial, monomials, joined, mulEach, insertScaled}
 use Rattle.rules.specs.memory.Parts.{Refuses, blank}
 use Rattle.polynomial.specs.declared.monomials.Inserted.{Inserted}

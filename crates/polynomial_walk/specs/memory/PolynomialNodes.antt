@@ -3,14 +3,14 @@ use mathlib.Core.Path.{_≡_}
 use mathlib.Core.Bool.{true, false}
 use mathlib.Core.List.{[], _∷_}
 use mathlib.Core.Option.{some, none}
-use Prim.Native.Nat.{ℕ, suc, _+_, _*_, _/_, _≤_, _<_}
+use Prim.Native.Nat.{ℕ, suc, _+_, _*_, _≤_, _<_}
 use lib.IntN.{pos}
 use lib.ListN.{length}
 use Rattle.numbers.specs.Rational.{Rational, Proper, whole, mulQ, divQ, negQ, isZero, checked}
 use Rattle.numbers.specs.Bytes.{Bytes}
 use Rattle.terms.specs.Term.{Term, Terms, recordNumber}
 use Rattle.terms.specs.Term.Terms.{nil, _▹_}
-use Rattle.terms.specs.Book.{count, numbers, allBelow}
+use Rattle.terms.specs.Book.{count, tree, numbers, allBelow}
 use Rattle.terms.specs.Readers.{within, ranged, asFraction, asBitvector, asOp, argumentsOf}
 use Rattle.numbers.specs.declared.number.Checked.{Checked}
 use Rattle.numbers.specs.declared.number.Checked.the-variants as checked
@@ -20,13 +20,15 @@ use Rattle.terms.specs.declared.term.BitVector.the-variants.{Bits, NotBitvector
 use Rattle.rules.specs.Refusal.{Result, _>>=_, assert}
 use Rattle.rules.specs.Refusal.Outcome.{ok}
 use Rattle.rules.specs.Refusal.Refusal.{polynomialSize}
-use Rattle.rules.specs.Limits.{Limits}
-use Rattle.rules.specs.IndexMap.{Map, Walked, walked}
+use Rattle.rules.specs.Limits.{Limits, limited}
+use Rattle.index_map.specs.IndexMap.{Map, Walked, walked}
 use Rattle.polynomial.specs.Polynomial.{Monomial}
 use Rattle.polynomial_walk.specs.PolynomialTerms.{armOf, addTerm, addArgs, firstFactor}
 use Rattle.polynomial_walk.specs.PolynomialTerms.Arm.{sum, negation, difference, product, quotient, leaf}
 use Rattle.rules.specs.memory.Parts.{Laid}
-use Rattle.polynomial.specs.memory.PolynomialArea.{areaSize, Poly, PolyHas, Stacked, addScaled}
+use Rattle.polynomial.specs.memory.PolynomialArea.{areaSize, Poly, PolyHas, Stacked, Walks}
+use Rattle.polynomial.specs.memory.PolynomialArea.{polyWith, addScaled}
+use Rattle.polynomial.specs.declared.polynomial.Walk.{Walk}
 use Rattle.polynomial_walk.specs.declared.polynomial_walk.Node.{Node}
 use Rattle.polynomial_walk.specs.declared.polynomial_walk.Node.the-variants as node
 
@@ -88,11 +90,6 @@ addEach nil l d first others w = ok w
 addEach (t ▹ ts) l d first others w = do
   w ← addTerm t l d first w
   addArgs ts l d others w
-
--- all but the first
-abbrev pub othersOf : Terms → Terms
-othersOf nil = nil
-othersOf (t ▹ ts) = ts
 
 -- a product, one deeper than the d above it, times coeff
 unfoldable pub addProduct : Terms → Limits → ℕ → Rational → Walked Monomial → Result (Walked Monomial)
@@ -156,12 +153,17 @@ pub record FactorsPre (b w args : Bytes) (id d : ℕ) : Type 0 where
   pub high : areaSize * (4 + 2 * maxDepth) ≤ length w + areaSize * (2 * d)
   pub empty : Stacked b w []
 
--- the factors behind the first, whose product so far is p
-pub record OthersPre (b w args : Bytes) (id : ℕ) (p : Poly) (d : ℕ) : Type 0 where
+-- the factors that are left, behind those whose product is p
+pub record OthersPre (b w rest : Bytes) (id : ℕ) (p : Poly) (d : ℕ) : Type 0 where
   pub laid : Laid b
   pub inside : id < count b
-  pub below : allBelow id (numbers args) ≡ true
-  pub first : 0 < length args / 2
+  pub below : allBelow id (numbers rest) ≡ true
   pub deep : d ≤ maxDepth
   pub high : areaSize * (4 + 2 * maxDepth) ≤ length w + areaSize * (2 * d)
   pub filling : Filling b w p
+
+-- what the walk of record id promises, from the bytes w of a stack to w′: whichever polynomial s stands for
+abbrev pub TermWalks : Bytes → Bytes → Bytes → ℕ → Rational → Poly → ℕ → ℕ → ℕ → Walk → Type 0
+TermWalks b w w′ id coeff s v limit d r =
+    (m : Map Monomial) → Stacked b w (m ∷ []) → PolyHas s m →
+    Walks b w′ r (addTerm (tree b id) (limited limit) d coeff (walked (polyWith s m) v))

@@ -25,6 +25,7 @@ use Rattle.rules.specs.declared.readers.ExpectedOperator.the-variants as
 use lib.IntN.{pos}
 use lib.ListN.{length, drop, replicate}
 use Rattle.numbers.specs.Rational.{Rational, frac, Proper}
+use Rattle.terms.specs.Format.{workBytes, stepAt}
 
 -- ---- a part of a run: 4-byte records, of which a rule reads the 16-bit numbers
 
@@ -121,15 +122,8 @@ isSome none = false
 abbrev pub Laid : Bytes → Type 0
 Laid b = (j : ℕ) → j < count b → layoutOk j (recordOf b j) ≡ true
 
--- the bytes of the work area, and where those of a step begin, behind a sort for each record
-abbrev pub workBytes : ℕ
-workBytes = 65536
-
-abbrev pub stepStart : ℕ
-stepStart = 2048
-
 -- a sort for each record of a book that was read; after the sorts zeros
 pub record Ready (b w : Bytes) : Type 0 where
   pub sorts : SortsBelow (count b) b w
   pub size : length w ≡ workBytes
-  pub zeros : drop stepStart w ≡ replicate (workBytes - stepStart) 0
+  pub zeros : drop stepAt w ≡ replicate (workBytes - stepAt) 0

@@ -6,10 +6,10 @@ use Rattle.run_cases.proofs.try_all.Statement.{statement}
 use Rattle.run_cases.proofs.try_all.Tie as tie
 
 abbrev Inv-loop : tie.InvT-loop
-Inv-loop fd n k₀ good₀ t k good = good ≤ k
+Inv-loop fd n k₀ good₀ k good = good ≤ k
 
 abbrev μ-loop : tie.MeasureT-loop
-μ-loop fd n k₀ good₀ t k good = n - k
+μ-loop fd n k₀ good₀ k good = n - k
 
 loop-again : tie.Need-loop-again Inv-loop μ-loop
 loop-again c = ⊎-elim (λ w. search needs) (λ w. search needs) (c .match .came)
@@ -20,17 +20,7 @@ try-all-spec =
     (tie.spec
     Inv-loop
     μ-loop
-    (λ c. search needs)
-    (λ c κs. search needs)
-    (λ c. search needs)
-    (λ c. search needs)
-    (λ c. search needs)
-    (λ c κs. search needs)
-    (λ c. search needs)
-    (λ c. search needs)
-    (λ c κs. search needs)
-    (λ c. search needs)
-    (λ c. search needs)
-    (λ c. search needs)
+    (λ c. search needs) (λ c κs. search needs) (λ c. search needs) (λ c. search needs) (λ c. search needs)
+    (λ c κs. search needs) (λ c. search needs) (λ c. search needs) (λ c. search needs) (λ c. search needs)
     loop-again
     (λ c. search needs))

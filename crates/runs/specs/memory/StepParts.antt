@@ -11,13 +11,14 @@ use Rattle.numbers.specs.Bytes.{Bytes, le}
 use Rattle.terms.specs.Term.{sort, sameSort}
 use Rattle.terms.specs.Term.Sort.{bool}
 use Rattle.terms.specs.Book.{count, tree}
+use Rattle.terms.specs.Format.{runRecordBytes}
 use Rattle.rules.specs.Refusal.{Outcome}
 use Rattle.rules.specs.Refusal.Outcome.{ok, refused}
 use Rattle.rules.specs.memory.Parts.{numbersIn, termsIn}
 use Rattle.runs.specs.Verdict.{LentRefusal, lentNumber}
 use Rattle.runs.specs.Rule.{Rule, ruleOf}
 use Rattle.runs.specs.Rule.Rule.{assume}
-use Rattle.runs.specs.Run.{Step, step, Rec, rec, runRecordBytes, P, C, A, recs, leading, allRight, readStep}
+use Rattle.runs.specs.Run.{Step, step, Rec, rec, P, C, A, recs, leading, allRight, readStep}
 use Rattle.runs.specs.Run.{readRun}
 use Rattle.runs.specs.declared.run.StepParts.{StepParts}
 use Rattle.runs.specs.declared.run.RunRead.{RunRead}

@@ -6,7 +6,7 @@ use native.Mathlib.Omega.{arith}
 use borrow.Author.Needs.{needs}
 use lib.ListN.{length}
 use Rattle.numbers.proofs.CopiedBytes.{Copied, copied-none, front-more}
-use Rattle.runs.specs.Answers.{area}
+use Rattle.marking.specs.Answers.{area}
 use Rattle.yirtabun.proofs.AnswerBytes.{padded-byte, padded-long, copied-shown}
 use Rattle.yirtabun.proofs.show.Statement.{statement}
 use Rattle.yirtabun.proofs.show.Tie as tie

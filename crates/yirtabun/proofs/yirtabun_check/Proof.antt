@@ -2,7 +2,7 @@
 -- are shown as they are.
 use mathlib.Core.Path.{ap, _∙_}
 use borrow.Author.Needs.{needs}
-use Rattle.runs.specs.declared.check.Marked.{Marked}
+use Rattle.marking.specs.declared.check.Marked.{Marked}
 use Rattle.yirtabun.specs.Answers.{shown}
 use Rattle.yirtabun.proofs.AnswerBounds.{marked-fits}
 use Rattle.yirtabun.proofs.AnswerBytes.{ofMarked}
@@ -28,10 +28,7 @@ pub yirtabun-check-spec : {M : Type 1} → statement M
 yirtabun-check-spec =
     tie.close
     (tie.spec
-    (λ c κs. search needs)
-    (λ c. search needs)
+    (λ c κs. search needs) (λ c. search needs)
     cast-steps
-    (λ c κs. search needs)
-    (λ c. search needs)
-    (λ c. search needs)
+    (λ c κs. search needs) (λ c. search needs) (λ c. search needs)
     returns)

@@ -2,7 +2,7 @@
 -- range.
 use native.Mathlib.Omega.{arith}
 use borrow.Author.Needs.{needs}
-use Rattle.rules.proofs.StoredEntries.{kept-small}
+use Rattle.index_map.proofs.StoredEntries.{kept-small}
 use Rattle.disequality.proofs.ConstantSides.{bounded-out, bounded-left}
 use Rattle.disequality.proofs.disequality.bounded.Statement.{statement}
 use Rattle.disequality.proofs.disequality.bounded.Tie as tie
@@ -45,10 +45,7 @@ pub bounded-spec : {M : Type 1} → statement M
 bounded-spec =
     tie.close
     (tie.spec
-    (λ c κs. search needs)
-    (λ c κs. search needs)
-    (λ c. search needs)
-    (λ c. search needs)
+    (λ c κs. search needs) (λ c κs. search needs) (λ c. search needs) (λ c. search needs)
     clear-in-requires
     (λ c. search needs)
     returns

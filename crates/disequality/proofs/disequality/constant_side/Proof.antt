@@ -2,7 +2,7 @@
 use borrow.Author.Needs.{needs}
 use lib.Dec.{lit≤}
 use lib.IntN.{pos}
-use Rattle.rules.proofs.CheckedNumbers.{whole-proper}
+use Rattle.index_map.proofs.CheckedNumbers.{whole-proper}
 use Rattle.disequality.proofs.StrengthenAnswers.{proper-step}
 use Rattle.disequality.proofs.ConstantSides.{product-out, sum-out, sum-value}
 use Rattle.disequality.proofs.disequality.constant_side.Statement.{statement}
@@ -45,12 +45,10 @@ constant-side-spec =
     (tie.spec
     (λ c κs. search needs)
     mul-requires
-    (λ c. search needs)
-    (λ c. search needs)
+    (λ c. search needs) (λ c. search needs)
     returns
     (λ c κs. search needs)
     add-requires
-    (λ c. search needs)
-    (λ c. search needs)
+    (λ c. search needs) (λ c. search needs)
     returns-2
     returns-3)

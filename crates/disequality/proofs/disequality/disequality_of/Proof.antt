@@ -35,11 +35,7 @@ pub disequality-of-spec : {M : Type 1} → statement M
 disequality-of-spec =
     tie.close
     (tie.spec
-    (λ c κs. search needs)
-    (λ c. search needs)
-    (λ c. search needs)
-    (λ c κs. search needs)
-    (λ c. search needs)
+    (λ c κs. search needs) (λ c. search needs) (λ c. search needs) (λ c κs. search needs) (λ c. search needs)
     returns
     subtracted-requires
     (λ c. search needs)

@@ -40,14 +40,10 @@ pub inner-spec : {M : Type 1} → statement M
 inner-spec =
     tie.close
     (tie.spec
-    (λ c κs. search needs)
-    (λ c. search needs)
-    (λ c κs. search needs)
+    (λ c κs. search needs) (λ c. search needs) (λ c κs. search needs)
     returns
     returns-2
     returns-3
-    (λ c. search needs)
-    (λ c κs. search needs)
-    (λ c κs. search needs)
+    (λ c. search needs) (λ c κs. search needs) (λ c κs. search needs)
     returns-4
     returns-5)

@@ -3,9 +3,9 @@
 use mathlib.Core.Path.{_∙_, ap}
 use native.Mathlib.Omega.{arith}
 use borrow.Author.Needs.{needs}
-use Rattle.linear_comb.specs.memory.WorkArea.{walkRefusal}
+use Rattle.linear_walk.specs.memory.Walks.{walkRefusal}
 use Rattle.disequality.specs.memory.DisequalitySteps.{relationRefusal}
-use Rattle.rules.proofs.StoredEntries.{kept-small}
+use Rattle.index_map.proofs.StoredEntries.{kept-small}
 use Rattle.linear_comb.proofs.Areas.{empty-held}
 use Rattle.linear_comb.proofs.AreaSteps.{answer-kept}
 use Rattle.disequality.proofs.SidesAreas.{in-both, between-both, right-empty, no-relation, left-refused}
@@ -91,23 +91,15 @@ pub negate-disequality-spec : {M : Type 1} → statement M
 negate-disequality-spec =
     tie.close
     (tie.spec
-    (λ c κs. search needs)
-    (λ c. search needs)
-    (λ c. search needs)
-    (λ c κs. search needs)
+    (λ c κs. search needs) (λ c. search needs) (λ c. search needs) (λ c κs. search needs)
     returns
     from-term-requires
-    (λ c. search needs)
-    (λ c. search needs)
-    (λ c κs. search needs)
-    (λ c. search needs)
+    (λ c. search needs) (λ c. search needs) (λ c κs. search needs) (λ c. search needs)
     returns-2
     right-side-requires
-    (λ c. search needs)
-    (λ c. search needs)
+    (λ c. search needs) (λ c. search needs)
     clear-in-requires
-    (λ c κs. search needs)
-    (λ c. search needs)
+    (λ c κs. search needs) (λ c. search needs)
     returns-3
     (λ c. search needs)
     returns-4)

@@ -5,7 +5,7 @@ use native.Mathlib.Omega.{arith}
 use borrow.Author.Needs.{needs}
 use Rattle.disequality.proofs.disequality.subtracted.Statement.{statement}
 use Rattle.disequality.proofs.disequality.subtracted.Tie as tie
-use Rattle.rules.proofs.StoredEntries.{kept-small}
+use Rattle.index_map.proofs.StoredEntries.{kept-small}
 use Rattle.linear_comb.proofs.AreaSteps.{answer-kept}
 use Rattle.disequality.proofs.SidesAreas.{in-both}
 use Rattle.disequality.proofs.SubtractedSides.{out-of-range, subtracted-left}
@@ -83,9 +83,7 @@ subtracted-spec =
     returns
     sub-requires
     clear-in-requires
-    (λ c. search needs)
-    (λ c. search needs)
-    (λ c. search needs)
+    (λ c. search needs) (λ c. search needs) (λ c. search needs)
     returns-2
     neg-requires
     turned-requires

@@ -1,7 +1,7 @@
 -- By what `open` answers the marking is a refusal, with nothing written, or that of the steps.
 use mathlib.Core.Path.{_∙_}
 use borrow.Author.Needs.{needs}
-use Rattle.runs.proofs.EntryPoints.{opened-read}
+use Rattle.marking.proofs.EntryPoints.{opened-read}
 use Rattle.elaborate.proofs.ClosedAreas.{refused-elaborating, opened-elaborating}
 use Rattle.elaborate.proofs.elaborate.elaborate_run.Statement.{statement}
 use Rattle.elaborate.proofs.elaborate.elaborate_run.Tie as tie
@@ -38,17 +38,9 @@ pub elaborate-run-spec : {M : Type 1} → statement M
 elaborate-run-spec =
     tie.close
     (tie.spec
-    (λ c κs. search needs)
-    (λ c. search needs)
-    (λ c. search needs)
-    (λ c κs. search needs)
-    (λ c κs. search needs)
-    (λ c κs. search needs)
-    (λ c κs. search needs)
-    (λ c. search needs)
+    (λ c κs. search needs) (λ c. search needs) (λ c. search needs) (λ c κs. search needs)
+    (λ c κs. search needs) (λ c κs. search needs) (λ c κs. search needs) (λ c. search needs)
     returns
     elaborate-steps-requires
-    (λ c. search needs)
-    (λ c. search needs)
-    (λ c. search needs)
+    (λ c. search needs) (λ c. search needs) (λ c. search needs)
     returns-2)

@@ -3,7 +3,7 @@
 use mathlib.Core.Path.{ap}
 use borrow.Author.Needs.{needs}
 use lib.ListN.{length}
-use Rattle.runs.proofs.CheckLoops.{turnsIn, shows-underway}
+use Rattle.marking.proofs.CheckLoops.{turnsIn, shows-underway}
 use Rattle.elaborate.proofs.ElaborateLoops.{Going, going-begin, going-turn, going-less, going-end}
 use Rattle.elaborate.proofs.elaborate.elaborate_steps.Statement.{statement}
 use Rattle.elaborate.proofs.elaborate.elaborate_steps.Tie as tie
@@ -62,8 +62,7 @@ elaborate-steps-spec =
     (tie.spec
     Inv-loop
     μ-loop
-    (λ c κs. search needs)
-    (λ c κs. search needs)
+    (λ c κs. search needs) (λ c κs. search needs)
     loop-holds
     same-length
     same-length-2

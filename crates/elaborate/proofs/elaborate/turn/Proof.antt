@@ -3,7 +3,7 @@ use mathlib.Core.Path.{_≡_, ap}
 use borrow.Author.Needs.{needs}
 use Rattle.runs.specs.memory.StepParts.{bytesIn}
 use Rattle.runs.proofs.RunRecords.{partFrom}
-use Rattle.runs.proofs.CheckLoops.{Shows, turn-stands, turn-within, turn-room}
+use Rattle.marking.proofs.CheckLoops.{Shows, turn-stands, turn-within, turn-room}
 use Rattle.elaborate.proofs.ElaborateLoops.{under-of, written-stays, written-over, written-refused}
 use Rattle.elaborate.proofs.ElaborateLoops.{written-accepted}
 use Rattle.elaborate.proofs.elaborate.turn.Statement.{statement}
@@ -94,21 +94,11 @@ turn-spec =
     returns
     (λ c κs. search needs)
     returns-2
-    (λ c. search needs)
-    (λ c. search needs)
-    (λ c. search needs)
-    (λ c κs. search needs)
+    (λ c. search needs) (λ c. search needs) (λ c. search needs) (λ c κs. search needs)
     elaborate-step-requires
-    (λ c. search needs)
-    (λ c. search needs)
-    (λ c κs. search needs)
-    (λ c κs. search needs)
-    (λ c. search needs)
-    (λ c. search needs)
-    (λ c. search needs)
+    (λ c. search needs) (λ c. search needs) (λ c κs. search needs) (λ c κs. search needs) (λ c. search needs)
+    (λ c. search needs) (λ c. search needs)
     returns-3
     advanced-requires
-    (λ c. search needs)
-    (λ c. search needs)
-    (λ c. search needs)
+    (λ c. search needs) (λ c. search needs) (λ c. search needs)
     returns-4)

@@ -38,8 +38,7 @@ argument-at-spec =
     tie.close
     (tie.spec
     number-in-requires
-    (λ c κs. search needs)
-    (λ c. search needs)
+    (λ c κs. search needs) (λ c. search needs)
     returns
     (λ c. search needs)
     returns-2

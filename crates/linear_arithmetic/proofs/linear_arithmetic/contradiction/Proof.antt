@@ -29,11 +29,9 @@ pub contradiction-spec : {M : Type 1} → statement M
 contradiction-spec =
     tie.close
     (tie.spec
-    (λ c κs. search needs)
-    (λ c. search needs)
+    (λ c κs. search needs) (λ c. search needs)
     returns
-    (λ c κs. search needs)
-    (λ c. search needs)
+    (λ c κs. search needs) (λ c. search needs)
     returns-2
     (λ c. search needs)
     returns-3)

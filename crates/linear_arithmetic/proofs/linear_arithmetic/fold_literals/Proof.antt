@@ -120,17 +120,14 @@ fold-literals-spec =
     number-in-requires
     (λ c κs. search needs)
     process-disequality-requires
-    (λ c. search needs)
-    (λ c. search needs)
-    (λ c κs. search needs)
+    (λ c. search needs) (λ c. search needs) (λ c κs. search needs)
     same-length
     returns
     add-k
     (λ c. search needs)
     same-length-2
     returns-2
-    (λ c. search needs)
-    (λ c. search needs)
+    (λ c. search needs) (λ c. search needs)
     loop-again
     same-length-3
     returns-3)

@@ -1,7 +1,7 @@
 -- As many arguments as literals; then it is `la_generic_partial`.
 use mathlib.Core.Path.{refl}
 use borrow.Author.Needs.{needs}
-use Rattle.linear_arithmetic.proofs.PartialFold.{generic-unequal, generic-equal}
+use Rattle.linear_arithmetic.proofs.PartialEnd.{generic-unequal, generic-equal}
 use Rattle.linear_arithmetic.proofs.linear_arithmetic.la_generic.Statement.{statement}
 use Rattle.linear_arithmetic.proofs.linear_arithmetic.la_generic.Tie as tie
 

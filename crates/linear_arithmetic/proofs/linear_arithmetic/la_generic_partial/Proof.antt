@@ -8,8 +8,9 @@ use borrow.Author.Needs.{needs}
 use lib.ListN.{length}
 use Rattle.numbers.specs.Rational.{Rational}
 use Rattle.linear_arithmetic.proofs.FoldedAreas.{Given}
-use Rattle.linear_arithmetic.proofs.PartialFold.{PartSoFar, part-unread, part-begin, part-length, part-few}
-use Rattle.linear_arithmetic.proofs.PartialFold.{rest-folds, part-less, part-fits, Rested, part-clear, part-more}
+use Rattle.linear_arithmetic.proofs.PartialEnd.{part-unread}
+use Rattle.linear_arithmetic.proofs.PartialFold.{PartSoFar, part-begin, part-length, part-few, rest-folds}
+use Rattle.linear_arithmetic.proofs.PartialFold.{part-less, part-fits, Rested, part-clear, part-more}
 use Rattle.linear_arithmetic.proofs.PartialFold.{part-refused, part-done, part-again}
 use Rattle.linear_arithmetic.proofs.linear_arithmetic.la_generic_partial.Statement.{statement}
 use Rattle.linear_arithmetic.proofs.linear_arithmetic.la_generic_partial.Tie as tie
@@ -127,11 +128,9 @@ la-generic-partial-spec =
     (tie.spec
     Inv-loop
     μ-loop
-    (λ c κs. search needs)
-    (λ c. search needs)
+    (λ c κs. search needs) (λ c. search needs)
     returns
-    (λ c. search needs)
-    (λ c κs. search needs)
+    (λ c. search needs) (λ c κs. search needs)
     loop-holds
     rest-requires
     rest-requires-2

@@ -43,11 +43,8 @@ read-args-spec =
     μ-loop
     (λ c. read-begin _ _)
     number-in-requires
-    (λ c κs. search needs)
-    (λ c. search needs)
+    (λ c κs. search needs) (λ c. search needs)
     returns
-    (λ c. search needs)
-    (λ c. search needs)
-    (λ c. search needs)
+    (λ c. search needs) (λ c. search needs) (λ c. search needs)
     loop-again
     returns-2)

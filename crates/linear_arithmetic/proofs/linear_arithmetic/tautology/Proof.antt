@@ -50,14 +50,10 @@ tautology-spec =
     tie.close
     (tie.spec
     disequality-of-requires
-    (λ c. search needs)
-    (λ c. search needs)
-    (λ c κs. search needs)
-    (λ c. search needs)
+    (λ c. search needs) (λ c. search needs) (λ c κs. search needs) (λ c. search needs)
     returns
     clear-in-requires
-    (λ c κs. search needs)
-    (λ c. search needs)
+    (λ c κs. search needs) (λ c. search needs)
     returns-2
     (λ c. search needs)
     returns-3)

@@ -10,7 +10,7 @@ use Rattle.numbers.specs.Rational.{gcd, limit}
 use Rattle.linear_comb.proofs.CoefficientDivisors.{Dividing, dividing-none, dividing-more, next-divisor}
 use Rattle.linear_comb.proofs.CoefficientDivisors.{from-start, divided-one, divided-fraction, divided-low}
 use Rattle.linear_comb.proofs.CoefficientDivisors.{divided-high}
-use Rattle.rules.proofs.CheckedNumbers.{small-fits}
+use Rattle.index_map.proofs.CheckedNumbers.{small-fits}
 use Rattle.linear_comb.proofs.linear_comb.gcd_from.Statement.{statement}
 use Rattle.linear_comb.proofs.linear_comb.gcd_from.Tie as tie
 
@@ -79,14 +79,10 @@ gcd-from-spec =
     μ-loop
     loop-holds
     returns
-    (λ c κs. search needs)
-    (λ c κs. search needs)
-    (λ c κs. search needs)
-    (λ c κs. search needs)
+    (λ c κs. search needs) (λ c κs. search needs) (λ c κs. search needs) (λ c κs. search needs)
     (λ c κs. search needs)
     (λ c. small-fits (pos (c .gcd .result)) (next c .1))
-    (λ c. search needs)
-    (λ c. search needs)
+    (λ c. search needs) (λ c. search needs)
     loop-again
     returns-2
     returns-3

@@ -3,7 +3,7 @@
 use Prim.Native.Nat.{_-_}
 use mathlib.Core.Path.{refl}
 use borrow.Author.Needs.{needs}
-use Rattle.rules.specs.memory.Entries.{entriesOf}
+use Rattle.index_map.specs.memory.Entries.{entriesOf}
 use Rattle.linear_comb.proofs.EntryLoops.{Loop, begin, put, over}
 use Rattle.linear_comb.proofs.CombinationLoops.{Negates, negates-next, negates-all}
 use Rattle.linear_comb.proofs.linear_comb.neg.Statement.{statement}
@@ -38,12 +38,8 @@ neg-spec =
     Inv-loop
     μ-loop
     (λ c. begin (λ b. refl))
-    (λ c κs. search needs)
-    (λ c κs. search needs)
-    (λ c κs. search needs)
-    (λ c κs. search needs)
-    (λ c. search needs)
-    (λ c. search needs)
+    (λ c κs. search needs) (λ c κs. search needs) (λ c κs. search needs) (λ c κs. search needs)
+    (λ c. search needs) (λ c. search needs)
     loop-again
     (λ c κs. search needs)
     (λ c. c .before .before .loop .inv .size)

@@ -3,7 +3,7 @@
 use Prim.Native.Nat.{_-_}
 use mathlib.Core.Path.{sym, _∙_}
 use borrow.Author.Needs.{needs}
-use Rattle.rules.specs.memory.Entries.{entriesOf}
+use Rattle.index_map.specs.memory.Entries.{entriesOf}
 use Rattle.linear_comb.proofs.EntryLoops.{Loop, begin, at, put, over, cleared}
 use Rattle.linear_comb.proofs.CombinationLoops.{Scales, scales-first, scales-next, scales-out, scales-all}
 use Rattle.linear_comb.proofs.linear_comb.scale_all.Statement.{statement}
@@ -54,17 +54,11 @@ scale-all-spec =
     Inv-loop
     μ-loop
     (λ c. begin (λ b. scales-first _ _))
-    (λ c κs. search needs)
-    (λ c κs. search needs)
-    (λ c κs. search needs)
-    (λ c. search needs)
-    (λ c. search needs)
-    (λ c κs. search needs)
+    (λ c κs. search needs) (λ c κs. search needs) (λ c κs. search needs) (λ c. search needs)
+    (λ c. search needs) (λ c κs. search needs)
     same-length
     returns
-    (λ c κs. search needs)
-    (λ c. search needs)
-    (λ c. search needs)
+    (λ c κs. search needs) (λ c. search needs) (λ c. search needs)
     loop-again
     (λ c. c .before .loop .inv .size)
     (λ c b kept. scales-all _ _ (over (c .before .loop .inv) (c .loop-test .left) b kept)))

@@ -2,7 +2,7 @@
 use Prim.Native.Nat.{_%_}
 use native.Mathlib.Omega.{arith}
 use borrow.Author.Needs.{needs}
-use Rattle.linear_comb.specs.memory.LinearNodes.{wordBits, withNote}
+use Rattle.linear_comb.specs.memory.Notes.{wordBits, withNote}
 use Rattle.linear_comb.proofs.NotedAtoms.{one-bit}
 use Rattle.linear_comb.proofs.notes.note.Statement.{statement}
 use Rattle.linear_comb.proofs.notes.note.Tie as tie
@@ -15,9 +15,5 @@ pub note-spec : {M : Type 1} → statement M
 note-spec =
     tie.close
     (tie.spec
-    (λ c. search needs)
-    (λ c. search needs)
-    (λ c. search needs)
-    (λ c. search needs)
-    (λ c. search needs)
+    (λ c. search needs) (λ c. search needs) (λ c. search needs) (λ c. search needs) (λ c. search needs)
     returns)

@@ -26,11 +26,7 @@ paste-spec =
     Inv-loop
     μ-loop
     (λ c. copied-none)
-    (λ c. search needs)
-    (λ c. search needs)
-    (λ c. search needs)
-    (λ c. search needs)
-    (λ c. search needs)
+    (λ c. search needs) (λ c. search needs) (λ c. search needs) (λ c. search needs) (λ c. search needs)
     loop-again
     (λ c. c .before .loop .inv .size)
     (λ c. copied-all (c .before .loop .inv) (c .loop-test .left)))

@@ -20,8 +20,6 @@ read-u16-spec =
     (λ c κs. search needs)
     (λ c. search roomy)
     (λ c. search roomy)
-    (λ c κs. search needs)
-    (λ c. search needs)
-    (λ c. search needs)
+    (λ c κs. search needs) (λ c. search needs) (λ c. search needs)
     returns
     returns-2)

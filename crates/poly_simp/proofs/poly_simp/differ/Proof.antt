@@ -108,14 +108,10 @@ differ-spec =
     reduced-requires
     reduced-requires-2
     sub-requires
-    (λ c. search needs)
-    (λ c. search needs)
-    (λ c κs. search needs)
-    (λ c. search needs)
+    (λ c. search needs) (λ c. search needs) (λ c κs. search needs) (λ c. search needs)
     returns
     clear-at-requires
-    (λ c κs. search needs)
-    (λ c. search needs)
+    (λ c κs. search needs) (λ c. search needs)
     returns-2
     (λ c. search needs)
     returns-3

@@ -50,12 +50,10 @@ insert-turned-spec =
     μ-loop
     (λ c. turning-none (search needs))
     enter-turned-requires
-    (λ c. search needs)
-    (λ c. search needs)
+    (λ c. search needs) (λ c. search needs)
     same-length
     returns
-    (λ c. search needs)
-    (λ c. search needs)
+    (λ c. search needs) (λ c. search needs)
     loop-again
     (λ c. c .before .loop .inv .size)
     (λ c. turning-done (c .before .loop .inv) (c .loop-test .left)))

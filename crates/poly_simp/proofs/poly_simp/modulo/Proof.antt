@@ -45,14 +45,11 @@ pub modulo-spec : {M : Type 1} → statement M
 modulo-spec =
     tie.close
     (tie.spec
-    (λ c κs. search needs)
-    (λ c. search needs)
+    (λ c κs. search needs) (λ c. search needs)
     sub-whole-2
     (λ c. search needs)
     sub-whole-3
-    (λ c. search needs)
-    (λ c κs. search needs)
-    (λ c. search needs)
+    (λ c. search needs) (λ c κs. search needs) (λ c. search needs)
     cast-whole-2
     (λ c κs. search needs)
     returns

@@ -41,12 +41,9 @@ modulo-all-spec =
     (λ c. reducing-none)
     (λ c. search needs)
     copy-key-requires
-    (λ c κs. search needs)
-    (λ c. search needs)
-    (λ c κs. search needs)
+    (λ c κs. search needs) (λ c. search needs) (λ c κs. search needs)
     put-entry-requires
-    (λ c. search needs)
-    (λ c. search needs)
+    (λ c. search needs) (λ c. search needs)
     loop-again
     (λ c. c .before .loop .inv .size)
     (λ c. reducing-done (c .before .loop .inv) (c .loop-test .left)))

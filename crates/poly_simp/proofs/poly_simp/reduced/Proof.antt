@@ -37,14 +37,8 @@ reduced-spec =
     tie.close
     (tie.spec
     (λ c. reduced-same (search needs))
-    (λ c. search needs)
-    (λ c. search needs)
-    (λ c. search needs)
-    (λ c. search needs)
-    (λ c. search needs)
-    (λ c. search needs)
-    (λ c. search needs)
-    (λ c. search needs)
+    (λ c. search needs) (λ c. search needs) (λ c. search needs) (λ c. search needs) (λ c. search needs)
+    (λ c. search needs) (λ c. search needs) (λ c. search needs)
     modulo-all-requires
     modulo-requires
     (λ c. search needs)

@@ -2,7 +2,7 @@
 use Prim.Native.Nat.{_-_}
 use borrow.Author.Needs.{needs}
 use Rattle.polynomial.specs.memory.PolynomialArea.{polynomials}
-use Rattle.rules.proofs.EntryBytes.{Cleared, cleared-none, cleared-more, cleared-all}
+use Rattle.index_map.proofs.EntryBytes.{Cleared, cleared-none, cleared-more, cleared-all}
 use Rattle.polynomial.proofs.monomials.clear.Statement.{statement}
 use Rattle.polynomial.proofs.monomials.clear.Tie as tie
 
@@ -25,9 +25,7 @@ clear-spec =
     Inv-loop
     μ-loop
     (λ c. cleared-none)
-    (λ c κs. search needs)
-    (λ c. search needs)
-    (λ c. search needs)
+    (λ c κs. search needs) (λ c. search needs) (λ c. search needs)
     loop-again
     (λ c. search needs)
     (λ c. cleared-all (c .before .loop .inv) (c .loop-test .left)))

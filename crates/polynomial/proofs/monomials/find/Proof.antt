@@ -6,8 +6,8 @@ use native.Mathlib.Omega.{arith}
 use borrow.Author.Needs.{needs}
 use lib.ListN.{take, drop}
 use Rattle.numbers.specs.Bytes.{Bytes, sameBytes}
-use Rattle.rules.proofs.EntrySearch.{Searched, search-none, search-end, search-found, search-more}
-use Rattle.rules.proofs.KeySearch.{keys}
+use Rattle.index_map.proofs.EntrySearch.{Searched, search-none, search-end, search-found, search-more}
+use Rattle.index_map.proofs.KeySearch.{keys}
 use Rattle.polynomial.specs.memory.PolynomialArea.{polynomials}
 use Rattle.polynomial.proofs.monomials.find.Statement.{statement}
 use Rattle.polynomial.proofs.monomials.find.Tie as tie
@@ -43,14 +43,9 @@ find-spec =
     Inv-loop
     μ-loop
     (λ c. search-none _ _ _)
-    (λ c. search needs)
-    (λ c. search needs)
-    (λ c. search needs)
-    (λ c. search needs)
-    (λ c. search needs)
+    (λ c. search needs) (λ c. search needs) (λ c. search needs) (λ c. search needs) (λ c. search needs)
     (λ c κs. search needs)
     returns
-    (λ c. search needs)
-    (λ c. search needs)
+    (λ c. search needs) (λ c. search needs)
     loop-again
     (λ c. search-end _ _ _ (c .before .loop .inv) (c .loop-test .left)))

@@ -8,11 +8,6 @@ pub clear-at-spec : {M : Type 1} → statement M
 clear-at-spec =
     tie.close
     (tie.spec
-    (λ c. search needs)
-    (λ c. search needs)
-    (λ c. search needs)
-    (λ c. search needs)
-    (λ c. search needs)
-    (λ c κs. search needs)
-    (λ c. search needs)
+    (λ c. search needs) (λ c. search needs) (λ c. search needs) (λ c. search needs) (λ c. search needs)
+    (λ c κs. search needs) (λ c. search needs)
     (λ c b ms t among size. lent-clear t among size (c .before .before .clear .ensures)))

@@ -56,12 +56,10 @@ insert-scaled-spec =
     μ-loop
     (λ c. scaling-begin (c .before .pre .1 .1 .1))
     enter-scaled-requires
-    (λ c. search needs)
-    (λ c. search needs)
+    (λ c. search needs) (λ c. search needs)
     same-length
     returns
-    (λ c. search needs)
-    (λ c. search needs)
+    (λ c. search needs) (λ c. search needs)
     loop-again
     (λ c. c .before .loop .inv .size)
     (λ c. (c .before .loop .inv .few, scaling-done (c .before .loop .inv) (c .loop-test .left))))

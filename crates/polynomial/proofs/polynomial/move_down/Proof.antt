@@ -29,11 +29,7 @@ move-down-spec =
     μ-loop
     (λ c. search needs)
     (λ c. copied-none)
-    (λ c. search needs)
-    (λ c. search needs)
-    (λ c. search needs)
-    (λ c. search needs)
-    (λ c. search needs)
+    (λ c. search needs) (λ c. search needs) (λ c. search needs) (λ c. search needs) (λ c. search needs)
     loop-again
     (λ c. c .before .loop .inv .size)
     returns)

@@ -54,12 +54,10 @@ mul-each-spec =
     μ-loop
     (λ c. each-begin (c .before .before .pre .1 .1 .1 .1))
     enter-product-requires
-    (λ c. search needs)
-    (λ c. search needs)
+    (λ c. search needs) (λ c. search needs)
     same-length
     returns
-    (λ c. search needs)
-    (λ c. search needs)
+    (λ c. search needs) (λ c. search needs)
     loop-again
     (λ c. c .before .loop .inv .size)
     (λ c. (c .before .loop .inv .few, each-done (c .before .loop .inv) (c .loop-test .left))))

@@ -54,12 +54,10 @@ mul-left-spec =
     μ-loop
     (λ c. left-begin)
     mul-entry-requires
-    (λ c. search needs)
-    (λ c. search needs)
+    (λ c. search needs) (λ c. search needs)
     same-length
     returns
-    (λ c. search needs)
-    (λ c. search needs)
+    (λ c. search needs) (λ c. search needs)
     loop-again
     (λ c. c .before .loop .inv .size)
     (λ c. (c .before .loop .inv .few, left-done (c .before .loop .inv) (c .loop-test .left))))

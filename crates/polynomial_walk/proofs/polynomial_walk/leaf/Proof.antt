@@ -47,13 +47,9 @@ pub leaf-spec : {M : Type 1} → statement M
 leaf-spec =
     tie.close
     (tie.spec
-    (λ c κs. search needs)
-    (λ c. search needs)
+    (λ c κs. search needs) (λ c. search needs)
     constant-requires
-    (λ c. search needs)
-    (λ c. search needs)
-    (λ c κs. search needs)
-    (λ c. search needs)
+    (λ c. search needs) (λ c. search needs) (λ c κs. search needs) (λ c. search needs)
     cast-whole
     (λ c κs. search needs)
     constant-requires-2

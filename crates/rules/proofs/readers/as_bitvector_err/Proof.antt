@@ -14,8 +14,6 @@ pub as-bitvector-err-spec : {M : Type 1} → statement M
 as-bitvector-err-spec =
     tie.close
     (tie.spec
-    (λ c κs. search needs)
-    (λ c. search needs)
-    (λ c. search needs)
+    (λ c κs. search needs) (λ c. search needs) (λ c. search needs)
     returns
     returns-2)

@@ -1,5 +1,4 @@
 -- The counts are compared first. The loop's invariant is `Binding` of FormSteps, its measure how many parts are left.
-use mathlib.Core.Path.{_∙_}
 use Prim.Native.Nat.{_-_}
 use lib.ListN.{length}
 use borrow.Author.Needs.{needs}
@@ -47,15 +46,10 @@ bind-all-spec =
     μ-loop
     returns
     loop-holds
-    (λ c. search needs)
-    (λ c κs. search needs)
-    (λ c. search needs)
-    (λ c κs. search needs)
-    (λ c κs. search needs)
-    (λ c. search needs)
+    (λ c. search needs) (λ c κs. search needs) (λ c. search needs) (λ c κs. search needs)
+    (λ c κs. search needs) (λ c. search needs)
     returns-2
-    (λ c. search needs)
-    (λ c. search needs)
+    (λ c. search needs) (λ c. search needs)
     loop-again
     (λ c. search needs)
     (λ c. (search needs, binding-end _ _ _ _ _ (c .before .loop .inv) (search needs))))

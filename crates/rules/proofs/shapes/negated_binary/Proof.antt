@@ -16,9 +16,7 @@ pub negated-binary-spec : {M : Type 1} → statement M
 negated-binary-spec =
     tie.close
     (tie.spec
-    (λ c κs. search needs)
-    (λ c. search needs)
-    (λ c. search needs)
+    (λ c κs. search needs) (λ c. search needs) (λ c. search needs)
     returns
     (λ c κs. search needs)
     returns-2)

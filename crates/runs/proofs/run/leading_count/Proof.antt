@@ -27,10 +27,8 @@ leading-count-spec =
     Inv-loop
     μ-loop
     (λ c. counted-begin _ _)
-    (λ c. search needs)
-    (λ c. search needs)
+    (λ c. search needs) (λ c. search needs)
     returns
-    (λ c. search needs)
-    (λ c. search needs)
+    (λ c. search needs) (λ c. search needs)
     loop-again
     returns-2)

@@ -35,8 +35,6 @@ step-at-spec =
     (λ c κs. search needs)
     sub-step
     part-step-start
-    (λ c. search needs)
-    (λ c. search needs)
-    (λ c. search needs)
+    (λ c. search needs) (λ c. search needs) (λ c. search needs)
     loop-again
     returns)

@@ -15,8 +15,7 @@ pub as-fraction-spec : {M : Type 1} → statement M
 as-fraction-spec =
     tie.close
     (tie.spec
-    (λ c κs. search needs)
-    (λ c κs. search needs)
+    (λ c κs. search needs) (λ c κs. search needs)
     returns
     (λ c κs. search needs)
     (λ c. c .as-operation .ensures))

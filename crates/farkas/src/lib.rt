@@ -1,0 +1,2 @@
+// Layer 3: the elaboration of one step.
+pub mod farkas;

@@ -1,0 +1,15 @@
+pub mod Zeros
+pub mod KeyedMaps
+pub mod MapEnds
+pub mod MapKeys
+pub mod NumberBytes
+pub mod CheckedNumbers
+pub mod EntryBytes
+pub mod StoredBytes
+pub mod KeySearch
+pub mod EntrySearch
+pub mod HeldEntries
+pub mod FoundEntries
+pub mod NumberedKeys
+pub mod StoredEntries
+pub mod AreaEntry

@@ -1,0 +1,2 @@
+pub mod IndexMap
+pub mod memory

@@ -1,0 +1,2 @@
+-- steps of the rules in memory
+pub mod LinearShapeSteps

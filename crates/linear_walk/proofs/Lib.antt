@@ -1,0 +1,5 @@
+pub mod NodeAnswers
+pub mod NodeWalks
+pub mod Places
+pub mod WalkSteps
+pub mod ArgWalks

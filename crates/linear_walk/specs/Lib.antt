@@ -1,0 +1,2 @@
+pub mod LinearTerms
+pub mod memory

@@ -1,0 +1,4 @@
+pub mod Check
+pub mod Answers
+pub mod CheckEntry
+pub mod memory

@@ -1,0 +1,2 @@
+// Layer 3: a run is marked.
+pub mod check;

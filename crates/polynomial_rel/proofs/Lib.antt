@@ -1,0 +1,4 @@
+pub mod ExpectedAnswers
+pub mod ScaledPremises
+pub mod ScaledSides
+pub mod ScaledRelations

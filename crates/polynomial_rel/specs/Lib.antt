@@ -1,0 +1,2 @@
+pub mod PolySimpRel
+pub mod memory

@@ -1,0 +1,5 @@
+-- steps of the rules in memory
+pub mod LiteralArguments
+pub mod LiteralAreas
+pub mod LiteralSums
+pub mod ProcessedLiterals

@@ -1,0 +1,2 @@
+pub mod ProcessDisequality
+pub mod memory

@@ -1,0 +1,2 @@
+pub mod CheckStep
+pub mod memory

@@ -1,3 +1,0 @@
--- What lies in lent memory, in terms of the definitions that say what is right.
-pub mod RecordIndex
-pub mod Sorting

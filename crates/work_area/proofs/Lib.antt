@@ -1,0 +1,4 @@
+-- the areas of the work area
+pub mod InsertLoops
+pub mod AreaSums
+pub mod IntAtoms
