@@ -7,6 +7,7 @@
 - The modules of READING.md's order have the lines that it says, and so have its sittings; its table of memory modules has every one;
   a definition that a table gives with its module is there.
 - docs/ARCHITECTURE.md names every crate of crates.txt in its table of layers.
+- A crate's line in crates.txt names the crates of this repository that its files name, and no other.
 - Source files have at most 400 lines; lines of src and specs at most 120 characters.
 
 Says what is wrong, a line each, and ends with status 1 if something is. Needs Python alone, and writes nothing.
@@ -113,6 +114,28 @@ def layers():
             yield "docs/ARCHITECTURE.md: its table of layers does not name %s" % crate
 
 
+def sources(crate):
+    for part in ("src", "specs", "proofs"):
+        for folder, _, names in os.walk(os.path.join(ROOT, "crates", crate, part)):
+            for name in names:
+                yield text(os.path.relpath(os.path.join(folder, name), ROOT))
+
+
+def dependencies():
+    """A name too many in crates.txt is a level more, on which a crate waits."""
+    known = crates()
+    for line in text("crates.txt").splitlines():
+        found = re.match(r"(\w+):(.*)", line)
+        if not found:
+            continue
+        crate, said = found.group(1), {name for name in found.group(2).split() if name in known}
+        whole = "\n".join(sources(crate))
+        named = set(re.findall(r"Rattle·(\w+?)[.·]", whole)) | set(re.findall(r"^(?:pub )?use (\w+)::", whole, re.M))
+        named = (named & set(known)) - {crate}
+        for name in sorted(said ^ named):
+            yield "crates.txt: %s %s %s" % (crate, "need not name" if name in said else "does not name", name)
+
+
 def measures():
     for crate in crates():
         for part in ("src", "specs"):
@@ -128,7 +151,7 @@ def measures():
 
 
 def main():
-    wrong = [fault for part in (paths, reading, memory, definitions, layers, measures) for fault in part()]
+    wrong = [fault for part in (paths, reading, memory, definitions, layers, dependencies, measures) for fault in part()]
     for fault in wrong:
         print(fault)
     print("check_documents.py: %d faults" % len(wrong))
