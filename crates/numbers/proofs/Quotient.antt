@@ -8,7 +8,6 @@
 use mathlib.Core.Path.{◌≡◌, refl, sym, ◌∙◌, ap}
 use mathlib.Core.Bool.{Bool, Bool-set}
 use mathlib.Core.List.{[], ◌∷◌}
-use mathlib.Core.Quot
 use mathlib.Core.Quot.{Quot, sound, lift, Quot-set}
 use lib.IntN.{ℤ}
 use Rattle.numbers.proofs.Truths.{same_test}

@@ -1,0 +1,11 @@
+-- The loop's invariant is `Copied` of CopiedBytes; the measure is how many bytes are left.
+use Prim.Native.Nat.{◌-◌}
+use lib.ListN.{length}
+use Rattle.numbers.proofs.CopiedBytes.{Copied}
+use Rattle.numbers.proofs.bytes.paste.Given as goal
+
+abbrev pub invariant-loop-k : goal.invariant-loop-k
+invariant-loop-k l = Copied (length l.part) l.initial.area l.at l.part l.area l.k
+
+abbrev pub decreases-loop-k : goal.decreases-loop-k
+decreases-loop-k l = length l.part - l.k

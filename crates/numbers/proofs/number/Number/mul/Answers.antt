@@ -1,0 +1,21 @@
+-- A product of two parts is below 2 ^ 62, so the machine has the exact products, and `reduced` answers for them.
+use mathlib.Core.Path.{ap₂}
+use Rattle.numbers.specs.Rational.{lowest, mul_q}
+use Rattle.numbers.proofs.Machine.{fits, back}
+use Rattle.numbers.proofs.Ranges.{nums, dens, positive-dens, gives_same}
+use Rattle.numbers.proofs.number.Number.mul.Goals as goal
+
+pub returns : goal.returns
+unfolding mul_q
+returns c =
+    let h = c.requires in
+    gives_same (ap₂ lowest (back (nums h) tt) (back (dens h) tt)) c.reduced.ensures
+
+pub overflow_mul-an : goal.overflow_mul-an
+overflow_mul-an c = fits (nums c.requires) tt
+
+pub overflow_mul-ad : goal.overflow_mul-ad
+overflow_mul-ad c = fits (dens c.requires) tt
+
+pub reduced-requires : goal.reduced-requires
+reduced-requires c = positive-dens c.requires

@@ -1,0 +1,27 @@
+use mathlib.Core.Path.{refl, sym, ◌∙◌, ap}
+use Prim.Native.Nat.{◌<◌}
+use native.Mathlib.Nat.{mod-lt}
+use native.Mathlib.Omega.{arith}
+use Rattle.numbers.specs.Rational.{gcd}
+use Rattle.numbers.proofs.Divisors.{gcd-zero, gcd-step}
+use Rattle.numbers.proofs.number.gcd.Goals as goal
+
+nonzero : (c : goal.Else-y-eq0) → 0 < c.loop-y.y
+nonzero c = omega arith
+
+pub loop-y-preserved : goal.loop-y-preserved
+loop-y-preserved c = sym (gcd-step c.loop-y.x c.loop-y.y (nonzero c)) ∙ c.loop-y.invariant
+
+pub returns : goal.returns
+returns c =
+    let l = c.loop-y in
+    sym (gcd-zero l.x) ∙ ap (gcd l.x) (sym c.if-y-eq0.true) ∙ l.invariant
+
+pub loop-y-init : goal.loop-y-init
+loop-y-init c = refl
+
+pub nonzero_rem-rest : goal.nonzero_rem-rest
+nonzero_rem-rest c = nonzero c
+
+pub loop-y-smaller : goal.loop-y-smaller
+loop-y-smaller c = mod-lt c.loop-y.x (nonzero c)
