@@ -14,7 +14,7 @@ use numbers::bytes::{clear_from, paste, room, same_bytes};
 use steps::check_step::ACCEPTED;
 use terms::refusal::{NO_ROOM, WORK_AREA_OR_LIMIT};
 
-#[derive(Drop)]
+#[derive(Clone, Copy)]
 pub struct Twice {
     // The answer to the elaboration.
     pub first: Elaborated,

@@ -16,7 +16,7 @@ use terms::operator::{
 use terms::records::arg_bytes;
 
 // The sort of a record.
-#[derive(Drop)]
+#[derive(Clone, Copy)]
 pub enum Sorting {
     Of(u8),
     // Refusal 4.
@@ -24,7 +24,7 @@ pub enum Sorting {
 }
 
 // What the sorts of an operation's arguments have in common.
-#[derive(Drop)]
+#[derive(Clone, Copy)]
 pub struct ArgSorts {
     pub first: u8,
     // All are the first one.

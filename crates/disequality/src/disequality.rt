@@ -35,14 +35,14 @@ use work_area::work_area::{LEFT, RIGHT, clear_in, neg_in, sub};
 // ---- negate_disequality
 
 // An operator, and the record whose arguments it stands between.
-#[derive(Drop)]
+#[derive(Clone, Copy)]
 pub enum Operation {
     Of(u8, usize),
     NoRelation,
 }
 
 // The relation that a literal's negation is, and the records of its two sides.
-#[derive(Drop)]
+#[derive(Clone, Copy)]
 pub enum Relation {
     Is(u8, usize, usize),
     // Document 01's number of the refusal.
@@ -60,7 +60,7 @@ fn relation_refusal(r: Relation) -> u8
 }
 
 // The operator, the two sides, and the visits made so far.
-#[derive(Drop)]
+#[derive(Clone, Copy)]
 pub enum Sides {
     Both(u8, LinearComb, LinearComb, u32),
     // Document 01's number of the refusal.
@@ -179,14 +179,14 @@ fn negate_disequality(book: &[u8], work: &mut [u8], phi: usize, visits: u32, lim
 // ---- steps 1 to 3
 
 // An operator and a combination, whose constant stands on the right; and the visits made so far.
-#[derive(Drop)]
+#[derive(Clone, Copy)]
 pub struct Disequality {
     pub operator: u8,
     pub sum: LinearComb,
     pub visits: u32,
 }
 
-#[derive(Drop)]
+#[derive(Clone, Copy)]
 pub enum Literal {
     Is(Disequality),
     // Document 01's number of the refusal.
@@ -297,7 +297,7 @@ pub fn disequality_of(book: &[u8], work: &mut [u8], phi: usize, visits: u32, lim
 
 // ---- strengthen
 
-#[derive(Drop)]
+#[derive(Clone, Copy)]
 pub enum Strengthened {
     Is(u8, LinearComb),
     // Refusal 11.

@@ -22,7 +22,7 @@ use terms::format::RUN_RECORD_BYTES;
 use terms::refusal::NO_ROOM;
 
 // A marking under way, and what of its elaboration is written.
-#[derive(Drop)]
+#[derive(Clone, Copy)]
 pub(crate) struct Elaborating {
     pub state: State,
     pub out: Out,
@@ -30,7 +30,7 @@ pub(crate) struct Elaborating {
 
 // The answer: document 01's number of the refusal, or 0; how many steps were accepted; their visits; the bytes written
 // to each out area.
-#[derive(Drop)]
+#[derive(Clone, Copy)]
 pub struct Elaborated {
     pub verdict: u8,
     pub steps: usize,

@@ -30,7 +30,7 @@ use terms::format::BYTE_AT;
 use terms::operator::EQUALS;
 
 // What checking a step and writing it answers.
-#[derive(Drop)]
+#[derive(Clone, Copy)]
 pub enum Stepped {
     // With the visits made so far, and with what is written.
     Accepted(u32, Out),

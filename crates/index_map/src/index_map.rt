@@ -23,14 +23,14 @@ const TWO_ENTRIES: usize = 20;
 const FOUR_ENTRIES: usize = 40;
 
 // How many entries there are after an insertion.
-#[derive(Drop)]
+#[derive(Clone, Copy)]
 pub enum Inserted {
     Length(usize),
     // Refusal 11.
     OutOfRange,
 }
 
-#[derive(Drop)]
+#[derive(Clone, Copy)]
 pub enum Coefficient {
     Of(Number),
     Missing,

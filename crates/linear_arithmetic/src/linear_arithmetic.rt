@@ -71,7 +71,7 @@ fn argument_at(book: &[u8], args: &[u8], k: usize) -> Coefficient
 }
 
 // How far the fold over the literals came.
-#[derive(Drop)]
+#[derive(Clone, Copy)]
 pub enum Folded {
     Done(Progress),
     // An argument was inferred; so many literals are done.

@@ -13,7 +13,7 @@ ghost use Rattle.linear_comb.specs.Memory.WorkArea.{SumFits, SumScales};
 use index_map::index_map::{Inserted, clear, key_at, put_entry, value_at};
 use numbers::number::{Checked, Number, gcd, magnitude};
 
-#[derive(Drop)]
+#[derive(Clone, Copy)]
 pub struct LinearComb {
     // The number of entries.
     pub len: usize,
@@ -21,7 +21,7 @@ pub struct LinearComb {
 }
 
 // The answer of an operation that can leave the range of numbers.
-#[derive(Drop)]
+#[derive(Clone, Copy)]
 pub enum Combined {
     Is(LinearComb),
     // Refusal 11.

@@ -23,7 +23,7 @@ use terms::refusal::NUMBER_RANGE;
 use terms::term::args;
 
 // What a walk has filled and the visits made so far.
-#[derive(Drop)]
+#[derive(Clone, Copy)]
 pub enum Walk {
     Done(LinearComb, u32),
     // Document 01's number of the refusal.
@@ -82,7 +82,7 @@ fn add_entry(
 }
 
 // What the walk of a term leaves that has no arguments to walk, as in `Walk`.
-#[derive(Drop)]
+#[derive(Clone, Copy)]
 pub(crate) enum Flat {
     Done(LinearComb, u32),
     Refused(u8),

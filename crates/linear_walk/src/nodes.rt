@@ -14,7 +14,7 @@ use terms::term::{Reading, Two, args, as_fraction, as_number, binary, operator};
 
 // ---- what a walk does at a term
 
-#[derive(Drop)]
+#[derive(Clone, Copy)]
 pub(crate) enum Node {
     // Walks the arguments, the first with the first coefficient and all others with the second.
     Args(Number, Number),
@@ -110,7 +110,7 @@ fn look(book: &[u8], id: usize, coeff: Number) -> Node
 
 // ---- where a term leads: each record on the way is a product of a number and the next one
 
-#[derive(Drop)]
+#[derive(Clone, Copy)]
 pub(crate) enum Place {
     // To the arguments of a record, with coefficients as in `Node`; and the visits made so far, as below.
     Args(usize, Number, Number, u32),

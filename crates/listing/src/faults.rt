@@ -37,7 +37,7 @@ const NOT_BOOL: u8 = 7;
 // An assume that is not an S and one C.
 const ASSUME_SHAPE: u8 = 8;
 
-#[derive(Drop)]
+#[derive(Clone, Copy)]
 pub struct Found {
     pub fault: u8,
     // The number of the record at fault.
@@ -129,7 +129,7 @@ fn part_fault(r: &[u8], sorts: &[u8], terms: usize, steps: usize) -> u8 {
 const ASSUME_RECORDS: usize = 2;
 
 // The step that is being read.
-#[derive(Drop)]
+#[derive(Clone, Copy)]
 struct Step {
     // How many steps there are with it.
     steps: usize,

@@ -36,7 +36,7 @@ fn book_space() -> [u8; BOOK_SPACE]
 }
 
 // What is done with a book and a run.
-#[derive(Drop)]
+#[derive(Clone, Copy)]
 enum Task {
     Mark,
     List,

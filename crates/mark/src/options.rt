@@ -23,7 +23,7 @@ pub(crate) const OUT_RUN: usize = 5;
 pub(crate) const OUT_TAIL: usize = 6;
 
 // What an argument is.
-#[derive(Drop)]
+#[derive(Clone, Copy)]
 pub(crate) enum Word {
     // A path or a number.
     Plain,

@@ -24,7 +24,7 @@ use terms::reading::{BookRead, book_number};
 use terms::refusal::WORK_AREA_OR_LIMIT;
 
 // The answer: document 01's number of the refusal, or 0; how many steps were accepted; their visits.
-#[derive(Drop)]
+#[derive(Clone, Copy)]
 pub struct Marked {
     pub verdict: u8,
     pub steps: usize,
@@ -33,7 +33,7 @@ pub struct Marked {
 
 // A marking under way: the byte at which the next step begins, the accepted steps, the visits; the verdict once it has
 // ended.
-#[derive(Drop)]
+#[derive(Clone, Copy)]
 pub struct State {
     pub at: usize,
     pub steps: usize,
@@ -43,7 +43,7 @@ pub struct State {
 }
 
 // What comes before the first step.
-#[derive(Drop)]
+#[derive(Clone, Copy)]
 pub enum Opened {
     // Book and run are read, and the work area is ready for the first step.
     Ready,

@@ -8,14 +8,14 @@ ghost use Rattle.numbers.specs.Bytes.{number_at, put_number};
 
 use crate::bytes::{complement, read_u32, room, signed, write_u32};
 
-#[derive(Drop)]
+#[derive(Clone, Copy)]
 pub struct Number {
     pub num: i64,
     pub den: i64,
 }
 
 // The answer of an operation that can leave the range.
-#[derive(Drop)]
+#[derive(Clone, Copy)]
 pub enum Checked {
     Value(Number),
     // Refusal 11.

@@ -18,7 +18,7 @@ use terms::format::{ARGUMENT, BYTE_AT, MAX_RUN_BYTES, RECORD_BYTES, RUN_RECORD_B
 use terms::records::count;
 
 // The bytes written to each out area so far; whether they no longer take what is to be written.
-#[derive(Drop)]
+#[derive(Clone, Copy)]
 pub struct Out {
     pub run: usize,
     pub tail: usize,

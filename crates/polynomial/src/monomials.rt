@@ -21,7 +21,7 @@ use terms::areas::{MAX_MONOMIALS, MONOMIAL_BYTES, PLACE_BYTES};
 use terms::refusal::{NUMBER_RANGE, POLYNOMIAL_SIZE};
 
 // How many entries there are after an entry.
-#[derive(Drop)]
+#[derive(Clone, Copy)]
 pub enum Inserted {
     Length(usize),
     // Refusal 11 or 12.

@@ -20,14 +20,14 @@ use numbers::number::{Checked, Number};
 use terms::areas::{MAX_ATOMS, MONOMIAL_BYTES, POLYNOMIAL_BYTES};
 use terms::refusal::{NUMBER_RANGE, POLYNOMIAL_SIZE};
 
-#[derive(Drop)]
+#[derive(Clone, Copy)]
 pub struct Polynomial {
     // The number of entries.
     pub len: usize,
     pub constant: Number,
 }
 
-#[derive(Drop)]
+#[derive(Clone, Copy)]
 pub enum Combined {
     Is(Polynomial),
     // Refusal 11 or 12.
@@ -35,7 +35,7 @@ pub enum Combined {
 }
 
 // What a walk has filled and the visits made so far.
-#[derive(Drop)]
+#[derive(Clone, Copy)]
 pub enum Walk {
     Done(Polynomial, u32),
     // Refusal 10, 11 or 12.

@@ -34,7 +34,7 @@ use terms::refusal::{
 use terms::term::{Only, Two, binary, unary};
 
 // The records in c1 (x1 - x2) = c2 (y1 - y2).
-#[derive(Drop)]
+#[derive(Clone, Copy)]
 pub(crate) struct Scaled {
     pub c1: usize,
     pub x1: usize,
@@ -45,14 +45,14 @@ pub(crate) struct Scaled {
 }
 
 // What a premise is, if it has that form.
-#[derive(Drop)]
+#[derive(Clone, Copy)]
 pub(crate) enum Premise {
     Is(Scaled),
     NotScaled,
 }
 
 // Whether two coefficients that are not 0 have one sign.
-#[derive(Drop)]
+#[derive(Clone, Copy)]
 pub(crate) enum Signs {
     Same(bool),
     // Document 01's number of the refusal.

@@ -25,7 +25,7 @@ use terms::refusal::{NUMBER_RANGE, POLYNOMIAL_SIZE, VISIT_LIMIT};
 use terms::term::{BitVector, Reading, args, as_bitvector, as_fraction, operator};
 
 // What a walk does at a term.
-#[derive(Drop)]
+#[derive(Clone, Copy)]
 pub enum Node {
     // Walks the arguments, the first with the first coefficient and all others with the second.
     Args(Number, Number),

@@ -34,7 +34,7 @@ use work_area::work_area::{ACCUMULATED, LEFT, add, all_int, area, clear_in, mul_
 // Some book keeps the areas that are read (`(b : Bytes) × ..`), so that the numbers in them are in range; what is
 // promised is promised for each such book.
 
-#[derive(Drop)]
+#[derive(Clone, Copy)]
 pub(crate) enum Inference {
     Of(Number),
     // Document 01's number of the refusal.
@@ -52,7 +52,7 @@ fn inference_refusal(i: Inference) -> u8
 }
 
 // An argument, and the same where it was inferred.
-#[derive(Drop)]
+#[derive(Clone, Copy)]
 pub(crate) enum Argued {
     Is(Number, Coefficient),
     // Document 01's number of the refusal.
@@ -120,14 +120,14 @@ fn argument_of(work: &[u8], n: usize, m: usize, arg: Coefficient) -> Argued
 
 // What the fold over the literals carries: the operator, the sum so far, whose entries are in `ACCUMULATED`, and the
 // visits made.
-#[derive(Drop)]
+#[derive(Clone, Copy)]
 pub struct Progress {
     pub operator: u8,
     pub acc: LinearComb,
     pub visits: u32,
 }
 
-#[derive(Drop)]
+#[derive(Clone, Copy)]
 pub enum Processed {
     // With the argument where it was inferred.
     Accumulated(Progress, Coefficient),

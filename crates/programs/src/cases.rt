@@ -4,7 +4,7 @@ ghost use Rattle.std.specs.Prelude.{◌<◌};
 use crate::printing::{print, print_number};
 use numbers::bytes::{byte, wide};
 
-#[derive(Drop)]
+#[derive(Clone, Copy)]
 pub enum Outcome {
     Agrees,
     Differs,

@@ -16,7 +16,7 @@ use terms::refusal::{
 use terms::term::{BitVector, Reading, as_bitvector, as_fraction, as_signed_number, operator};
 
 // A number where one is expected.
-#[derive(Drop)]
+#[derive(Clone, Copy)]
 pub enum Expected {
     Value(Number),
     // Document 01's number of the refusal.
@@ -24,7 +24,7 @@ pub enum Expected {
 }
 
 // The value and width of a bit-vector where one is expected.
-#[derive(Drop)]
+#[derive(Clone, Copy)]
 pub enum ExpectedBits {
     Bits(u64, u64),
     // Document 01's number of the refusal.
@@ -32,7 +32,7 @@ pub enum ExpectedBits {
 }
 
 // The operator of an operation where one is expected.
-#[derive(Drop)]
+#[derive(Clone, Copy)]
 pub enum ExpectedOperator {
     Is(u8),
     // Document 01's number of the refusal.

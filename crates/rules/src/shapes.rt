@@ -19,7 +19,7 @@ use terms::refusal::{EXPECTED_EQUAL, TERM_OF_WRONG_FORM, WRONG_LENGTH_OF_CLAUSE}
 use terms::term::{Only, Two, args, binary, operator, remove_negation};
 
 // The records of s1, d1, s2 and d2, if both parts of a clause bound a term.
-#[derive(Drop)]
+#[derive(Clone, Copy)]
 pub enum Bounds {
     Are(usize, usize, usize, usize),
     NotBoth,

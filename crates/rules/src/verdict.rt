@@ -3,7 +3,7 @@ ghost use Rattle.std.specs.Prelude.{◌≡◌, ℕ};
 ghost use Rattle.rules.specs.Refusal.{Result};
 ghost use Rattle.rules.specs.Memory.Parts.{after, asserted_of, verdict_of};
 
-#[derive(Drop)]
+#[derive(Clone, Copy)]
 pub enum Verdict {
     // With the visits made so far.
     Accepted(u32),
@@ -12,7 +12,7 @@ pub enum Verdict {
 }
 
 // An assertion of a rule: the Rust's `Result<(), CheckerError>`.
-#[derive(Drop)]
+#[derive(Clone, Copy)]
 pub enum Asserted {
     Holds,
     // Document 01's number of the refusal.

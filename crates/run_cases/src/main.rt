@@ -14,7 +14,7 @@ use run::{Case, area, is_same};
 const HEAD: usize = 48;
 
 // Where the pieces of a case end: book, run, out run and out tail, one behind the other.
-#[derive(Drop)]
+#[derive(Clone, Copy)]
 struct Ends {
     book: usize,
     run: usize,

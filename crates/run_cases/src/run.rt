@@ -19,7 +19,7 @@ const JOINED: usize = 65536;
 
 // What the file says of a run: the limit and the lengths of the lent areas; the answer; whether its second marking
 // agrees.
-#[derive(Drop)]
+#[derive(Clone, Copy)]
 pub(crate) struct Case {
     pub limit: u32,
     pub work: usize,

@@ -24,7 +24,7 @@ use terms::refusal::{RUN_RECORD, RUN_SIZE};
 
 // Where the parts of a step end, in bytes from its start: its premises, its clause, and its arguments, which end where
 // the step does.
-#[derive(Drop)]
+#[derive(Clone, Copy)]
 pub struct StepParts {
     pub premises: usize,
     pub clause: usize,
@@ -32,7 +32,7 @@ pub struct StepParts {
 }
 
 // What reading a run finds.
-#[derive(Drop)]
+#[derive(Clone, Copy)]
 pub enum RunRead {
     // Its steps.
     Steps,

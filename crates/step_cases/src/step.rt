@@ -24,7 +24,7 @@ const LIMIT: u32 = 1000000;
 const MOST_LITERALS: usize = 16384;
 
 // What the file says of a step.
-#[derive(Drop)]
+#[derive(Clone, Copy)]
 pub(crate) struct Head {
     pub rule: u8,
     pub verdict: u8,

@@ -22,7 +22,7 @@ use runs::run::{StepParts, args, clause, parts, premises, step_at};
 use terms::format::{BYTE_AT, NUMBER_AT, RUN_RECORD_BYTES};
 
 // The visits made so far, and the limit that they stand under: a rule is handed both.
-#[derive(Drop)]
+#[derive(Clone, Copy)]
 pub struct Counter {
     pub visits: u32,
     pub limit: u32,

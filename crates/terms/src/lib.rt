@@ -1,4 +1,6 @@
 // Layer 1: terms, as records of a book: the codes, a record's bytes and fields, and the readers of terms.
+#![tactic(auto)]
+
 pub mod areas;
 pub mod fields;
 pub mod format;

@@ -5,7 +5,7 @@ ghost use Rattle.terms.specs.Book.{book_number};
 use crate::refusal::{BOOK_SIZE, RECORD_LAYOUT, RECORD_REPEATED, SORT_BROKEN};
 
 // What is wrong with a book: document 01's refusals 2 to 5, in order.
-#[derive(Drop)]
+#[derive(Clone, Copy)]
 pub enum BookRefusal {
     // Not whole records, or more than 2,048.
     BookSize,
@@ -18,7 +18,7 @@ pub enum BookRefusal {
 }
 
 // What reading a book finds.
-#[derive(Drop)]
+#[derive(Clone, Copy)]
 pub enum BookRead {
     // A book of so many records.
     Records(usize),
@@ -27,7 +27,7 @@ pub enum BookRead {
 }
 
 // What reading a record finds.
-#[derive(Drop)]
+#[derive(Clone, Copy)]
 pub enum RecordRead {
     // Its sort, as one number.
     Sorted(u8),

@@ -15,7 +15,7 @@ use numbers::bytes::{byte, read_u64, signed_u64};
 use numbers::number::{Checked, Number};
 
 // What a reader finds in a term.
-#[derive(Drop)]
+#[derive(Clone, Copy)]
 pub enum Reading {
     Value(Number),
     // Refusal 25, where a number is asked for.
@@ -24,7 +24,7 @@ pub enum Reading {
     OutOfRange,
 }
 
-#[derive(Drop)]
+#[derive(Clone, Copy)]
 pub enum BitVector {
     // Value and width.
     Bits(u64, u64),
@@ -33,14 +33,14 @@ pub enum BitVector {
 }
 
 // The record of the one argument of an operation, if it is such an operation.
-#[derive(Drop)]
+#[derive(Clone, Copy)]
 pub enum Only {
     Of(usize),
     NotOne,
 }
 
 // The records of its two arguments.
-#[derive(Drop)]
+#[derive(Clone, Copy)]
 pub enum Two {
     Both(usize, usize),
     NotTwo,

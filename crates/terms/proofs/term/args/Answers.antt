@@ -3,16 +3,12 @@ use mathlib.Core.Path.{sym, ◌∙◌, ap}
 use borrow.Author.Rules.{rules}
 use Rattle.terms.specs.Book.{arg_bytes}
 use Rattle.terms.proofs.RecordReadings.{arguments_of_record}
-use Rattle.terms.proofs.term.args.Statement.{statement}
-use Rattle.terms.proofs.term.args.Tie as tie
+use Rattle.terms.proofs.term.args.Goals as goal
 
-returns : tie.Need-returns
+pub returns : goal.returns
 returns c =
-    let record_is = c.before.«record».ensures in
+    let record_is = c.record.ensures in
     record {
       is = c.arg_bytes.ensures ∙ ap arg_bytes record_is;
       terms = rw c.arg_bytes.ensures (sym (arguments_of_record _ _ record_is));
     }
-
-pub args-spec : {M : Type 1} → statement M
-args-spec = tie.close (tie.spec (λ c κs. search rules) (λ c κs. search rules) returns)

@@ -15,23 +15,25 @@ use Rattle.numbers.proofs.Machine.{R}
 use Rattle.terms.proofs.RecordReadings.{denominator, denominator-integer, denominator-rational}
 use Rattle.terms.proofs.RecordReadings.{denominator-other, node_is, no_number_of}
 use Rattle.terms.proofs.Findings.{finds, constant-found, no_constant}
-use Rattle.terms.proofs.term.constant.Statement.{statement}
+use Rattle.terms.proofs.term.constant.Goals as goal
+use Rattle.terms.proofs.term.constant.Lts as lts
+use Rattle.terms.proofs.term.constant.Reads as reads
 use Rattle.terms.proofs.term.constant.Tie as tie
 
-abbrev bytes : tie.After-signed-u64 → Bytes
-bytes c = c.before.before.before.before.before.args.r.now
+abbrev bytes : (lts.After-signed_u64 tie.the-claims reads.Pre reads.Post) → Bytes
+bytes c = c.args.r.now
 
 -- a field as the machine has it
 field_back : {x : ℤ} {v : ℕ} (r : Bytes) (k : ℕ) → SFits w64 x → x ≡ signed 8 v → v ≡ le 8 r k → R x ≡ signed 8 (le 8 r k)
 field_back r k f x-is v-is = to_z-of_z f ∙ x-is ∙ ap (signed 8) v-is
 
-numerator-read : (c : tie.After-signed-u64) → R c.signed_u64.result ≡ signed 8 (field1 (bytes c))
-numerator-read c = field_back (bytes c) 4 (search rules) c.signed_u64.ensures c.before.read_u64.ensures
+numerator_read : (c : (lts.After-signed_u64 tie.the-claims reads.Pre reads.Post)) → R c.signed_u64-n.result ≡ signed 8 (field1 (bytes c))
+numerator_read c = field_back (bytes c) 4 (search rules) c.signed_u64-n.ensures c.read_u64.ensures
 
-denominator-read : (c : tie.At-match-branch) → to_z w64 c.match.d ≡ denominator (bytes c.before)
-denominator-read c =
+denominator_read : (c : (lts.At-match-branch tie.the-claims reads.Pre reads.Post)) → to_z w64 c.in-1.d ≡ denominator (bytes c.before)
+denominator_read c =
     let r = bytes c.before in
-    let is = c.before.before.before.before.byte.ensures in
+    let is = c.byte-k.ensures in
     ⊎_elim
     (λ o. ap (to_z w64) o.1 ∙ sym (denominator-integer r (sym is ∙ o.0.keys1)))
     (⊎_elim
@@ -41,32 +43,21 @@ denominator-read c =
     (λ o.
     ap (to_z w64) o.1
     ∙ sym (denominator-other r (λ k. o.0.rest.0.1 (is ∙ k)) (λ k. o.0.rest.1 (is ∙ k)))))
-    c.match.branch
+    c.in-1.branch
 
-returns : tie.Need-returns
-returns c =
-    let is = sym c.before.byte.ensures ∙ c.if1.true in
+pub returns-then-k-eq-ATOM : goal.returns-then-k-eq-ATOM
+returns-then-k-eq-ATOM c =
+    let is = sym c.byte-k.ensures ∙ c.if-k-eq-ATOM.true in
     finds tt (no_number_of _ (node_is 0 _ nil) (λ k. omega (arith, is, k)) (λ k. omega (arith, is, k)))
 
-returns-2 : tie.Need-returns-2
-returns-2 c =
-    let tested = c.before in
-    constant-found _ (numerator-read tested.before.before) (denominator-read tested.before)
-    (sym tested.is_number.ensures ∙ c.if2.true)
+pub returns-then-is_number : goal.returns-then-is_number
+returns-then-is_number c =
+    let tested = c in
+    constant-found _ (numerator_read tested.before.before) (denominator_read tested.before)
+    (sym tested.is_number.ensures ∙ c.if-is_number.true)
 
-returns-3 : tie.Need-returns-3
-returns-3 c =
-    let tested = c.before in
-    no_constant _ (numerator-read tested.before.before) (denominator-read tested.before)
-    (sym tested.is_number.ensures ∙ c.if2.false)
-
-pub constant-spec : {M : Type 1} → statement M
-constant-spec =
-    tie.close
-    (tie.spec
-    (λ c κs. search rules)
-    returns
-    (λ c κs. search rules) (λ c κs. search rules) (λ c κs. search rules) (λ c κs. search rules)
-    (λ c κs. search rules)
-    returns-2
-    returns-3)
+pub returns : goal.returns
+returns c =
+    let tested = c in
+    no_constant _ (numerator_read tested.before.before) (denominator_read tested.before)
+    (sym tested.is_number.ensures ∙ c.if-is_number.false)

@@ -1,0 +1,25 @@
+-- As `unary`, for two arguments.
+use borrow.Author.Rules.{rules}
+use Rattle.terms.proofs.Children.{children-found, other_than_children, no_operation-children}
+use Rattle.terms.proofs.term.binary.Goals as goal
+
+pub returns-then-args-eq2 : goal.returns-then-args-eq2
+returns-then-args-eq2 c =
+    let args = c in
+    let kinds = args in
+    children-found _ _ _ kinds.record-r.ensures (search rules) (search rules) args.arg_bytes-args.ensures
+    (search rules) c.argument.ensures c.argument-then-args-eq2.ensures
+
+pub returns-else-args-eq2 : goal.returns-else-args-eq2
+returns-else-args-eq2 c =
+    let args = c in
+    let kinds = args in
+    other_than_children _ _ _ kinds.record-r.ensures (search rules) (search rules)
+    args.arg_bytes-args.ensures (search rules)
+
+pub returns-else-byte-o : goal.returns-else-byte-o
+returns-else-byte-o c =
+    no_operation-children _ _ _ c.record-r.ensures (λ k o. search rules)
+
+pub returns-else-byte-eq-OPERATION : goal.returns-else-byte-eq-OPERATION
+returns-else-byte-eq-OPERATION c = no_operation-children _ _ _ c.record-r.ensures (λ k o. search rules)

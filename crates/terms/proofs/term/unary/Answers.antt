@@ -1,0 +1,25 @@
+-- The record's kind, its operator and the number of its arguments are tested in turn: where all tests pass
+-- the argument is found, and where one fails the term is no such operation.
+use borrow.Author.Rules.{rules}
+use Rattle.terms.proofs.Children.{child-found, other_than_child, no_operation-child}
+use Rattle.terms.proofs.term.unary.Goals as goal
+
+pub returns-then-args-eq1 : goal.returns-then-args-eq1
+returns-then-args-eq1 c =
+    let args = c in
+    let kinds = args in
+    child-found _ _ _ kinds.record-r.ensures (search rules) (search rules) args.arg_bytes-args.ensures
+    (search rules) c.argument.ensures
+
+pub returns-else-args-eq1 : goal.returns-else-args-eq1
+returns-else-args-eq1 c =
+    let args = c in
+    let kinds = args in
+    other_than_child _ _ _ kinds.record-r.ensures (search rules) (search rules)
+    args.arg_bytes-args.ensures (search rules)
+
+pub returns-else-byte-o : goal.returns-else-byte-o
+returns-else-byte-o c = no_operation-child _ _ _ c.record-r.ensures (λ k o. search rules)
+
+pub returns-else-byte-eq-OPERATION : goal.returns-else-byte-eq-OPERATION
+returns-else-byte-eq-OPERATION c = no_operation-child _ _ _ c.record-r.ensures (λ k o. search rules)
