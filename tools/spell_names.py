@@ -236,9 +236,10 @@ def main(words):
                     it.write(new)
     if not check:
         for crate in sorted(os.listdir(os.path.join(root, "crates"))):
-            old = os.path.join("crates", crate, "specs", "memory")
-            if os.path.isdir(os.path.join(root, old)):
-                subprocess.run(["git", "mv", old, old[:-6] + "Memory"], cwd=root, check=True)
+            for old, new in (("memory", "Memory"), ("memory.antt", "Memory.antt")):
+                above = os.path.join("crates", crate, "specs")
+                if os.path.exists(os.path.join(root, above, old)):
+                    subprocess.run(["git", "mv", os.path.join(above, old), os.path.join(above, new)], cwd=root, check=True)
     print(f"{len(rows)} names, {changed} files")
     return 0
 
