@@ -160,20 +160,20 @@ def numbers(ns):
 def record_text(record):
     kind, parts = record[0], record[1:]
     if kind == "integer":
-        return "integerRecord " + signed(*parts)
+        return "integer_record " + signed(*parts)
     if kind == "real":
-        return "realRecord %s %s" % tuple(map(signed, parts))
+        return "real_record %s %s" % tuple(map(signed, parts))
     if kind == "vector":
-        return "vectorRecord %d %d" % parts
+        return "vector_record %d %d" % parts
     if kind == "atom":
-        return "atomRecord %d %d %d" % parts
+        return "atom_record %d %d %d" % parts
     if kind == "operation":
         name = NAMES[parts[0] - 1] if parts[0] <= len(NAMES) else str(parts[0])
-        return "operationRecord %s %s" % (name, numbers(parts[1:]))
+        return "operation_record %s %s" % (name, numbers(parts[1:]))
     return "blank %d" % parts if kind == "kind" else "replicate %d 0" % parts
 
 
 def run_text(part):
     if part[0] == "step":
-        return "stepRecords %d %s %s %s" % (part[1], *map(numbers, part[2:]))
-    return "replicate %d 0" % part[1] if part[0] == "bytes" else "runRecord %d %d %d" % (ord(part[1]), *part[2:])
+        return "step_records %d %s %s %s" % (part[1], *map(numbers, part[2:]))
+    return "replicate %d 0" % part[1] if part[0] == "bytes" else "run_record %d %d %d" % (ord(part[1]), *part[2:])

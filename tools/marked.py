@@ -175,30 +175,23 @@ HEAD = """-- Written by tools/marked.py from tools/marked.txt: do not edit.
 -- Document 01's examples K1 to K12, the inputs of its table of verdicts, and the places where document 01 and
 -- the Rust are easy to misread, as one table that the checker computes. Expected answers come from document 01
 -- and from the Rust's own answers.
-use mathlib.Core.Path.{_≡_, refl}
-use mathlib.Core.Bool.{true}
-use mathlib.Core.List.{List, [], _∷_}
-use lib.IntN.{pos, negsuc}
-use lib.ListN.{replicate}
-use Rattle·terms.specs.Operator.{Not, And, Or, Equals, LessThan, LessEq, GreaterThan, GreaterEq}
-use Rattle·terms.specs.Operator.{Add, Sub, Mult, IntDiv, RealDiv, ToReal, BvAdd, BvSub, BvNeg, BvMul}
-use Rattle·terms.specs.BookExamples.{blank, integerRecord, realRecord, vectorRecord, atomRecord, operationRecord}
-use Rattle·marked·specs.specs.Cases.{Case, marked, usual, answers, runRecord, stepRecords, allMarked, marks}
+use Rattle.std.specs.Prelude.{◌≡◌, refl, true, List, [], ◌∷◌, pos, negsuc, replicate}
+use Rattle.terms.specs.Operator.{Not, And, Or, Equals, LessThan, LessEq, GreaterThan, GreaterEq}
+use Rattle.terms.specs.Operator.{Add, Sub, Mult, IntDiv, RealDiv, ToReal, BvAdd, BvSub, BvNeg, BvMul}
+use Rattle.terms.specs.BookExamples.{blank, integer_record, real_record, vector_record, atom_record, operation_record}
+use Rattle.marked.specs.Cases.{Case, marked, usual, answers, run_record, step_records, all_marked, marks}
 """
 
 PREMISES_HEAD = """-- Written by tools/marked.py from tools/marked.txt: do not edit.
 -- Which of demand 3's premises each accepted step of K1 to K12 meets, one accepted step of each rule, and others that
 -- tell a stronger or a weaker premise from the right one: even divs, whole numbers, no surplus arguments. Worked out by
 -- hand.
-use mathlib.Core.Path.{_≡_, refl}
-use mathlib.Core.Bool.{true, false}
-use mathlib.Core.List.{List, [], _∷_}
-use lib.IntN.{pos, negsuc}
-use Rattle·terms.specs.Operator.{Not, And, Or, Equals, LessThan, LessEq, GreaterThan, GreaterEq}
-use Rattle·terms.specs.Operator.{Add, Sub, Mult, IntDiv, RealDiv, BvAdd, BvMul}
-use Rattle·terms.specs.BookExamples.{integerRecord, realRecord, vectorRecord, atomRecord, operationRecord}
-use Rattle·marked·specs.specs.Cases.{stepRecords, marks}
-use Rattle·elaborate.specs.PremiseTests.{Tested, tested, allTested, tests}
+use Rattle.std.specs.Prelude.{◌≡◌, refl, true, false, List, [], ◌∷◌, pos, negsuc}
+use Rattle.terms.specs.Operator.{Not, And, Or, Equals, LessThan, LessEq, GreaterThan, GreaterEq}
+use Rattle.terms.specs.Operator.{Add, Sub, Mult, IntDiv, RealDiv, BvAdd, BvMul}
+use Rattle.terms.specs.BookExamples.{integer_record, real_record, vector_record, atom_record, operation_record}
+use Rattle.marked.specs.Cases.{step_records, marks}
+use Rattle.elaborate.specs.PremiseTests.{Tested, tested, all_tested, tests}
 """
 
 
@@ -260,12 +253,12 @@ def list_file(head, sections, word, parts, tail):
 def table_files(sections):
     table = list_file(
         [HEAD, "cases : List Case", "unfolding marks", "cases ="], sections, "marked", Case.antt,
-        ["all-marked : allMarked cases ≡ true", "unfolding marks cases", "all-marked = refl"],
+        ["all_marked_lem : all_marked cases ≡ true", "unfolding marks cases", "all_marked_lem = refl"],
     )
     told = [(title, [c for c in cases if c.premises]) for title, cases in sections]
     premises = list_file(
         [PREMISES_HEAD, "cases : List Tested", "unfolding marks", "cases ="], [t for t in told if t[1]], "tested",
-        Case.tested, ["all-tested : allTested cases ≡ true", "unfolding marks tests cases", "all-tested = refl"],
+        Case.tested, ["all_tested_lem : all_tested cases ≡ true", "unfolding marks tests cases", "all_tested_lem = refl"],
     )
     return {TABLE: table, PREMISES: premises}
 

@@ -28,12 +28,12 @@ use mathlib.Core.Bool.{Bool, true}
 use mathlib.Core.List.{List, [], _∷_}
 use Prim.Native.Nat.{ℕ}
 use lib.IntN.{pos, negsuc}
-use Rattle·terms.specs.Operator.{Not, And, Or, Equals, LessThan, LessEq, GreaterThan, GreaterEq}
-use Rattle·terms.specs.Operator.{Add, Sub, Mult, IntDiv, RealDiv, ToReal, BvAdd, BvSub, BvNeg, BvMul}
-use Rattle·numbers.specs.Bytes.{Bytes}
-use Rattle·terms.specs.BookExamples.{integerRecord, realRecord, vectorRecord, atomRecord, operationRecord, joined}
-use Rattle·elaborate.specs.Elaborate.{Answer, elaborate}
-use Rattle·marked.specs.Cases.{Case, marked, answers, runRecord, stepRecords, allMarked, marks}
+use Rattle.terms.specs.Operator.{Not, And, Or, Equals, LessThan, LessEq, GreaterThan, GreaterEq}
+use Rattle.terms.specs.Operator.{Add, Sub, Mult, IntDiv, RealDiv, ToReal, BvAdd, BvSub, BvNeg, BvMul}
+use Rattle.numbers.specs.Bytes.{Bytes}
+use Rattle.terms.specs.BookExamples.{integer_record, real_record, vector_record, atom_record, operation_record, joined}
+use Rattle.elaborate.specs.Elaborate.{Answer, elaborate}
+use Rattle.marked.specs.Cases.{Case, marked, answers, run_record, step_records, all_marked, marks}
 
 """
 
@@ -72,7 +72,7 @@ def run_parts(data):
     while i < len(records):
         mark, byte, number = records[i]
         if mark != ord("S") or number:
-            texts.append("runRecord %d %d %d" % records[i])
+            texts.append("run_record %d %d %d" % records[i])
             i += 1
             continue
         i, groups = i + 1, []
@@ -109,7 +109,7 @@ class Case:
 def declaration(name, cases):
     body = "\n    ∷ ".join([case.text() for case in cases] + ["[]"])
     return "%s : List Case\nunfolding marks\n%s =\n    %s\n\n" % (name, name, body) + (
-        "%s-agree : allMarked %s ≡ true\nunfolding marks %s\n%s-agree = refl\n\n" % (name, name, name, name)
+        "%s-agree : all_marked %s ≡ true\nunfolding marks %s\n%s-agree = refl\n\n" % (name, name, name, name)
     )
 
 

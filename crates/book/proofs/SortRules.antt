@@ -1,7 +1,7 @@
 -- The sort rules of the code (specs/Sorting, over sorts as numbers) are those of specs/Term. The number 3 stands for Real, and
 -- would stand for bit-vectors of no bits too: so the rules agree where each bit-vector has a bit (`Wide`). The tests for equal
 -- sorts agree without that, since specs/Term makes them by the number too.
-use mathlib.Core.Path.{◌≡◌, refl, sym, ◌∙◌, ap, ap₂}
+use mathlib.Core.Path.{◌≡◌, refl, sym, ◌∙◌, ap, ap₂, subst}
 use mathlib.Core.Bool.{Bool, true, false, ◌&&◌, ◌||◌, cond}
 use mathlib.Core.List.{List, [], ◌∷◌, map}
 use Prim.Native.Nat.{ℕ, ◌+◌, ◌<◌}
@@ -71,7 +71,8 @@ all_bool-codes [] = refl
 all_bool-codes (c ∷ l) = go (eqb c 1) refl
   where
     go : (t : Bool) → eqb c 1 ≡ t → all_codes (eqb 1) (c ∷ l) ≡ (eqb c 1 && all_codes (eqb c) (c ∷ l))
-    go true e = rw (eqb-true c 1 e)
+    go true e =
+        subst (λ (x : ℕ). all_codes (eqb 1) (x ∷ l) ≡ (eqb x 1 && all_codes (eqb x) (x ∷ l))) (sym (eqb-true c 1 e)) refl
     go false e = rw (e, ne_eqb 1 c (λ s. eqb-false c 1 e (sym s)))
 
 -- ---- the rules

@@ -93,12 +93,14 @@ cases =
     -- K12: rule 4, (< (+ (* 2147483647 u) u) 0)
     ∷ marked
     (integer_record (pos 2147483647) ∷ atom_record 3 4 0 ∷ operation_record Mult (0 ∷ 1 ∷ [])
-    ∷ operation_record Add (2 ∷ 1 ∷ []) ∷ integer_record (pos 0) ∷ operation_record LessThan (3 ∷ 4 ∷ []) ∷ [])
+    ∷ operation_record Add (2 ∷ 1 ∷ []) ∷ integer_record (pos 0) ∷ operation_record LessThan (3 ∷ 4 ∷ [])
+    ∷ [])
     (step_records 4 [] (5 ∷ []) [] ∷ []) usual (answers 11 0 0 [] [])
     -- K12, one less: rule 4, (< (+ (* 2147483646 u) u) 0)
     ∷ marked
     (integer_record (pos 2147483646) ∷ atom_record 3 4 0 ∷ operation_record Mult (0 ∷ 1 ∷ [])
-    ∷ operation_record Add (2 ∷ 1 ∷ []) ∷ integer_record (pos 0) ∷ operation_record LessThan (3 ∷ 4 ∷ []) ∷ [])
+    ∷ operation_record Add (2 ∷ 1 ∷ []) ∷ integer_record (pos 0) ∷ operation_record LessThan (3 ∷ 4 ∷ [])
+    ∷ [])
     (step_records 4 [] (5 ∷ []) [] ∷ []) usual (answers 32 0 0 [] [])
     -- ---- Refusals 1 to 8, and their order
     -- 1, limit 0: rule 5, (not (< x 3)) (not (> x 2)), arguments 1 1; limit 0
@@ -203,8 +205,8 @@ cases =
     -- 7, P behind C: book p; run S 0 0; run C 0 0; run S 5 0; run C 0 0; run P 0 0
     ∷ marked
     (atom_record 1 8 0 ∷ [])
-    (run_record 83 0 0 ∷ run_record 67 0 0 ∷ run_record 83 5 0 ∷ run_record 67 0 0 ∷ run_record 80 0 0 ∷ []) usual
-    (answers 7 0 0 [] [])
+    (run_record 83 0 0 ∷ run_record 67 0 0 ∷ run_record 83 5 0 ∷ run_record 67 0 0 ∷ run_record 80 0 0 ∷ [])
+    usual (answers 7 0 0 [] [])
     -- 7, an assume of two literals: rule 0, p q
     ∷ marked
     (atom_record 1 8 0 ∷ atom_record 1 9 0 ∷ [])
@@ -327,7 +329,8 @@ cases =
     -- both factors are read before either is used: rule 4, (< (* 2 (/ 1/2147483647 2)) 0); limit 1
     ∷ marked
     (integer_record (pos 2) ∷ real_record (pos 1) (pos 2147483647) ∷ operation_record RealDiv (1 ∷ 0 ∷ [])
-    ∷ operation_record Mult (0 ∷ 2 ∷ []) ∷ integer_record (pos 0) ∷ operation_record LessThan (3 ∷ 4 ∷ []) ∷ [])
+    ∷ operation_record Mult (0 ∷ 2 ∷ []) ∷ integer_record (pos 0) ∷ operation_record LessThan (3 ∷ 4 ∷ [])
+    ∷ [])
     (step_records 4 [] (5 ∷ []) [] ∷ []) (1, 65536, 1000, 1000) (answers 11 0 0 [] [])
     -- an argument that is no number, then one out of range: rule 5, (not (< x 3)) (not (> x 2)), arguments x
     -- (/ 1/2147483647 2)
@@ -368,9 +371,9 @@ cases =
     -- the product inside strengthen is not ranged: rule 5, (not (>= x 2147483647/1073741824)) (not (<= x 1)),
     -- arguments 3 3
     ∷ marked
-    (atom_record 2 0 0 ∷ real_record (pos 2147483647) (pos 1073741824) ∷ operation_record GreaterEq (0 ∷ 1 ∷ [])
-    ∷ operation_record Not (2 ∷ []) ∷ integer_record (pos 1) ∷ operation_record LessEq (0 ∷ 4 ∷ [])
-    ∷ operation_record Not (5 ∷ []) ∷ integer_record (pos 3) ∷ [])
+    (atom_record 2 0 0 ∷ real_record (pos 2147483647) (pos 1073741824)
+    ∷ operation_record GreaterEq (0 ∷ 1 ∷ []) ∷ operation_record Not (2 ∷ []) ∷ integer_record (pos 1)
+    ∷ operation_record LessEq (0 ∷ 4 ∷ []) ∷ operation_record Not (5 ∷ []) ∷ integer_record (pos 3) ∷ [])
     (step_records 5 [] (3 ∷ 6 ∷ []) (7 ∷ 7 ∷ []) ∷ []) usual
     (answers 0 1 4 (step_records 5 [] (3 ∷ 6 ∷ []) (7 ∷ 7 ∷ []) ∷ []) [])
     -- 12, nine atoms: rule 7, (= (* x x x x x x x x x) x)
@@ -508,8 +511,8 @@ cases =
     (atom_record 2 0 0 ∷ atom_record 2 1 0 ∷ atom_record 2 2 0 ∷ operation_record Mult (1 ∷ 2 ∷ [])
     ∷ operation_record Sub (0 ∷ []) ∷ operation_record Add (0 ∷ 1 ∷ 2 ∷ 3 ∷ 4 ∷ [])
     ∷ integer_record (pos 2147483647) ∷ operation_record Mult (6 ∷ 1 ∷ []) ∷ integer_record (pos 1)
-    ∷ operation_record Sub (8 ∷ []) ∷ operation_record Add (7 ∷ 2 ∷ 9 ∷ []) ∷ operation_record Mult (5 ∷ 10 ∷ [])
-    ∷ operation_record Equals (11 ∷ 11 ∷ []) ∷ [])
+    ∷ operation_record Sub (8 ∷ []) ∷ operation_record Add (7 ∷ 2 ∷ 9 ∷ [])
+    ∷ operation_record Mult (5 ∷ 10 ∷ []) ∷ operation_record Equals (11 ∷ 11 ∷ []) ∷ [])
     (step_records 7 [] (12 ∷ []) [] ∷ []) usual (answers 0 1 34 (step_records 7 [] (12 ∷ []) [] ∷ []) [])
     -- the same sum with nothing removed: rule 7, (= (* (+ y z (* y z)) (+ (* 2147483647 y) z (- 1))) x)
     ∷ marked
@@ -554,12 +557,13 @@ cases =
     (step_records 6 [] (2 ∷ []) [] ∷ []) usual (answers 26 0 0 [] [])
     -- 27: rule 6, (< x y z)
     ∷ marked
-    (atom_record 2 0 0 ∷ atom_record 2 1 0 ∷ atom_record 2 2 0 ∷ operation_record LessThan (0 ∷ 1 ∷ 2 ∷ []) ∷ [])
+    (atom_record 2 0 0 ∷ atom_record 2 1 0 ∷ atom_record 2 2 0 ∷ operation_record LessThan (0 ∷ 1 ∷ 2 ∷ [])
+    ∷ [])
     (step_records 6 [] (3 ∷ []) [] ∷ []) usual (answers 27 0 0 [] [])
     -- 31: rule 4, (or (<= x 1) (<= x 2))
     ∷ marked
-    (atom_record 2 0 0 ∷ integer_record (pos 1) ∷ operation_record LessEq (0 ∷ 1 ∷ []) ∷ integer_record (pos 2)
-    ∷ operation_record LessEq (0 ∷ 3 ∷ []) ∷ operation_record Or (2 ∷ 4 ∷ []) ∷ [])
+    (atom_record 2 0 0 ∷ integer_record (pos 1) ∷ operation_record LessEq (0 ∷ 1 ∷ [])
+    ∷ integer_record (pos 2) ∷ operation_record LessEq (0 ∷ 3 ∷ []) ∷ operation_record Or (2 ∷ 4 ∷ []) ∷ [])
     (step_records 4 [] (5 ∷ []) [] ∷ []) usual (answers 31 0 0 [] [])
     -- 33: rule 4, (or (not (<= x 1)) (<= y 2))
     ∷ marked
@@ -644,14 +648,15 @@ cases =
     -- rule 2: rule 2, (or (= x y) (not (<= x y)) (not (<= y x)))
     ∷ marked
     (atom_record 2 0 0 ∷ atom_record 2 1 0 ∷ operation_record Equals (0 ∷ 1 ∷ [])
-    ∷ operation_record LessEq (0 ∷ 1 ∷ []) ∷ operation_record Not (3 ∷ []) ∷ operation_record LessEq (1 ∷ 0 ∷ [])
-    ∷ operation_record Not (5 ∷ []) ∷ operation_record Or (2 ∷ 4 ∷ 6 ∷ []) ∷ [])
+    ∷ operation_record LessEq (0 ∷ 1 ∷ []) ∷ operation_record Not (3 ∷ [])
+    ∷ operation_record LessEq (1 ∷ 0 ∷ []) ∷ operation_record Not (5 ∷ [])
+    ∷ operation_record Or (2 ∷ 4 ∷ 6 ∷ []) ∷ [])
     (step_records 2 [] (7 ∷ []) [] ∷ []) usual (answers 0 1 0 (step_records 2 [] (7 ∷ []) [] ∷ []) [])
     -- rule 2, the first bound turned: rule 2, (or (= x y) (not (<= y x)) (not (<= y x)))
     ∷ marked
     (atom_record 2 0 0 ∷ atom_record 2 1 0 ∷ operation_record Equals (0 ∷ 1 ∷ [])
-    ∷ operation_record LessEq (1 ∷ 0 ∷ []) ∷ operation_record Not (3 ∷ []) ∷ operation_record Or (2 ∷ 4 ∷ 4 ∷ [])
-    ∷ [])
+    ∷ operation_record LessEq (1 ∷ 0 ∷ []) ∷ operation_record Not (3 ∷ [])
+    ∷ operation_record Or (2 ∷ 4 ∷ 4 ∷ []) ∷ [])
     (step_records 2 [] (5 ∷ []) [] ∷ []) usual (answers 24 0 0 [] [])
     -- rule 3: rule 3, (or (<= x y) (<= y x))
     ∷ marked
@@ -683,9 +688,9 @@ cases =
     (step_records 4 [] (4 ∷ []) [] ∷ []) usual (answers 0 1 0 (step_records 4 [] (4 ∷ []) [] ∷ []) [])
     -- rule 4, second form, another bound: rule 4, (or (<= x 2) (not (<= x 1)))
     ∷ marked
-    (atom_record 2 0 0 ∷ integer_record (pos 2) ∷ operation_record LessEq (0 ∷ 1 ∷ []) ∷ integer_record (pos 1)
-    ∷ operation_record LessEq (0 ∷ 3 ∷ []) ∷ operation_record Not (4 ∷ []) ∷ operation_record Or (2 ∷ 5 ∷ [])
-    ∷ [])
+    (atom_record 2 0 0 ∷ integer_record (pos 2) ∷ operation_record LessEq (0 ∷ 1 ∷ [])
+    ∷ integer_record (pos 1) ∷ operation_record LessEq (0 ∷ 3 ∷ []) ∷ operation_record Not (4 ∷ [])
+    ∷ operation_record Or (2 ∷ 5 ∷ []) ∷ [])
     (step_records 4 [] (6 ∷ []) [] ∷ []) usual (answers 33 0 0 [] [])
     -- rule 4, third form: rule 4, (or (not (>= x 2)) (>= x 1))
     ∷ marked
@@ -712,15 +717,16 @@ cases =
     (step_records 4 [] (7 ∷ []) [] ∷ []) usual (answers 0 1 0 (step_records 4 [] (7 ∷ []) [] ∷ []) [])
     -- rule 4, or of three: rule 4, (or (<= x 1) (<= x 2) (<= x 3))
     ∷ marked
-    (atom_record 2 0 0 ∷ integer_record (pos 1) ∷ operation_record LessEq (0 ∷ 1 ∷ []) ∷ integer_record (pos 2)
-    ∷ operation_record LessEq (0 ∷ 3 ∷ []) ∷ integer_record (pos 3) ∷ operation_record LessEq (0 ∷ 5 ∷ [])
-    ∷ operation_record Or (2 ∷ 4 ∷ 6 ∷ []) ∷ [])
+    (atom_record 2 0 0 ∷ integer_record (pos 1) ∷ operation_record LessEq (0 ∷ 1 ∷ [])
+    ∷ integer_record (pos 2) ∷ operation_record LessEq (0 ∷ 3 ∷ []) ∷ integer_record (pos 3)
+    ∷ operation_record LessEq (0 ∷ 5 ∷ []) ∷ operation_record Or (2 ∷ 4 ∷ 6 ∷ []) ∷ [])
     (step_records 4 [] (7 ∷ []) [] ∷ []) usual (answers 26 0 0 [] [])
     -- rule 4, a bound is a signed number: rule 4, (or (not (<= x (/ 1 2))) (<= x 1))
     ∷ marked
-    (atom_record 2 0 0 ∷ integer_record (pos 1) ∷ integer_record (pos 2) ∷ operation_record RealDiv (1 ∷ 2 ∷ [])
-    ∷ operation_record LessEq (0 ∷ 3 ∷ []) ∷ operation_record Not (4 ∷ []) ∷ operation_record LessEq (0 ∷ 1 ∷ [])
-    ∷ operation_record Or (5 ∷ 6 ∷ []) ∷ [])
+    (atom_record 2 0 0 ∷ integer_record (pos 1) ∷ integer_record (pos 2)
+    ∷ operation_record RealDiv (1 ∷ 2 ∷ []) ∷ operation_record LessEq (0 ∷ 3 ∷ [])
+    ∷ operation_record Not (4 ∷ []) ∷ operation_record LessEq (0 ∷ 1 ∷ []) ∷ operation_record Or (5 ∷ 6 ∷ [])
+    ∷ [])
     (step_records 4 [] (7 ∷ []) [] ∷ []) usual (answers 25 0 0 [] [])
     -- rule 4, > between equal numbers: rule 4, (not (> 0 0))
     ∷ marked
@@ -761,7 +767,8 @@ cases =
     -- (- (- 3)) in a sum: rule 4, (not (= 0 (- (- 3))))
     ∷ marked
     (integer_record (pos 0) ∷ integer_record (pos 3) ∷ operation_record Sub (1 ∷ [])
-    ∷ operation_record Sub (2 ∷ []) ∷ operation_record Equals (0 ∷ 3 ∷ []) ∷ operation_record Not (4 ∷ []) ∷ [])
+    ∷ operation_record Sub (2 ∷ []) ∷ operation_record Equals (0 ∷ 3 ∷ []) ∷ operation_record Not (4 ∷ [])
+    ∷ [])
     (step_records 4 [] (5 ∷ []) [] ∷ []) usual (answers 0 1 4 (step_records 4 [] (5 ∷ []) [] ∷ []) [])
     -- ---- Rules 5 and 6, and elaboration
     -- (* 0 x) beside an atom: rule 6, (not (<= (+ (* 0 x) y) 3))
@@ -791,26 +798,26 @@ cases =
     (step_records 5 [] (3 ∷ []) (4 ∷ 4 ∷ []) ∷ []) usual (answers 20 0 0 [] [])
     -- div through an atom: rule 5, (not (> (* (div 7 2) x x) 3)) (not (< (* (div 7 2) x x) 4)), arguments 1 1
     ∷ marked
-    (integer_record (pos 7) ∷ integer_record (pos 2) ∷ operation_record IntDiv (0 ∷ 1 ∷ []) ∷ atom_record 2 0 0
-    ∷ operation_record Mult (2 ∷ 3 ∷ 3 ∷ []) ∷ integer_record (pos 3) ∷ operation_record GreaterThan (4 ∷ 5 ∷ [])
-    ∷ operation_record Not (6 ∷ []) ∷ integer_record (pos 4) ∷ operation_record LessThan (4 ∷ 8 ∷ [])
-    ∷ operation_record Not (9 ∷ []) ∷ integer_record (pos 1) ∷ [])
+    (integer_record (pos 7) ∷ integer_record (pos 2) ∷ operation_record IntDiv (0 ∷ 1 ∷ [])
+    ∷ atom_record 2 0 0 ∷ operation_record Mult (2 ∷ 3 ∷ 3 ∷ []) ∷ integer_record (pos 3)
+    ∷ operation_record GreaterThan (4 ∷ 5 ∷ []) ∷ operation_record Not (6 ∷ []) ∷ integer_record (pos 4)
+    ∷ operation_record LessThan (4 ∷ 8 ∷ []) ∷ operation_record Not (9 ∷ []) ∷ integer_record (pos 1) ∷ [])
     (step_records 5 [] (7 ∷ 10 ∷ []) (11 ∷ 11 ∷ []) ∷ []) usual
     (answers 0 1 4 (step_records 5 [] (7 ∷ 10 ∷ []) (11 ∷ 11 ∷ []) ∷ []) [])
     -- Bool atoms: rule 5, (not (= p q)) (not (= q p)) (not (= 0 5)), arguments 1 1 1
     ∷ marked
-    (atom_record 1 8 0 ∷ atom_record 1 9 0 ∷ operation_record Equals (0 ∷ 1 ∷ []) ∷ operation_record Not (2 ∷ [])
-    ∷ operation_record Equals (1 ∷ 0 ∷ []) ∷ operation_record Not (4 ∷ []) ∷ integer_record (pos 0)
-    ∷ integer_record (pos 5) ∷ operation_record Equals (6 ∷ 7 ∷ []) ∷ operation_record Not (8 ∷ [])
-    ∷ integer_record (pos 1) ∷ [])
+    (atom_record 1 8 0 ∷ atom_record 1 9 0 ∷ operation_record Equals (0 ∷ 1 ∷ [])
+    ∷ operation_record Not (2 ∷ []) ∷ operation_record Equals (1 ∷ 0 ∷ []) ∷ operation_record Not (4 ∷ [])
+    ∷ integer_record (pos 0) ∷ integer_record (pos 5) ∷ operation_record Equals (6 ∷ 7 ∷ [])
+    ∷ operation_record Not (8 ∷ []) ∷ integer_record (pos 1) ∷ [])
     (step_records 5 [] (3 ∷ 5 ∷ 9 ∷ []) (10 ∷ 10 ∷ 10 ∷ []) ∷ []) usual
     (answers 0 1 6 (step_records 5 [] (3 ∷ 5 ∷ 9 ∷ []) (10 ∷ 10 ∷ 10 ∷ []) ∷ []) [])
     -- bit-vector atoms: rule 5, (not (= v #x01)) (not (= #x01 v)) (not (= 0 5)), arguments 1 1 1
     ∷ marked
-    (atom_record 4 5 8 ∷ vector_record 1 8 ∷ operation_record Equals (0 ∷ 1 ∷ []) ∷ operation_record Not (2 ∷ [])
-    ∷ operation_record Equals (1 ∷ 0 ∷ []) ∷ operation_record Not (4 ∷ []) ∷ integer_record (pos 0)
-    ∷ integer_record (pos 5) ∷ operation_record Equals (6 ∷ 7 ∷ []) ∷ operation_record Not (8 ∷ [])
-    ∷ integer_record (pos 1) ∷ [])
+    (atom_record 4 5 8 ∷ vector_record 1 8 ∷ operation_record Equals (0 ∷ 1 ∷ [])
+    ∷ operation_record Not (2 ∷ []) ∷ operation_record Equals (1 ∷ 0 ∷ []) ∷ operation_record Not (4 ∷ [])
+    ∷ integer_record (pos 0) ∷ integer_record (pos 5) ∷ operation_record Equals (6 ∷ 7 ∷ [])
+    ∷ operation_record Not (8 ∷ []) ∷ integer_record (pos 1) ∷ [])
     (step_records 5 [] (3 ∷ 5 ∷ 9 ∷ []) (10 ∷ 10 ∷ 10 ∷ []) ∷ []) usual
     (answers 0 1 6 (step_records 5 [] (3 ∷ 5 ∷ 9 ∷ []) (10 ∷ 10 ∷ 10 ∷ []) ∷ []) [])
     -- the Alethe specification's example, x for (f a) and y for (f b): rule 5, (not (> x y)) (not (= x y)),
@@ -965,10 +972,10 @@ cases =
     -- ---- Rules 7 and 8
     -- rule 7: rule 7, (= (* (+ x y) (- x y)) (- (* x x) (* y y)))
     ∷ marked
-    (atom_record 2 0 0 ∷ atom_record 2 1 0 ∷ operation_record Add (0 ∷ 1 ∷ []) ∷ operation_record Sub (0 ∷ 1 ∷ [])
-    ∷ operation_record Mult (2 ∷ 3 ∷ []) ∷ operation_record Mult (0 ∷ 0 ∷ [])
-    ∷ operation_record Mult (1 ∷ 1 ∷ []) ∷ operation_record Sub (5 ∷ 6 ∷ [])
-    ∷ operation_record Equals (4 ∷ 7 ∷ []) ∷ [])
+    (atom_record 2 0 0 ∷ atom_record 2 1 0 ∷ operation_record Add (0 ∷ 1 ∷ [])
+    ∷ operation_record Sub (0 ∷ 1 ∷ []) ∷ operation_record Mult (2 ∷ 3 ∷ [])
+    ∷ operation_record Mult (0 ∷ 0 ∷ []) ∷ operation_record Mult (1 ∷ 1 ∷ [])
+    ∷ operation_record Sub (5 ∷ 6 ∷ []) ∷ operation_record Equals (4 ∷ 7 ∷ []) ∷ [])
     (step_records 7 [] (8 ∷ []) [] ∷ []) usual (answers 0 1 14 (step_records 7 [] (8 ∷ []) [] ∷ []) [])
     -- entries that become 0 stay: rule 7, (= (bvmul #x80 (bvadd v v)) (bvmul #x80 (bvadd v v)))
     ∷ marked
@@ -977,8 +984,9 @@ cases =
     (step_records 7 [] (4 ∷ []) [] ∷ []) usual (answers 36 0 0 [] [])
     -- bvneg and bvsub: rule 7, (= (bvsub v w) (bvadd v (bvneg w)))
     ∷ marked
-    (atom_record 4 5 8 ∷ atom_record 4 6 8 ∷ operation_record BvSub (0 ∷ 1 ∷ []) ∷ operation_record BvNeg (1 ∷ [])
-    ∷ operation_record BvAdd (0 ∷ 3 ∷ []) ∷ operation_record Equals (2 ∷ 4 ∷ []) ∷ [])
+    (atom_record 4 5 8 ∷ atom_record 4 6 8 ∷ operation_record BvSub (0 ∷ 1 ∷ [])
+    ∷ operation_record BvNeg (1 ∷ []) ∷ operation_record BvAdd (0 ∷ 3 ∷ [])
+    ∷ operation_record Equals (2 ∷ 4 ∷ []) ∷ [])
     (step_records 7 [] (5 ∷ []) [] ∷ []) usual (answers 0 1 7 (step_records 7 [] (5 ∷ []) [] ∷ []) [])
     -- bvneg, modulo 256: rule 7, (= (bvneg v) (bvmul #xff v))
     ∷ marked
@@ -997,9 +1005,9 @@ cases =
     (step_records 7 [] (7 ∷ []) [] ∷ []) usual (answers 0 1 7 (step_records 7 [] (7 ∷ []) [] ∷ []) [])
     -- / by 0 is an atom: rule 7, (= (* 2 (/ u 0)) (+ (/ u 0) (/ u 0)))
     ∷ marked
-    (integer_record (pos 2) ∷ atom_record 3 4 0 ∷ integer_record (pos 0) ∷ operation_record RealDiv (1 ∷ 2 ∷ [])
-    ∷ operation_record Mult (0 ∷ 3 ∷ []) ∷ operation_record Add (3 ∷ 3 ∷ [])
-    ∷ operation_record Equals (4 ∷ 5 ∷ []) ∷ [])
+    (integer_record (pos 2) ∷ atom_record 3 4 0 ∷ integer_record (pos 0)
+    ∷ operation_record RealDiv (1 ∷ 2 ∷ []) ∷ operation_record Mult (0 ∷ 3 ∷ [])
+    ∷ operation_record Add (3 ∷ 3 ∷ []) ∷ operation_record Equals (4 ∷ 5 ∷ []) ∷ [])
     (step_records 7 [] (6 ∷ []) [] ∷ []) usual (answers 0 1 6 (step_records 7 [] (6 ∷ []) [] ∷ []) [])
     -- (/ 1 2) costs two visits in a polynomial: rule 7, (= (/ 1 2) 1/2)
     ∷ marked
@@ -1127,8 +1135,8 @@ cases =
     ∷ marked
     (integer_record (pos 1) ∷ atom_record 2 0 0 ∷ atom_record 2 1 0 ∷ operation_record Sub (1 ∷ 2 ∷ [])
     ∷ operation_record Mult (0 ∷ 3 ∷ []) ∷ integer_record (pos 2) ∷ operation_record Mult (5 ∷ 3 ∷ [])
-    ∷ operation_record Equals (4 ∷ 6 ∷ []) ∷ atom_record 1 8 0 ∷ operation_record Not (8 ∷ []) ∷ atom_record 1 9 0
-    ∷ operation_record Equals (9 ∷ 10 ∷ []) ∷ [])
+    ∷ operation_record Equals (4 ∷ 6 ∷ []) ∷ atom_record 1 8 0 ∷ operation_record Not (8 ∷ [])
+    ∷ atom_record 1 9 0 ∷ operation_record Equals (9 ∷ 10 ∷ []) ∷ [])
     (step_records 0 [] (7 ∷ []) [] ∷ step_records 8 (0 ∷ []) (11 ∷ []) [] ∷ []) usual
     (answers 42 1 0 (step_records 0 [] (7 ∷ []) [] ∷ []) [])
     -- 40, no relation: rule 0, (= (* 1 (- x y)) (* 2 (- x y))); rule 8, (= (not p) (not p)), premises 0
@@ -1250,8 +1258,8 @@ cases =
     -- a div whose dividend is no number is an atom: rule 5, (not (< (div x 2) 3)) (not (> (div x 2) 2)),
     -- arguments 1 1
     ∷ marked
-    (atom_record 2 0 0 ∷ integer_record (pos 2) ∷ operation_record IntDiv (0 ∷ 1 ∷ []) ∷ integer_record (pos 3)
-    ∷ operation_record LessThan (2 ∷ 3 ∷ []) ∷ operation_record Not (4 ∷ [])
+    (atom_record 2 0 0 ∷ integer_record (pos 2) ∷ operation_record IntDiv (0 ∷ 1 ∷ [])
+    ∷ integer_record (pos 3) ∷ operation_record LessThan (2 ∷ 3 ∷ []) ∷ operation_record Not (4 ∷ [])
     ∷ operation_record GreaterThan (2 ∷ 1 ∷ []) ∷ operation_record Not (6 ∷ []) ∷ integer_record (pos 1) ∷ [])
     (step_records 5 [] (5 ∷ 7 ∷ []) (8 ∷ 8 ∷ []) ∷ []) usual
     (answers 0 1 4 (step_records 5 [] (5 ∷ 7 ∷ []) (8 ∷ 8 ∷ []) ∷ []) [])
@@ -1272,8 +1280,9 @@ cases =
     (answers 0 1 4 (step_records 5 [] (4 ∷ 7 ∷ []) (8 ∷ 8 ∷ []) ∷ []) [])
     -- a div that comes out even: rule 5, (not (< (+ x (div 6 2)) 6)) (not (> x 2)), arguments 1 1
     ∷ marked
-    (atom_record 2 0 0 ∷ integer_record (pos 6) ∷ integer_record (pos 2) ∷ operation_record IntDiv (1 ∷ 2 ∷ [])
-    ∷ operation_record Add (0 ∷ 3 ∷ []) ∷ operation_record LessThan (4 ∷ 1 ∷ []) ∷ operation_record Not (5 ∷ [])
+    (atom_record 2 0 0 ∷ integer_record (pos 6) ∷ integer_record (pos 2)
+    ∷ operation_record IntDiv (1 ∷ 2 ∷ []) ∷ operation_record Add (0 ∷ 3 ∷ [])
+    ∷ operation_record LessThan (4 ∷ 1 ∷ []) ∷ operation_record Not (5 ∷ [])
     ∷ operation_record GreaterThan (0 ∷ 2 ∷ []) ∷ operation_record Not (7 ∷ []) ∷ integer_record (pos 1) ∷ [])
     (step_records 5 [] (6 ∷ 8 ∷ []) (9 ∷ 9 ∷ []) ∷ []) usual
     (answers 0 1 6 (step_records 5 [] (6 ∷ 8 ∷ []) (9 ∷ 9 ∷ []) ∷ []) [])
@@ -1296,17 +1305,17 @@ cases =
     -- a fractional coefficient of an Int atom: rule 5, (not (> (* 1/2 x) 0)) (not (< (* 1/2 x) 1)), arguments
     -- 1 1
     ∷ marked
-    (real_record (pos 1) (pos 2) ∷ atom_record 2 0 0 ∷ operation_record Mult (0 ∷ 1 ∷ []) ∷ integer_record (pos 0)
-    ∷ operation_record GreaterThan (2 ∷ 3 ∷ []) ∷ operation_record Not (4 ∷ []) ∷ integer_record (pos 1)
-    ∷ operation_record LessThan (2 ∷ 6 ∷ []) ∷ operation_record Not (7 ∷ []) ∷ [])
+    (real_record (pos 1) (pos 2) ∷ atom_record 2 0 0 ∷ operation_record Mult (0 ∷ 1 ∷ [])
+    ∷ integer_record (pos 0) ∷ operation_record GreaterThan (2 ∷ 3 ∷ []) ∷ operation_record Not (4 ∷ [])
+    ∷ integer_record (pos 1) ∷ operation_record LessThan (2 ∷ 6 ∷ []) ∷ operation_record Not (7 ∷ []) ∷ [])
     (step_records 5 [] (5 ∷ 8 ∷ []) (6 ∷ 6 ∷ []) ∷ []) usual
     (answers 0 1 6 (step_records 5 [] (5 ∷ 8 ∷ []) (6 ∷ 6 ∷ []) ∷ []) [])
     -- fractional coefficients and arguments with a Real atom: rule 5, (not (<= (* 1/2 u) 1)) (not (>= (* 1/2
     -- u) 2)), arguments 1/2 1/2
     ∷ marked
-    (real_record (pos 1) (pos 2) ∷ atom_record 3 4 0 ∷ operation_record Mult (0 ∷ 1 ∷ []) ∷ integer_record (pos 1)
-    ∷ operation_record LessEq (2 ∷ 3 ∷ []) ∷ operation_record Not (4 ∷ []) ∷ integer_record (pos 2)
-    ∷ operation_record GreaterEq (2 ∷ 6 ∷ []) ∷ operation_record Not (7 ∷ []) ∷ [])
+    (real_record (pos 1) (pos 2) ∷ atom_record 3 4 0 ∷ operation_record Mult (0 ∷ 1 ∷ [])
+    ∷ integer_record (pos 1) ∷ operation_record LessEq (2 ∷ 3 ∷ []) ∷ operation_record Not (4 ∷ [])
+    ∷ integer_record (pos 2) ∷ operation_record GreaterEq (2 ∷ 6 ∷ []) ∷ operation_record Not (7 ∷ []) ∷ [])
     (step_records 5 [] (5 ∷ 8 ∷ []) (0 ∷ 0 ∷ []) ∷ []) usual
     (answers 0 1 6 (step_records 5 [] (5 ∷ 8 ∷ []) (0 ∷ 0 ∷ []) ∷ []) [])
     -- a Real atom that is left beside an Int one: rule 5, (not (>= (+ x u) 1)) (not (<= (+ x u) 0)),
@@ -1320,8 +1329,9 @@ cases =
     -- a Real atom that cancels: rule 5, (not (>= (+ x u) (+ u 1))) (not (<= x 1)), arguments 1/2 1/2
     ∷ marked
     (atom_record 2 0 0 ∷ atom_record 3 4 0 ∷ operation_record Add (0 ∷ 1 ∷ []) ∷ integer_record (pos 1)
-    ∷ operation_record Add (1 ∷ 3 ∷ []) ∷ operation_record GreaterEq (2 ∷ 4 ∷ []) ∷ operation_record Not (5 ∷ [])
-    ∷ operation_record LessEq (0 ∷ 3 ∷ []) ∷ operation_record Not (7 ∷ []) ∷ real_record (pos 1) (pos 2) ∷ [])
+    ∷ operation_record Add (1 ∷ 3 ∷ []) ∷ operation_record GreaterEq (2 ∷ 4 ∷ [])
+    ∷ operation_record Not (5 ∷ []) ∷ operation_record LessEq (0 ∷ 3 ∷ []) ∷ operation_record Not (7 ∷ [])
+    ∷ real_record (pos 1) (pos 2) ∷ [])
     (step_records 5 [] (6 ∷ 8 ∷ []) (9 ∷ 9 ∷ []) ∷ []) usual
     (answers 0 1 8 (step_records 5 [] (6 ∷ 8 ∷ []) (9 ∷ 9 ∷ []) ∷ []) [])
     -- a fractional argument of an equality of Ints: rule 5, (not (= x 1)) (not (= x 2)), arguments 1/2 (-
