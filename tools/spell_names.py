@@ -201,7 +201,7 @@ def turned(text, rows, skip_strings, steps=()):
         out.append(word)
     out.append(text[at:])
     text = "".join(out)
-    text = re.sub(r"(?<=\.specs\.)memory(?=\.)", "Memory", text)
+    text = re.sub(r"(?<=\.specs\.)memory(?=\.)|(?<=^file: specs/)memory(?=/)", "Memory", text, flags=re.M)
     return re.sub(r"^pub mod memory$", "pub mod Memory", text, flags=re.M)
 
 
