@@ -1,2 +1,4 @@
 // Layer 2: the map that sums and polynomials are, in lent bytes.
+#![tactic(auto)]
+
 pub mod index_map;

@@ -59,6 +59,8 @@ pub arguments-lowest : {P : Term → Type 0} → Closed P → (args : List Term)
 arguments-lowest closed [] ps [] Arguments.end = tt
 arguments-lowest closed (a ∷ args) (p, ps) (q ∷ qs) (Arguments.argument w h) =
     (written-lowest closed a p w, arguments-lowest closed args ps qs h)
+arguments-lowest {P = P} closed [] ps (q ∷ qs) x3 = elim x3 [ ]
+arguments-lowest {P = P} closed (a ∷ args) (p, ps) [] x5 = elim x5 [ ]
 
 pub arguments-length : {args : List Term} {qs : List Rational} → Arguments args qs → length qs ≡ length args
 arguments-length Arguments.end = refl

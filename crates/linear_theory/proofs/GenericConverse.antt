@@ -114,6 +114,10 @@ module _ {P : Term → Type 0} (closed : Closed P) (by : Departures) where
       answers-then (literal-answers closed by phi of-P a la p h k line w.0 z.0) λ q added.
       answered-as (λ r s. one_more P p q r k ks added s)
       (fold-answers c ps qs ls ks lines w.1 z.1 q added.kept)
+  fold-answers [] ps [] ls (k ∷ ks) x15 whole zero p h = elim x15 [ ]
+  fold-answers [] ps (a ∷ qs) ls ks x12 whole zero p h = elim x12 [ ]
+  fold-answers (phi ∷ c) (of-P , ps) [] ls ks x9 whole zero p h = elim x9 [ ]
+  fold-answers (phi ∷ c) (of-P , ps) (a ∷ qs) (la, ls) [] x12 whole zero p h = elim x12 [ ]
 
 -- ---- the end
 

@@ -122,6 +122,7 @@ module _ (l : Limits) where
   fold-again (phi ∷ c) (a ∷ args) p h =
       and_then (literal-again p phi (some a)) λ q x.
       weaker (λ r y. after-given phi c a args p q r x y) (fold-again c args q (omega (arith, h)))
+  fold-again [] (a ∷ args) p h = elim h [ ]
 
   -- ---- the step
 

@@ -206,7 +206,7 @@ module _ {P : Term → Type 0} (closed : Closed P) (even : (t : Term) → P t �
         WholeLines by c qs → Lines by c qs ks → holds ρ c ≡ false →
         Holding (all_terms ks) (sum_bound ks) (operator_of (joined stronger ks))
     unfolding holds all_terms sum_bound joined weigh
-    lines_hold ps ls ws Alethe.end h =
+    lines_hold {c = []} {qs = []} ps ls ws Alethe.end h =
         record {
           entries = Weights.none;
           lowest = rationals.good-whole (pos 0);
@@ -215,7 +215,7 @@ module _ {P : Term → Type 0} (closed : Closed P) (even : (t : Term) → P t �
               (derive ℚring (numberℚ (whole (pos 0)) ∷ []) (λ z. 𝟘 ⊖ z ≐ 𝟘 from neg 𝟙 · z ≐ 𝟘) tt
               (rationals.number-whole (pos 0)));
         }
-    lines_hold (p, ps) (l, ls) (Alethe.also w ws) (Alethe.line {phi} {a} {k} {c} {ks = ks} line rest) h =
+    lines_hold {c = phi ∷ c} {qs = a ∷ qs} (p, ps) (l, ls) (Alethe.also w ws) (Alethe.line {k = k} {ks = ks} line rest) h =
         let b = either-false (is_true (value ρ phi)) (holds ρ c) h in
         let first = line-holds phi p a l w k line b.0 in
         let others = lines_hold ps ls ws rest b.1 in
@@ -234,3 +234,5 @@ module _ {P : Term → Type 0} (closed : Closed P) (even : (t : Term) → P t �
               (rationals.number-add k.bound (sum_bound ks) first.lowest others.lowest))
               (says-add first.says others.says));
         }
+    lines_hold {c = []} {qs = a ∷ qs} {ks = ks} ps ls ws _ h = elim ws [ ]
+    lines_hold {c = phi ∷ c} {qs = []} {ks = ks} ps ls ws _ h = elim ws [ ]

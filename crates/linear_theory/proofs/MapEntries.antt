@@ -23,7 +23,7 @@ use Rattle.linear_theory.specs.Premises.{whole_coefficients}
 use Rattle.alethe.specs.AletheTerms.{nought}
 use Rattle.index_map.proofs.KeyedMaps.{Lacks, nothing, another, same_key}
 use Rattle.linear_theory.proofs.KeyNames.{same-turned, term_names}
-use Rattle.linear_theory.proofs.NoZero.{NoZero, entry}
+use Rattle.linear_theory.proofs.NoZero.{NoZero, empty, entry}
 use Rattle.rules.proofs.Valuations.{numberℚ, rationals}
 use Rattle.rules_theory.proofs.IndexMaps.{EntryOf, EntriesOf, total}
 use Rattle.index_map.proofs.MapKeys.{key_of}
@@ -77,11 +77,13 @@ lacks-among :
     (is : Term → Bool) {e : Term × Rational} {m : Map Term} → Lacks is m → Among e m → is e.0 ≡ false
 lacks-among is (another other h) here = other
 lacks-among is (another other h) (behind a) = lacks-among is h a
+lacks-among is {e = e} nothing x3 = elim x3 [ ]
 
 pub nonzero-among :
     {e : Term × Rational} {m : Map Term} → NoZero terms m → Among e m → is_zero e.1 ≡ false
 nonzero-among (entry z k h) here = z
 nonzero-among (entry z k h) (behind a) = nonzero-among h a
+nonzero-among {e = e} empty x3 = elim x3 [ ]
 
 module _ {g : ℕ} where
   pub each-among : {e : Term × Rational} {m : Map Term} → EachMultiple g m → Among e m → Multiple g e.1.num
@@ -122,6 +124,7 @@ unfolding number_at
 at_among {e} (entry z k h) here = rw (eq-eqb (key_of e) (key_of e) refl, number_at)
 at_among {e} (entry {e = f} z k h) (behind a) =
     rw (same-turned term_names f.0 e.0 ∙ lacks-among (same_key terms f.0) k a, number_at) (at_among h a)
+at_among {e = e} empty x3 = elim x3 [ ]
 
 at_lacked : (t : Term) {m : Map Term} → Lacks (same_key terms t) m → number_at (record_number t) m ≡ nought
 unfolding number_at

@@ -19,7 +19,7 @@ use Rattle.alethe.specs.AletheTerms.{Entries, coefficient_of, all_int_in}
 use Rattle.rules.proofs.Valuations.{numberℚ, rationals, Respects}
 use Rattle.rules_theory.proofs.IndexMaps.{Values, total}
 use Rattle.linear_theory.proofs.MapEntries.{Among, here, behind, Test}
-use Rattle.linear_theory.proofs.Weights.{weigh, EntriesFor, entry}
+use Rattle.linear_theory.proofs.Weights.{weigh, EntriesFor, none, entry}
 
 -- ---- the entries of a sum
 
@@ -45,6 +45,7 @@ atom_at i (e ∷ es) h = go (eqb (record_number e.1) i) refl h (atom_at i es)
 pub for_among : {P : Term → Type 0} {e : Rational × Term} {es : Entries} → EntriesFor P es → Among e es → P e.1
 for_among (entry p q g) here = p
 for_among (entry p q g) (behind a) = for_among g a
+for_among {P = P} {e = e} none x3 = elim x3 [ ]
 
 pub weigh-same :
     (f g : Term → ℚ) (es : Entries) → ((e : Rational × Term) → Among e es → f e.1 ≡ g e.1) →

@@ -1,15 +1,15 @@
 -- Sums in lent bytes: an area has 2,048 places of 10 bytes, a record number in two and a number in eight, in the order
 -- of the map; what is not used is 0.
-use Rattle.std.specs.Prelude.{◌≡◌, Bool, true, false, ◌&&◌, not, List, [], ◌∷◌, ℕ, zero, suc, ◌+◌, ◌≤◌, ◌<◌, eqb, length, drop}
+use Rattle.std.specs.Prelude.{◌≡◌, Bool, true, ◌&&◌, not, List, [], ◌∷◌, ℕ, zero, suc, ◌+◌, ◌≤◌, ◌<◌, eqb, length, drop}
 use Rattle.std.proofs.Math.Option.{Option, some, none}
 use Rattle.numbers.specs.Rational.{Rational, Proper}
 use Rattle.numbers.specs.Bytes.{Bytes, le, put, bytes_of, number_at}
 use Rattle.terms.specs.Term.{Term, record_number, same}
 use Rattle.terms.specs.Book.{count, tree}
-use Rattle.rules.specs.Refusal.{Result, number}
+use Rattle.rules.specs.Refusal.{Result}
 use Rattle.rules.specs.Refusal.Outcome.{ok, refused}
 use Rattle.rules.specs.Refusal.Refusal.{number_range}
-use Rattle.index_map.specs.IndexMap.{Map, Keys, combination}
+use Rattle.index_map.specs.IndexMap.{Map, Keys}
 use Rattle.index_map.specs.declared.index_map.Inserted.{Inserted}
 use Rattle.index_map.specs.declared.index_map.Inserted.TheVariants.{Length, OutOfRange}
 use Rattle.index_map.specs.declared.index_map.Coefficient.{Coefficient}
