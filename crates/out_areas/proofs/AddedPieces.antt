@@ -14,7 +14,7 @@ use Rattle.numbers.specs.Bytes.{Bytes, bytes_of}
 use Rattle.terms.specs.Book.{count}
 use Rattle.runs.specs.Run.{A, record_bytes, end, also}
 use Rattle.out_areas.specs.Farkas.{Written, real_record, tail_bytes, fits}
-use Rattle.out_areas.specs.Memory.OutAreas.{Stored, WritesOne, with_arg, with_constant, more}
+use Rattle.out_areas.specs.Memory.OutAreas.{Stored, WritesOne, with_arg, with_constant}
 use Rattle.out_areas.specs.declared.out_areas.Out.{Out}
 use Rattle.out_areas.proofs.Everywhere.{every_append}
 use Rattle.out_areas.proofs.RealRecord.{length-real}

@@ -6,7 +6,6 @@
 use mathlib.Core.Path.{◌≡◌, refl, sym, ap, subst, ◌∙◌}
 use mathlib.Core.Bool.{Bool, true, false}
 use mathlib.Core.List.{List, [], ◌∷◌, ◌++◌}
-use mathlib.Core.Logic.{◌⊎◌}
 use mathlib.Core.Option.{Option, some}
 use Prim.Native.Nat.{ℕ, zero, suc, ◌+◌, ◌*◌, ◌-◌, ◌/◌, ◌≤◌, ◌<◌}
 use native.Mathlib.Nat.{zero-add, sub-zero}
@@ -23,7 +22,6 @@ use Rattle.terms.specs.Book.{record_of, kind, tree}
 use Rattle.terms.specs.Readers.{as_number, Finds}
 use Rattle.terms.specs.declared.term.Reading.{Reading}
 use Rattle.terms.specs.declared.term.Reading.TheVariants.{Value}
-use Rattle.terms.proofs.Findings.{tag, no_value}
 use Rattle.terms.proofs.RecordReadings.{Node, record_node}
 use Rattle.terms.proofs.RecordReadings.Node.{an_integer, a_rational, a_bitvector, an_operation, an_atom}
 use Rattle.out_areas.specs.Farkas.{real_record, is_real, find_real, place_in, tail_bytes, place_or}
@@ -54,10 +52,11 @@ other-node q (an_operation k) other = refl
 other-node q (an_atom f g h l) other = refl
 
 -- a reading that is no number is that of no real constant
-unread : (q : Rational) (t : Term) (r : Reading) → (tag r ≡ 1) ⊎ (tag r ≡ 2) → r ≡ as_number t → false ≡ is_real q t
+unread :
+    (q : Rational) (t : Term) (r : Reading) → ((v : Rational) → r ≡ Value v → ⊥) → r ≡ as_number t → false ≡ is_real q t
 unfolding as_number
 unread q (integer i v) r h e = refl
-unread q (rational i v) r h e = no_value (λ s. s ≡ Value v → false ≡ eq_q q v) (λ f. cc) (λ f. cc) r h e
+unread q (rational i v) r h e = absurd (h v e)
 unread q (bitvector i v w) r h e = refl
 unread q (atom i s n) r h e = refl
 unread q (op i o ts) r h e = refl
@@ -74,7 +73,8 @@ module _ (b : Bytes) (i : ℕ) (q : Rational) where
     other-kind other = other-node q (record_node b i r-is) (λ e. other (k-is ∙ e))
 
   pub no_number :
-      {a : Reading} → Finds a (as_number (tree b i)) → (tag a ≡ 1) ⊎ (tag a ≡ 2) → false ≡ is_real q (tree b i)
+      {a : Reading} → Finds a (as_number (tree b i)) → ((v : Rational) → a ≡ Value v → ⊥) →
+      false ≡ is_real q (tree b i)
   no_number {a} found h = unread q (tree b i) a h found.is
 
 -- ---- the function `find_real`

@@ -2,7 +2,7 @@
 -- the readers that it calls have found. `bounded` at document 01's range is the test of `checked`, by which
 -- `Number::div` answers.
 use mathlib.Core.Path.{◌≡◌, refl, sym, ◌∙◌, ap, subst}
-use mathlib.Core.Logic.{◌⊎◌, ⊎_elim}
+use mathlib.Core.Logic.{◌⊎◌, ⊎_elim, inl, inr}
 use mathlib.Core.Bool.{Bool, true, false, cond, and-eq-true_iff}
 use mathlib.Core.Option.{some, none}
 use Prim.Native.Nat.{ℕ}
@@ -118,6 +118,11 @@ no_value P x y (Value q) h = absurd (⊎_elim (λ e. omega arith) (λ e. omega a
 no_value P x y NotNumber h = x
 no_value P x y OutOfRange h = y
 
+pub tag_of_no_value : (r : Reading) → ((q : Rational) → r ≡ Value q → ⊥) → (tag r ≡ 1) ⊎ (tag r ≡ 2)
+tag_of_no_value (Value q) h = absurd (h q refl)
+tag_of_no_value NotNumber h = inl refl
+tag_of_no_value OutOfRange h = inr refl
+
 -- the fraction at record i is that of record x over what is read of the divisor
 pub record OverReading (b : Bytes) (i x : ℕ) (d : Reading) : Type 0 where
   pub is : as_unsigned_fraction ranged (tree b i) ≡ divided ranged (tree b x) d
@@ -143,9 +148,11 @@ module _ {b : Bytes} {i : ℕ} {w : Two} (c : Children b i w (quotient_of (tree 
       record { is = rw (there-is, as_unsigned_fraction, d-is.is) }
 
 module _ {b : Bytes} {i x : ℕ} {d : Reading} (f : OverReading b i x d) where
-  pub no_divisor : (tag d ≡ 1) ⊎ (tag d ≡ 2) → Finds NotNumber (as_unsigned_fraction ranged (tree b i))
+  pub no_divisor :
+      ((q : Rational) → d ≡ Value q → ⊥) → Finds NotNumber (as_unsigned_fraction ranged (tree b i))
   no_divisor h =
-      finds tt (sym (f.is ∙ no_value (λ (r : Reading). divided ranged (tree b x) r ≡ NotNumber) refl refl d h))
+      let told = tag_of_no_value d h in
+      finds tt (sym (f.is ∙ no_value (λ (r : Reading). divided ranged (tree b x) r ≡ NotNumber) refl refl d told))
 
   module _ {q : Rational} (q-is : d ≡ Value q) where
     pub zero-divisor : is_zero q ≡ true → Finds NotNumber (as_unsigned_fraction ranged (tree b i))
@@ -156,8 +163,11 @@ module _ {b : Bytes} {i x : ℕ} {d : Reading} (f : OverReading b i x d) where
     over-number z n-is = record { is = f.is ∙ rw (q-is, divided, z, n-is.is) }
 
 module _ {b : Bytes} {i : ℕ} {n : Reading} {q : Rational} (f : OverNumber b i n q) where
-  pub no_dividend : (tag n ≡ 1) ⊎ (tag n ≡ 2) → Finds NotNumber (as_unsigned_fraction ranged (tree b i))
-  no_dividend h = finds tt (sym (f.is ∙ no_value (λ (r : Reading). over ranged r q ≡ NotNumber) refl refl n h))
+  pub no_dividend :
+      ((p : Rational) → n ≡ Value p → ⊥) → Finds NotNumber (as_unsigned_fraction ranged (tree b i))
+  no_dividend h =
+      let told = tag_of_no_value n h in
+      finds tt (sym (f.is ∙ no_value (λ (r : Reading). over ranged r q ≡ NotNumber) refl refl n told))
 
   module _ {p : Rational} (p_is : n ≡ Value p) {a : Checked} (g : Gives a (checked (div_q p q))) where
     quotient_is : {r : Reading} → reading a ≡ r → r ≡ as_unsigned_fraction ranged (tree b i)

@@ -10,7 +10,6 @@ use native.Mathlib.Omega.{arith}
 use borrow.Author.Tests.{eqb-true}
 use lib.Dec.{eqb}
 use lib.IntN.{nat_abs}
-use Rattle.numbers.specs.Rational as Rational
 use Rattle.numbers.specs.Rational.{Rational, div_q, is_zero}
 use Rattle.terms.specs.Operator.{Sub, IntDiv}
 use Rattle.terms.specs.Term.{Term, Terms, record_number, args_of, one?, two?, unary, binary}

@@ -12,7 +12,7 @@ use Rattle.terms.specs.Term.{Term, Terms}
 use Rattle.terms.specs.Term.Sort.{bool, int, real, bits}
 use Rattle.terms.specs.Term.Term.{integer, rational, bitvector, atom, op}
 use Rattle.terms.specs.Term.Terms.{nil, ◌▹◌}
-use Rattle.terms.specs.Smtlib.{Assignment, as_pair, is_true, value, meaning, every, any, chain, fold_left, sum_z}
+use Rattle.terms.specs.Smtlib.{Assignment, as_pair, value, meaning, every, any, chain, fold_left, sum_z}
 use Rattle.terms.specs.Smtlib.{product_z, holds, divs_even}
 use Rattle.terms.specs.BookExamples.{reads}
 

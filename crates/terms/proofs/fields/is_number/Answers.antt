@@ -4,7 +4,6 @@ use native.Mathlib.Omega.{arith}
 use lib.IntN.{nat_abs, pos}
 use lib.Signed.{lt_z}
 use mir.Facts.{to_z-of_z}
-use borrow.Author.Rules.{rules}
 use Rattle.numbers.specs.Rational.{Rational, frac}
 use Rattle.terms.proofs.Layouts.{passed, stopped, size_is}
 use Rattle.numbers.proofs.Ranges.{in_range_of_sizes, large-num, large-den}

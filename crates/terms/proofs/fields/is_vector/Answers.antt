@@ -1,17 +1,9 @@
 -- A width is at most 30, so that the shift of 1 is the power of two.
 use mathlib.Core.Path.{ap, sym, ◌∙◌}
-use Prim.Native.Nat.{◌≤◌}
 use native.Mathlib.Omega.{arith}
-use borrow.Author.Rules.{rules}
 use Rattle.terms.specs.Book.{is_width}
 use Rattle.terms.proofs.Layouts.{vector_of_width, stopped, width-bounded}
 use Rattle.terms.proofs.fields.is_vector.Goals as goal
-use Rattle.terms.proofs.fields.is_vector.Lts as lts
-use Rattle.terms.proofs.fields.is_vector.Reads as reads
-use Rattle.terms.proofs.fields.is_vector.Tie as tie
-
-bounded : (c : (lts.Then1 tie.the-claims reads.Pre reads.Post)) → c.read_u64-w.result ≤ 30
-bounded c = width-bounded _ (sym c.is_width.ensures ∙ c.if-is_width.true)
 
 pub returns-then-is_width : goal.returns-then-is_width
 returns-then-is_width c =
@@ -23,4 +15,5 @@ returns c =
     stopped _ (c.is_width.ensures ∙ ap is_width c.read_u64-w.ensures) c.if-is_width.false
 
 pub overflow_shl-result : goal.overflow_shl-result
-overflow_shl-result c = omega (arith, bounded c.before)
+overflow_shl-result c =
+    omega (arith, width-bounded c.read_u64-w.result (sym c.is_width.ensures ∙ c.if-is_width.true))

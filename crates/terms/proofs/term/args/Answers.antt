@@ -1,6 +1,5 @@
 -- The part of the record that holds the arguments is empty where the term is no operation.
 use mathlib.Core.Path.{sym, ◌∙◌, ap}
-use borrow.Author.Rules.{rules}
 use Rattle.terms.specs.Book.{arg_bytes}
 use Rattle.terms.proofs.RecordReadings.{arguments_of_record}
 use Rattle.terms.proofs.term.args.Goals as goal

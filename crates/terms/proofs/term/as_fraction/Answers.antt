@@ -1,6 +1,5 @@
 -- A term that is no operation is read as it stands.
 use mathlib.Core.Path.{sym, ◌∙◌}
-use borrow.Author.Rules.{rules}
 use Rattle.terms.specs.Readers.{ranged}
 use Rattle.terms.proofs.Readings.{plain-fraction}
 use Rattle.terms.proofs.term.as_fraction.Goals as goal

@@ -1,5 +1,4 @@
 -- What number a record's bytes are does not depend on its place or its arguments.
-use borrow.Author.Rules.{rules}
 use Rattle.terms.proofs.RecordReadings.{as_number_record}
 use Rattle.terms.proofs.term.as_number.Goals as goal
 

@@ -1,5 +1,4 @@
 -- The fraction below a minus is negated; without a minus it is the term's own.
-use borrow.Author.Rules.{rules}
 use Rattle.terms.specs.Readers.{ranged, as_unsigned_fraction, as_fraction}
 use Rattle.terms.proofs.Findings.{signed-inside, signed-itself}
 use Rattle.terms.proofs.term.as_operation.Goals as goal

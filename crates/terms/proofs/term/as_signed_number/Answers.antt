@@ -1,5 +1,4 @@
 -- The number below a minus is negated; without a minus it is the term's own.
-use borrow.Author.Rules.{rules}
 use Rattle.terms.specs.Readers.{as_number, as_signed_number}
 use Rattle.terms.proofs.Findings.{signed-inside, signed-itself}
 use Rattle.terms.proofs.term.as_signed_number.Goals as goal

@@ -1,5 +1,4 @@
 -- `Number::neg` makes the negation of a number, and the other readings stay.
-use borrow.Author.Rules.{rules}
 use Rattle.terms.proofs.Findings.{finds, negated-value}
 use Rattle.terms.proofs.term.negated.Goals as goal
 

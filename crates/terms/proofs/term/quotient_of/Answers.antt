@@ -1,5 +1,4 @@
 -- Where there is no quotient of integers, one of reals is asked for.
-use borrow.Author.Rules.{rules}
 use Rattle.terms.proofs.Children.{whole-quotient, real-quotient}
 use Rattle.terms.proofs.term.quotient_of.Goals as goal
 

@@ -1,5 +1,4 @@
 -- It is `unary` at the operator `not`.
-use borrow.Author.Rules.{rules}
 use Rattle.terms.specs.Readers.{remove_negation}
 use Rattle.terms.proofs.term.remove_negation.Goals as goal
 
