@@ -12,8 +12,8 @@ use lib.ListN.{drop}
 use lib.IntN.{ℤ, pos, negsuc, nat_abs}
 use lib.Signed.{lt_z}
 use mir.Syntax.{w64}
-use mir.Val.{to_z, of_z}
-use mir.Facts.{sfits_lit}
+use mir.Val.{Fits, to_z}
+use mir.Facts.{sfits_lit, of_z-to_z}
 use Rattle.numbers.specs.Pair.{eq_z}
 use Rattle.numbers.specs.Rational.{Rational, Proper, limit, whole, gcd, is_integer}
 use Rattle.numbers.specs.Bytes.{Bytes, number_at}
@@ -59,58 +59,50 @@ gcd-le a (suc b) m h k = le_trans (le_of_dvd (zero-lt-suc b) (gcd_dvd_right a (s
 abbrev pub DivisorFrom : Bytes → ℕ → ℤ → ℤ → Type 0
 DivisorFrom w n s r = Proper (whole r) × ((b : Bytes) → Kept b w n → r ≡ gcd_from s (entries_of b w n))
 
-pub record Dividing (w : Bytes) (n : ℕ) (s : ℤ) (bits k : ℕ) : Type 0 where
-  pub divisor : ℤ
-  pub same : bits ≡ of_z w64 divisor
+pub record Dividing (w : Bytes) (n : ℕ) (s divisor : ℤ) (k : ℕ) : Type 0 where
   pub range : nat_abs divisor ≤ limit
   pub inside : k ≤ n
   pub left : (b : Bytes) → Kept b w n → gcd_from s (entries_of b w n) ≡ gcd_from divisor (drop k (entries_of b w n))
 
-pub dividing_none : (w : Bytes) (n : ℕ) (s : ℤ) → nat_abs s ≤ limit → Dividing w n (R s) (of_z w64 s) 0
-dividing_none w n s h =
-    let e : R s ≡ s = small-back s h in
-    record {
-      divisor = R s;
-      same = ap (of_z w64) (sym e);
-      range = rw e h;
-      inside = omega arith;
-      left = λ b kept. refl;
-    }
-
 -- the machine's start is s
+pub dividing_none : (w : Bytes) (n : ℕ) (s : ℤ) → nat_abs s ≤ limit → Dividing w n (R s) (R s) 0
+dividing_none w n s h =
+    record { range = rw (small-back s h) h; inside = omega arith; left = λ b kept. refl }
+
 pub from_start :
     {w : Bytes} {n : ℕ} {r : ℤ} (s : ℤ) → nat_abs s ≤ limit → DivisorFrom w n (R s) r → DivisorFrom w n s r
 from_start {w} {n} {r} s h = subst (λ z. DivisorFrom w n z r) (small-back s h)
 
-module _ {w : Bytes} {n : ℕ} {s : ℤ} {bits k : ℕ} (dividing : Dividing w n s bits k) where
-  tested : eqb bits 1 ≡ eq_z dividing.divisor (pos 1)
-  tested =
-      rw dividing.same
-      (eqb-of_z dividing.divisor (pos 1) (small-fits dividing.divisor dividing.range) (sfits_lit tt))
+-- the machine has the divisor's bits
+module _
+    {w : Bytes} {n : ℕ} {s : ℤ} {bits k : ℕ} (dividing : Dividing w n s (to_z w64 bits) k) (fits : Fits w64 bits) where
+  abbrev divisor : ℤ
+  divisor = to_z w64 bits
 
-  back : to_z w64 bits ≡ dividing.divisor
-  back = ap (to_z w64) dividing.same ∙ small-back dividing.divisor dividing.range
+  tested : eqb bits 1 ≡ eq_z divisor (pos 1)
+  tested =
+      ap (λ x. eqb x 1) (sym (of_z-to_z fits))
+      ∙ eqb-of_z divisor (pos 1) (small-fits divisor dividing.range) (sfits_lit tt)
 
   -- the next divisor, from the sizes of the one so far and of the value
   pub next-divisor :
       {v : Rational} {a c d : ℕ} → Proper v → a ≡ nat_abs (to_z w64 bits) → c ≡ nat_abs (R v.num) → d ≡ gcd a c →
-      (d ≡ gcd (nat_abs dividing.divisor) (nat_abs v.num)) × (d ≤ limit)
+      (d ≡ gcd (nat_abs divisor) (nat_abs v.num)) × (d ≤ limit)
   next-divisor {v} proper left right is =
-      let l = left ∙ ap nat_abs back in
       let r = right ∙ ap nat_abs (small-back v.num proper.numerator) in
-      let e = is ∙ ap₂ gcd l r in
+      let e = is ∙ ap₂ gcd left r in
       (e, rw e (gcd-le _ _ limit dividing.range proper.numerator))
 
   -- v is the value of entry k
   left_at :
       (below : k < n) {v : Rational} → v ≡ number_at w (10 * k + 2) → (b : Bytes) (kept : Kept b w n) →
       gcd_from s (entries_of b w n)
-      ≡ gcd_from dividing.divisor (((kept_at kept k below).entry.0, v) ∷ drop (k + 1) (entries_of b w n))
+      ≡ gcd_from divisor (((kept_at kept k below).entry.0, v) ∷ drop (k + 1) (entries_of b w n))
   left_at below {v} is b kept =
       let at = kept_at kept k below in
       let value : at.entry.1 ≡ v = sym (is ∙ at.value) in
       dividing.left b kept
-      ∙ ap (gcd_from dividing.divisor)
+      ∙ ap (gcd_from divisor)
       (at.here ∙ ap (λ q. (at.entry.0, q) ∷ drop (k + 1) (entries_of b w n)) value)
 
   pub divided_one : k < n → bits ≡ 1 → DivisorFrom w n s (pos 1)
@@ -122,12 +114,11 @@ module _ {w : Bytes} {n : ℕ} {s : ℤ} {bits k : ℕ} (dividing : Dividing w n
 
   module _ (below : k < n) {v : Rational} (is : v ≡ number_at w (10 * k + 2)) (other : bits ≡ 1 → ⊥) where
     pub dividing_more :
-        {d : ℕ} → is_integer v ≡ true → (d ≡ gcd (nat_abs dividing.divisor) (nat_abs v.num)) × (d ≤ limit) →
-        Dividing w n s d (k + 1)
+        {d : ℕ} → is_integer v ≡ true → (d ≡ gcd (nat_abs divisor) (nat_abs v.num)) × (d ≤ limit) →
+        Dividing w n s (to_z w64 d) (k + 1)
     dividing_more {d} integer next =
+        rw (small-back (pos d) next.1)
         record {
-          divisor = pos d;
-          same = refl;
           range = next.1;
           inside = omega arith;
           left = λ b kept.
@@ -146,18 +137,18 @@ module _ {w : Bytes} {n : ℕ} {s : ℤ} {bits k : ℕ} (dividing : Dividing w n
   module _ (above : n ≤ k) where
     at_end :
         (t : Bool) → lt_z (to_z w64 bits) (pos 1) ≡ t → (b : Bytes) → Kept b w n →
-        gcd_from s (entries_of b w n) ≡ elim t as (λ x. ℤ) [ true ↦ pos 1 | false ↦ dividing.divisor ]
+        gcd_from s (entries_of b w n) ≡ elim t as (λ x. ℤ) [ true ↦ pos 1 | false ↦ divisor ]
     at_end t e b kept =
         dividing.left b kept
-        ∙ ap (gcd_from dividing.divisor) (all_behind {k = k} kept above)
-        ∙ at_the_end dividing.divisor t (rw back at e)
+        ∙ ap (gcd_from divisor) (all_behind {k = k} kept above)
+        ∙ at_the_end divisor t e
 
     pub divided-low : lt_z (to_z w64 bits) (pos 1) ≡ true → DivisorFrom w n s (pos 1)
     divided-low e = (whole-proper (pos 1) (omega arith), λ b kept. sym (at_end true e b kept))
 
     pub divided-high : lt_z (to_z w64 bits) (pos 1) ≡ false → DivisorFrom w n s (to_z w64 bits)
     divided-high e =
-        (rw back (whole-proper dividing.divisor dividing.range), λ b kept. back ∙ sym (at_end false e b kept))
+        (whole-proper divisor dividing.range, λ b kept. sym (at_end false e b kept))
 
 -- ---- with the constant
 

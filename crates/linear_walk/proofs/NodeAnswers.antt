@@ -2,7 +2,6 @@
 -- answer, from what the callees have promised.
 use mathlib.Core.Path.{◌≡◌, refl, sym, ◌∙◌, ap}
 use mathlib.Core.Bool.{Bool, true, false, ◌&&◌}
-use mathlib.Core.Logic.{◌⊎◌, ⊎_elim}
 use mathlib.Core.Option.{some, none}
 use Prim.Native.Nat.{ℕ, suc}
 use native.Mathlib.Omega.{arith}
@@ -15,7 +14,7 @@ use Rattle.terms.specs.Term.{Term, Terms, two?, binary}
 use Rattle.numbers.specs.Choice.{if◌then◌else◌}
 use Rattle.terms.specs.Term.Term.{integer, rational, bitvector, atom, op}
 use Rattle.terms.specs.Term.Terms.{nil, ◌▹◌}
-use Rattle.terms.specs.Book.{tree, arguments}
+use Rattle.terms.specs.Book.{tree}
 use Rattle.terms.specs.Readers.{Finds, Children, found_two, ranged, as_number, as_fraction, as_op, operator_of, arguments_of}
 use Rattle.terms.specs.Readers.{reading_refusal}
 use Rattle.numbers.specs.declared.number.Checked.{Checked}
@@ -26,7 +25,6 @@ use Rattle.terms.specs.declared.term.Two.{Two}
 use Rattle.terms.specs.declared.term.Two.TheVariants.{Both, NotTwo}
 use Rattle.terms.proofs.NumberedNodes.{record_number-tree}
 use Rattle.terms.proofs.Readings.{binary-shape, plain-fraction}
-use Rattle.terms.proofs.Findings.{tag}
 use Rattle.linear_walk.specs.LinearTerms.{arm_of}
 use Rattle.rules.specs.Shapes.{size}
 use Rattle.linear_walk.specs.LinearTerms.Arm.{leaf}
@@ -70,10 +68,10 @@ read-constant coeff e n = node_of_lem n (sym (rw e))
 -- ---- product
 
 -- a reading that is neither out of range nor a number
-not-number : (r : Reading) → (tag r ≡ 0) ⊎ (tag r ≡ 1) → (tag r ≡ 1) ⊎ (tag r ≡ 2) → r ≡ NotNumber
-not-number (Value q) h k = absurd (⊎_elim (λ e. omega arith) (λ e. omega arith) k)
+not-number : (r : Reading) → (r ≡ OutOfRange → ⊥) → ((q : Rational) → r ≡ Value q → ⊥) → r ≡ NotNumber
+not-number (Value q) h k = absurd (k q refl)
 not-number NotNumber h k = refl
-not-number OutOfRange h k = absurd (⊎_elim (λ e. omega arith) (λ e. omega arith) h)
+not-number OutOfRange h k = absurd (h refl)
 
 module _ (b : Bytes) (x y : ℕ) (coeff : Rational) {p q : Reading}
     (first : Finds p (as_fraction ranged (tree b x))) (second : Finds q (as_fraction ranged (tree b y))) where
@@ -93,18 +91,18 @@ module _ (b : Bytes) (x y : ℕ) (coeff : Rational) {p q : Reading}
       go OutOfRange = refl
 
   pub first_number :
-      {v : Rational} {r : Node} → p ≡ Value v → (tag q ≡ 0) ⊎ (tag q ≡ 1) → NodeIs r (factor_node y v coeff) →
+      {v : Rational} {r : Node} → p ≡ Value v → (q ≡ OutOfRange → ⊥) → NodeIs r (factor_node y v coeff) →
       NodeIs r (product_node (tree b x) (tree b y) coeff)
   first_number {v} e h n =
       node_of_lem n (sym (go q h) ∙ ap (λ (r : Reading). factors_node r q x y coeff) (sym e) ∙ read-node)
     where
-      go : (r : Reading) → (tag r ≡ 0) ⊎ (tag r ≡ 1) → factors_node (Value v) r x y coeff ≡ factor_node y v coeff
+      go : (r : Reading) → (r ≡ OutOfRange → ⊥) → factors_node (Value v) r x y coeff ≡ factor_node y v coeff
       go (Value w) h = refl
       go NotNumber h = refl
-      go OutOfRange h = absurd (⊎_elim (λ e. omega arith) (λ e. omega arith) h)
+      go OutOfRange h = absurd (h refl)
 
   -- the first is neither out of range nor a number
-  module _ (inside : (tag p ≡ 0) ⊎ (tag p ≡ 1)) (None-first : (tag p ≡ 1) ⊎ (tag p ≡ 2)) where
+  module _ (inside : p ≡ OutOfRange → ⊥) (None-first : (v : Rational) → p ≡ Value v → ⊥) where
     p_is : p ≡ NotNumber
     p_is = not-number p inside None-first
 
@@ -114,7 +112,7 @@ module _ (b : Bytes) (x y : ℕ) (coeff : Rational) {p q : Reading}
     second_number e n = node_of_lem n (sym (rw (p_is, e)) ∙ read-node)
 
     pub no_number :
-        (tag q ≡ 0) ⊎ (tag q ≡ 1) → (tag q ≡ 1) ⊎ (tag q ≡ 2) →
+        (q ≡ OutOfRange → ⊥) → ((v : Rational) → q ≡ Value v → ⊥) →
         NodeIs node.Atom (product_node (tree b x) (tree b y) coeff)
     no_number h k = node_is tt (sym (rw (p_is, not-number q h k)) ∙ read-node)
 

@@ -15,7 +15,7 @@ use Rattle.terms.specs.Term.{Term, Terms, record_number, two?}
 use Rattle.numbers.specs.Choice.{if◌then◌else◌}
 use Rattle.terms.specs.Term.Term.{integer, rational, bitvector, atom, op}
 use Rattle.terms.specs.Term.Terms.{nil, ◌▹◌}
-use Rattle.terms.specs.Book.{record_of, tree, arguments, layout_ok}
+use Rattle.terms.specs.Book.{record_of, tree, layout_ok}
 use Rattle.terms.specs.Readers.{ranged, as_fraction, as_op, arguments_of}
 use Rattle.numbers.specs.declared.number.Checked.{Checked}
 use Rattle.numbers.specs.declared.number.Checked.TheVariants as checked

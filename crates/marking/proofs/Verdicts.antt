@@ -38,7 +38,7 @@ book-classes SortBroken = refl
 book-classes RecordRepeated = refl
 
 rule-classes : (r : Refusal) → classes (stopped r) ≡ ranges (number r)
-rule-classes r = elim r [
+rule-classes r = elim r as (λ k. classes (stopped k) ≡ ranges (number k)) [
   | visit_limit ↦ refl
   | number_range ↦ refl
   | polynomial_size ↦ refl

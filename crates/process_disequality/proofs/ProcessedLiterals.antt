@@ -11,7 +11,7 @@ use Rattle.rules.specs.Refusal.{Result, ◌>>=◌}
 use Rattle.rules.specs.Refusal.Outcome.{ok}
 use Rattle.rules.specs.Limits.{limited}
 use Rattle.index_map.specs.Memory.Entries.{blanked, Held}
-use Rattle.disequality.specs.Disequality.{Disequality, disequality, disequality_of}
+use Rattle.disequality.specs.Disequality.{disequality, disequality_of}
 use Rattle.process_disequality.specs.ProcessDisequality.{Progress, progress, process_disequality}
 use Rattle.linear_comb.specs.Memory.WorkArea.{Sum, comb_of, area_of, with_area, Apart, KeptSum, SumHas, comb_with}
 use Rattle.rules.specs.Memory.Parts.{Refuses}

@@ -1,0 +1,52 @@
+-- The term's place says what is added: a number to the constant as in `add_constant`, an atom by `enter`. A refusal
+-- empties the area. Where there are arguments, the answer is their place.
+use Rattle.std.proofs.Common.{refl, rules}
+use Rattle.linear_walk.proofs.WalkSteps.{constant_out, constant-added, entry_out, entry-added, sum-small}
+use Rattle.linear_walk.proofs.WalkSteps.{constant_pre, enter_pre, atom-inside, at_refusal, at_constant, at_atom}
+use Rattle.linear_walk.proofs.linear_walk.add_flat.Goals as goal
+
+pub add-requires : goal.add-requires
+add-requires c = (constant_pre c.requires c.descend.ensures c.in-Constant.is).1
+
+-- the sum of the constants is out of range, and in range
+pub returns-in_default : goal.returns-in_default
+returns-in_default c =
+    at_constant c.requires c.descend.ensures c.in-Constant.is
+    (constant_out c.requires.sum _ _ _ _ c.add.ensures c.in_default.is (search rules))
+
+pub returns-in-Args : goal.returns-in-Args
+returns-in-Args c = ((refl, refl), rw c.in-Args.is at c.descend.ensures)
+
+pub returns-in-Value : goal.returns-in-Value
+returns-in-Value c =
+    at_constant c.requires c.descend.ensures c.in-Constant.is
+    (constant-added c.requires.sum _ _ _ _ c.add.ensures c.in-Value.is)
+
+pub enter-requires : goal.enter-requires
+enter-requires c = enter_pre c.requires c.descend.ensures c.in-Atom.is
+
+-- the atom's coefficient is out of range, and in range
+pub returns-in_default-enter : goal.returns-in_default-enter
+returns-in_default-enter c =
+    let pre = c.requires in
+    let leads = c.descend.ensures in
+    let atom = c.in-Atom.is in
+    let enters = c.enter.ensures.inserts _ pre.sum.kept (atom-inside pre leads atom) pre.atoms _ in
+    at_atom pre leads atom (entry_out pre.sum _ _ _ _ _ enters c.in_default-enter.is) c.enter.ensures.noted_after
+
+pub returns-in-Length : goal.returns-in-Length
+returns-in-Length c =
+    let pre = c.requires in
+    let leads = c.descend.ensures in
+    let atom = c.in-Atom.is in
+    let enters = c.enter.ensures.inserts _ pre.sum.kept (atom-inside pre leads atom) pre.atoms _ in
+    at_atom pre leads atom (entry-added pre.sum _ _ _ _ _ enters c.in-Length.is) c.enter.ensures.noted_after
+
+pub returns-in-Refused : goal.returns-in-Refused
+returns-in-Refused c = at_refusal c.requires c.descend.ensures c.in-Refused.is (search rules)
+
+pub clear-requires : goal.clear-requires
+clear-requires c = sum-small c.requires
+
+pub clear-requires-in-Refused : goal.clear-requires-in-Refused
+clear-requires-in-Refused c = sum-small c.requires
