@@ -37,7 +37,7 @@ def documents():
 
 
 def crates():
-    return [line.split(":")[0] for line in text("crates.txt").splitlines() if re.match(r"\w+:", line)]
+    return re.findall(r"^(\w+)(?: staticlib)?:", text("crates.txt"), re.M)
 
 
 def is_there(crate, rest):
@@ -82,12 +82,12 @@ def reading():
 
 
 def memory():
-    """READING.md's table of the modules in specs/memory."""
+    """READING.md's table of the modules in specs/Memory."""
     said = {}
     for crate, modules in re.findall(r"^\| (\w+) \| ([\w, ]+) \|$", text("docs/READING.md"), re.M):
         said[crate] = sorted(modules.split(", "))
     for crate in crates():
-        folder = os.path.join(ROOT, "crates", crate, "specs", "memory")
+        folder = os.path.join(ROOT, "crates", crate, "specs", "Memory")
         there = sorted(name[:-5] for name in os.listdir(folder)) if os.path.isdir(folder) else []
         if there and said.get(crate) != there:
             yield "docs/READING.md: the memory modules of %s are %s" % (crate, ", ".join(there))
@@ -125,12 +125,12 @@ def dependencies():
     """A name too many in crates.txt is a level more, on which a crate waits."""
     known = crates()
     for line in text("crates.txt").splitlines():
-        found = re.match(r"(\w+):(.*)", line)
+        found = re.match(r"(\w+)(?: staticlib)?:(.*)", line)
         if not found:
             continue
         crate, said = found.group(1), {name for name in found.group(2).split() if name in known}
         whole = "\n".join(sources(crate))
-        named = set(re.findall(r"Rattle·(\w+?)[.·]", whole)) | set(re.findall(r"^(?:pub )?use (\w+)::", whole, re.M))
+        named = set(re.findall(r"Rattle\.(\w+)\.", whole)) | set(re.findall(r"^(?:pub )?use (\w+)::", whole, re.M))
         named = (named & set(known)) - {crate}
         for name in sorted(said ^ named):
             yield "crates.txt: %s %s %s" % (crate, "need not name" if name in said else "does not name", name)

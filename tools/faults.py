@@ -2,7 +2,7 @@
 
     python3 tools/faults.py CRATE.. [--dry]
 
-tools/faults.txt has the faults, three lines each: the file and what stands there, what comes in its place. Each is tried by `rt dev` on a copy of
+tools/faults.txt has the faults, three lines each: the file and what stands there, what comes in its place. Each is tried by `rt check` on a copy of
 the repository, up to the crate that pins the definition: half a minute for one of alethe, after the first. --dry only looks that each place is
 there once.
 """
@@ -37,7 +37,7 @@ def tried(root, pinned, path, old, new):
         text = f.read()
     with open(path, "w", encoding="utf8") as f:
         f.write(text.replace(old, new))
-    out = subprocess.run(["rt", "dev", pinned], cwd=root, stdout=subprocess.PIPE, stderr=subprocess.STDOUT)
+    out = subprocess.run(["rt", "check"], cwd=os.path.join(root, "crates", pinned), stdout=subprocess.PIPE, stderr=subprocess.STDOUT)
     with open(path, "w", encoding="utf8") as f:
         f.write(text)
     errors = [line for line in out.stdout.decode().splitlines() if ": error" in line]

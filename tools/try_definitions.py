@@ -6,9 +6,9 @@ A case is a line: BOOK RUN LIMIT WORK OUTRUN OUTTAIL VERDICT STEPS VISITS WRITTE
 one. The book, the run and what is written are in hexadecimal, - where they are empty; the lengths of the work area and the out
 areas are in bytes. tools/marked.py --cases and tools/random_cases.py write such files.
 
-The cases become closed examples of a scratch crate, target/tried, N of them in a declaration (25 where nothing is said). Those of a
+The cases become closed examples of a scratch crate in a copy of the repository, N of them in a declaration (25 where nothing is said). Those of a
 declaration that is refused are tried again, one in a declaration, and of those that differ the definitions' answers are shown.
-The crate marked and those that it knows must be proved: `rt check marked` is run first. Exit status: 0 if no case differs, 1 if one does.
+The crate marked and those that it knows must be proved: `rt check` there is run first. Exit status: 0 if no case differs, 1 if one does.
 """
 import os
 import re
@@ -16,18 +16,16 @@ import shutil
 import struct
 import subprocess
 import sys
+import tempfile
 import time
 
 from books import argument, listed, record_of, record_text, run_text
 
 ROOT = os.path.join(os.path.dirname(os.path.abspath(__file__)), "..")
-TARGET = os.path.join(ROOT, "target")
-CRATE = os.path.join(TARGET, "tried")
-HEAD = """use mathlib.Core.Path.{_≡_, refl}
-use mathlib.Core.Bool.{Bool, true}
-use mathlib.Core.List.{List, [], _∷_}
-use Prim.Native.Nat.{ℕ}
-use lib.IntN.{pos, negsuc}
+# Outside the checkout: `rt ci` refuses sources that stand in no crate of crates.txt.
+COPY = os.path.join(tempfile.gettempdir(), "yirtabun-tried")
+CRATE = os.path.join(COPY, "crates", "tried")
+HEAD = """use Rattle.std.specs.Prelude.{◌≡◌, refl, Bool, true, List, [], ◌∷◌, ℕ, pos, negsuc}
 use Rattle.terms.specs.Operator.{Not, And, Or, Equals, LessThan, LessEq, GreaterThan, GreaterEq}
 use Rattle.terms.specs.Operator.{Add, Sub, Mult, IntDiv, RealDiv, ToReal, BvAdd, BvSub, BvNeg, BvMul}
 use Rattle.numbers.specs.Bytes.{Bytes}
@@ -124,32 +122,27 @@ def probe(name, case):
         case.room_tail,
     )
     told = "%s : List Bytes\nunfolding marks\n%s =\n    let a : Answer = %s in\n" % (name, name, call)
-    told += "    (a .verdict ∷ a .steps ∷ a .visits ∷ []) ∷ a .run ∷ a .tail ∷ []\n\n"
+    told += "    (a.verdict ∷ a.steps ∷ a.visits ∷ []) ∷ a.run ∷ a.tail ∷ []\n\n"
     return told + "%s-shown : %s ≡ []\nunfolding marks %s\n%s-shown = refl\n\n" % ((name,) * 4)
 
 
 def prove(modules):
-    """What the prover says of the scratch crate with these modules, by name."""
-    shutil.rmtree(CRATE, ignore_errors=True)
+    """What the prover says of the scratch crate with these modules, by name, in a copy of the repository."""
+    shutil.rmtree(COPY, ignore_errors=True)
+    shutil.copytree(os.path.join(ROOT, "crates"), os.path.join(COPY, "crates"))
+    with open(os.path.join(ROOT, "crates.txt"), encoding="utf8") as f, open(os.path.join(COPY, "crates.txt"), "w", encoding="utf8") as g:
+        g.write(f.read() + "tried: %s\n" % " ".join(known("marked")))
     for folder in ("src", "specs", "proofs"):
         os.makedirs(os.path.join(CRATE, folder))
-    open(os.path.join(CRATE, "src", "lib.rt"), "w").close()
+    with open(os.path.join(CRATE, "src", "lib.rt"), "w") as f:
+        f.write("#![tactic(auto)]\n")
     open(os.path.join(CRATE, "proofs", "Lib.antt"), "w").close()
     with open(os.path.join(CRATE, "specs", "Lib.antt"), "w") as f:
         f.writelines("pub mod %s\n" % name for name in modules)
     for name, text in modules.items():
         with open(os.path.join(CRATE, "specs", name + ".antt"), "w") as f:
             f.write(HEAD + text)
-    rt = os.path.realpath(shutil.which("rt"))
-    kit = os.environ.get("RATTLE_HOME", os.path.dirname(os.path.dirname(rt)))
-    own = os.path.join(kit, "on", os.uname().machine)
-    words = [os.path.join(own, "bin", "rattle"), "check", "--crate-name", "tried", os.path.join(CRATE, "src", "lib.rt")]
-    words += ["--extern", "std=" + os.path.join(own, "rlib", "std.rlib")]
-    for crate in known("marked"):
-        words += ["--extern", "%s=%s" % (crate, os.path.join(TARGET, "rlib", crate + ".rlib"))]
-    words += ["-L", "dependency=" + os.path.join(TARGET, "rlib"), "-L", "dependency=" + os.path.join(own, "rlib")]
-    words += ["--antt-project", os.path.join(kit, "logic", "antt-project.json"), "--logic-built", os.path.join(own, "logic-built")]
-    done = subprocess.run(words, stdout=subprocess.PIPE, stderr=subprocess.STDOUT)
+    done = subprocess.run(["rt", "check"], cwd=CRATE, stdout=subprocess.PIPE, stderr=subprocess.STDOUT)
     return done.returncode, done.stdout.decode()
 
 
@@ -167,7 +160,7 @@ def answer_of(name, said):
 def main():
     size = int(sys.argv[sys.argv.index("--chunk") + 1]) if "--chunk" in sys.argv else 25
     cases = [Case(i, line) for i, line in enumerate(open(sys.argv[1])) if line.strip()]
-    done = subprocess.run(["rt", "check", "marked"], cwd=ROOT, stdout=subprocess.PIPE, stderr=subprocess.STDOUT)
+    done = subprocess.run(["rt", "check"], cwd=os.path.join(ROOT, "crates", "marked"), stdout=subprocess.PIPE, stderr=subprocess.STDOUT)
     if done.returncode:
         sys.exit(done.stdout.decode()[-3000:] + "the crates are not proved")
     start = time.time()

@@ -1,4 +1,4 @@
-//! Links the static library that `rt staticlib yirtabun` writes.
+//! Links the static library that tools/staticlib makes.
 fn main() {
     let folder = std::path::Path::new(env!("CARGO_MANIFEST_DIR")).join("../target/staticlib");
     println!("cargo:rustc-link-search=native={}", folder.display());

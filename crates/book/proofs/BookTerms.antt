@@ -8,13 +8,13 @@ use mathlib.Core.List.{List, [], ◌∷◌}
 use Prim.Native.Nat.{ℕ, ◌<◌}
 use native.Mathlib.Omega.{arith}
 use borrow.Author.Tests.{ltb-true, eqb-true}
-use lib.Dec.{ltb, eqb}
+use lib.Dec.{ltb}
 use Rattle.numbers.specs.Bytes.{Bytes}
 use Rattle.terms.specs.Term.{Term, Terms, record_number, same}
-use Rattle.terms.specs.Term.Term.{integer, rational, atom, op}
+use Rattle.terms.specs.Term.Term.{op}
 use Rattle.terms.specs.Term.Terms.{nil, ◌▹◌}
 use Rattle.terms.specs.Book.{record_of, kind}
-use Rattle.terms.specs.Book.{numbers, arg_bytes, arguments, node, forest, tree, all_below, read_book}
+use Rattle.terms.specs.Book.{numbers, arg_bytes, arguments, forest, tree, all_below, read_book}
 use Rattle.terms.specs.Smtlib.{even_div, divs_even, all_divs_even}
 use Rattle.terms.specs.declared.reading.BookRead.TheVariants.{Records}
 use Rattle.terms.proofs.NumberedNodes.{node_is, record_number-tree}

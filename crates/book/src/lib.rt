@@ -1,4 +1,6 @@
 // Layer 1: a book is read: layout, sorts, equality.
+#![tactic(auto)]
+
 pub mod book;
 pub mod index;
 pub mod layout;

@@ -1,6 +1,6 @@
 -- A literal of rules 4 to 6 as a disequality, src/checker/rules/linear_arithmetic.rs: negated, its sides made
 -- combinations, strengthened over the integers.
-use Rattle.std.specs.Prelude.{Bool, true, false, ◌&&◌, ◌||◌, not, ℕ, eqb, ℤ, pos}
+use Rattle.std.specs.Prelude.{Bool, true, false, ◌&&◌, ◌||◌, ℕ, eqb, ℤ, pos}
 use Rattle.std.proofs.Math.Option.{Option, some, none}
 use Rattle.numbers.specs.Rational.{Rational, whole, mul_q, neg_q, floor_q, is_integer, is_zero, eq_q}
 use Rattle.terms.specs.Operator.{LessThan, LessEq, GreaterThan, GreaterEq}

@@ -21,7 +21,7 @@ use Rattle.book.proofs.Accepted.{accepted-count}
 use Rattle.terms.proofs.NumberedNodes.{record_number-tree}
 use Rattle.rules.specs.Limits.{Limits}
 use Rattle.runs.specs.Rule.Rule.{assume}
-use Rattle.runs.specs.Run.{Step, A, Every, end, also}
+use Rattle.runs.specs.Run.{Step, Every, end, also}
 use Rattle.marking.specs.Check.{Marking}
 use Rattle.elaborate.specs.Elaborate.{add_steps}
 use Rattle.out_areas.specs.Farkas.{Written, written, is_real, find_real, place_in, add_real, add_reals, step_bytes, tail_bytes}

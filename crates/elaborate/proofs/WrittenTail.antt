@@ -13,7 +13,7 @@ use lib.ListN.{length}
 use Rattle.numbers.specs.Rational.{Rational, eq_q}
 use Rattle.numbers.specs.Bytes.{Bytes}
 use Rattle.terms.specs.Book.{count, tree}
-use Rattle.runs.specs.Run.{Step, A, Every, end, also}
+use Rattle.runs.specs.Run.{Step, Every, end, also}
 use Rattle.elaborate.specs.Elaborate.{add_steps}
 use Rattle.out_areas.specs.Farkas.{Written, is_real, find_real, place_in, add_real, add_reals}
 use Rattle.out_areas.proofs.RealRecord.{Storable, Lacks}

@@ -10,7 +10,6 @@ use Rattle.rules.specs.Refusal.Outcome.{ok, refused}
 use Rattle.rules.specs.Refusal.Refusal.{expected_equal}
 use Rattle.rules.specs.Limits.{op_err}
 use Rattle.rules.specs.Memory.Parts.{Refuses, expected_bits, expected_operator}
-use Rattle.rules.specs.declared.readers.Expected.{Expected}
 use Rattle.rules.specs.declared.readers.ExpectedBits.{ExpectedBits}
 use Rattle.rules.specs.declared.readers.ExpectedBits.TheVariants as bits
 use Rattle.rules.specs.declared.readers.ExpectedOperator.{ExpectedOperator}

@@ -1,7 +1,7 @@
 -- The matcher of forms on a table of records: what each step of `bind`, `bind_all`, `solve` and `solve_all` makes of the
 -- names in the table is what the definition makes of them.
 --     bound-again, bound-other, bound-next, not-bound       a name
---     Binding, no-count       the parts of an equation, in a loop
+--     Binding, no_count       the parts of an equation, in a loop
 --     other-operation, no_name       an equation
 --     Solving       a form, in a loop
 use mathlib.Core.Path.{◌≡◌, refl, sym, ◌∙◌, ap, fun_ext}
@@ -17,7 +17,7 @@ use lib.ListN.{length, get_or, set, take, drop, replicate, drop_of_length-le, le
 use lib.Seq.{get_or-set_same, get_or-set_other, drop-cons, drop-drop}
 use Rattle.numbers.specs.Bytes.{Bytes}
 use Rattle.numbers.specs.Choice.{if◌then◌else◌}
-use Rattle.terms.specs.Term.{Term, Terms, same}
+use Rattle.terms.specs.Term.{Term, Terms}
 use Rattle.terms.specs.Term.Terms.{nil, ◌▹◌}
 use Rattle.terms.specs.Book.{tree, forest, argument_at, arguments, numbers}
 use Rattle.terms.specs.Readers.{operator_of, arguments_of}

@@ -2,8 +2,8 @@
 --     next, ends, asserts       a first step that is known
 --     bind-same, bind_assoc       a step for a step; steps in a row
 --     refuses, refuses-as, refused-then       a refusal with its number, and what hands it on
---     asserted-holds, asserted-refuses, refused-assertion       an assertion by its answer
---     assertion-ends, assertion-next, stops, goes_on       the first assertion of a row
+--     asserted-holds, asserted-refuses, refused_assertion       an assertion by its answer
+--     assertion_ends, assertion_next, stops, goes_on       the first assertion of a row
 --     coded       the number of a refusal under another name
 --     refused-verdict       a step's verdict
 use mathlib.Core.Path.{◌≡◌, refl, sym, ap, ◌∙◌, subst}

@@ -3,7 +3,7 @@
 -- walk that only adds, multiplies and negates is followed once, for every ring.
 --     Valuation, Division       the laws, and those of the quotient, which not every ring has
 --     Stands, plus-stands, times-stands       what an operation under a limit yields
---     rationals, rational-division       both for ℚring
+--     rationals, rational_division       both for ℚring
 use mathlib.Core.Path.{◌≡◌, sym, ◌∙◌, subst}
 use mathlib.Core.Bool.{true, false}
 use mathlib.Core.List.{[], ◌∷◌}

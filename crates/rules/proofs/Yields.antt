@@ -4,7 +4,7 @@
 --     by_answer, through       from each answer; an answer behind `>>=` goes through one before it
 --     and_then, known, past       along `>>=`: a law of the first value is known, or the value, or nothing
 --     weaker, guarded       from P to Q; behind `assert`
---     by-test, by-option       along a case
+--     by_test, by_option       along a case
 --     ranged-yields, plus-yields, times-yields, over-yields, fraction-yields       under a limit as without one
 use mathlib.Core.Path.{◌≡◌, refl, subst}
 use mathlib.Core.Bool.{Bool, true, false, ◌&&◌, cond}

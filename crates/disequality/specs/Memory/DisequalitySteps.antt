@@ -8,7 +8,7 @@ use Rattle.terms.specs.Term.{Term, Terms}
 use Rattle.terms.specs.Book.{count, tree, SortsBelow}
 use Rattle.terms.specs.Readers.{arguments_of}
 use Rattle.terms.specs.Format.{work_bytes}
-use Rattle.rules.specs.Refusal.{Result, or_else, number, ◌>>=◌}
+use Rattle.rules.specs.Refusal.{Result, or_else, ◌>>=◌}
 use Rattle.rules.specs.Refusal.Outcome.{ok, refused}
 use Rattle.rules.specs.Refusal.Refusal.{number_range, invalid_disequality_op}
 use Rattle.rules.specs.Limits.{Limits, times}
@@ -18,8 +18,7 @@ use Rattle.index_map.specs.Memory.Entries.{terms, slots, stored, Held}
 use Rattle.disequality.specs.Disequality.{inner, two_sides, Disequality, disequality, turned}
 use Rattle.linear_comb.specs.Memory.WorkArea.{left_side, right_side}
 use Rattle.linear_comb.specs.Memory.WorkArea.{area_of, with_area, OnlyArea, SumHas, comb_with}
-use Rattle.rules.specs.Memory.Parts.{Refuses, after, Laid}
-use Rattle.index_map.specs.declared.index_map.Coefficient.TheVariants.{Of}
+use Rattle.rules.specs.Memory.Parts.{Refuses, Laid}
 use Rattle.disequality.specs.declared.disequality.Operation.{Operation}
 use Rattle.disequality.specs.declared.disequality.Operation.TheVariants as operation
 use Rattle.disequality.specs.declared.disequality.Relation.{Relation}

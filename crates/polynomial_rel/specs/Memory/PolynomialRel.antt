@@ -17,12 +17,6 @@ use Rattle.polynomial_rel.specs.PolySimpRel.{Scaled, scaled, operands, assert_si
 use Rattle.polynomial_rel.specs.PolySimpRel.{number_case}
 use Rattle.rules.specs.Memory.Parts.{Refuses, terms_in}
 use Rattle.rules.specs.Memory.ShapeRecords.{pair_of}
-use Rattle.rules.specs.declared.readers.Expected.{Expected}
-use Rattle.rules.specs.declared.readers.Expected.TheVariants as expected
-use Rattle.rules.specs.declared.readers.ExpectedBits.{ExpectedBits}
-use Rattle.rules.specs.declared.readers.ExpectedBits.TheVariants as bits
-use Rattle.rules.specs.declared.readers.ExpectedOperator.{ExpectedOperator}
-use Rattle.rules.specs.declared.readers.ExpectedOperator.TheVariants as operator
 use Rattle.polynomial_rel.specs.declared.polynomial_rel.Scaled as by_value
 use Rattle.polynomial_rel.specs.declared.polynomial_rel.Premise.{Premise}
 use Rattle.polynomial_rel.specs.declared.polynomial_rel.Premise.TheVariants as premise

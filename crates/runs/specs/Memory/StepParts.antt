@@ -1,7 +1,7 @@
 -- A run in lent bytes. The records of a step lie one behind the other, and so do those with one mark: a step's
 -- premises, literals and arguments are parts of the run, and so is what follows the step.
 use Rattle.std.specs.Prelude.{◌≡◌, Bool, true, false, ◌&&◌, List, ℕ, zero, suc, ◌*◌, ◌-◌, ◌<◌, ltb, length, get_or, take, drop}
-use Rattle.std.proofs.Math.Option.{Option, some, none}
+use Rattle.std.proofs.Math.Option.{some, none}
 use Rattle.numbers.specs.Bytes.{Bytes, le}
 use Rattle.terms.specs.Term.{sort, same_sort}
 use Rattle.terms.specs.Term.Sort.{bool}

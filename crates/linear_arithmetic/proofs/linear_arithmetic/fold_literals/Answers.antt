@@ -1,0 +1,70 @@
+use mathlib.Core.Path.{◌∙◌}
+use native.Mathlib.Omega.{arith}
+use Rattle.rules.proofs.RunParts.{length-numbers_in}
+use Rattle.linear_arithmetic.proofs.FoldedAreas.{reached-length, so_far-begin, so_far-end, phi-below}
+use Rattle.linear_arithmetic.proofs.FoldedAreas.{step-refused, step-inferred, step-again}
+use Rattle.linear_arithmetic.proofs.linear_arithmetic.fold_literals.Goals as goal
+
+pub loop-k-init : goal.loop-k-init
+loop-k-init c = so_far-begin _ _ c.requires.folding.0 c.requires.folding.1 c.requires.all_numbers
+
+pub number_in-phi-requires : goal.number_in-phi-requires
+number_in-phi-requires c = omega (arith, length-numbers_in c.args.literals.now)
+
+pub process_disequality-processed-requires : goal.process_disequality-processed-requires
+process_disequality-processed-requires c =
+    let far = c.loop-k.invariant in (
+      far.folding,
+      (phi-below far c.loop-k-test.true c.number_in-phi.ensures, c.argument_at-arg.ensures.coefficient_proper),
+    )
+
+pub returns-in_default : goal.returns-in_default
+returns-in_default c =
+    step-refused c.loop-k.invariant
+    (record {
+      inside = c.loop-k-test.true;
+      phi = c.number_in-phi.result;
+      phi_is = c.number_in-phi.ensures;
+      arg = c.argument_at-arg.result;
+      arg_is = c.argument_at-arg.ensures.by_index;
+      left = c.process_disequality-processed.ensures;
+    })
+    c.in_default.is c.processed_refusal.ensures
+
+pub returns-in-Of : goal.returns-in-Of
+returns-in-Of c =
+    step-inferred c.loop-k.invariant
+    (record {
+      inside = c.loop-k-test.true;
+      phi = c.number_in-phi.result;
+      phi_is = c.number_in-phi.ensures;
+      arg = c.argument_at-arg.result;
+      arg_is = c.argument_at-arg.ensures.by_index;
+      left = c.process_disequality-processed.ensures;
+    })
+    _ _ c.in-Accumulated.is _ c.in-Of.is
+
+pub loop-k-preserved : goal.loop-k-preserved
+loop-k-preserved c =
+    step-again c.loop-k.invariant
+    (record {
+      inside = c.loop-k-test.true;
+      phi = c.number_in-phi.result;
+      phi_is = c.number_in-phi.ensures;
+      arg = c.argument_at-arg.result;
+      arg_is = c.argument_at-arg.ensures.by_index;
+      left = c.process_disequality-processed.ensures;
+    })
+    _ _ c.in-Accumulated.is c.in_default-found.is
+
+pub returns : goal.returns
+returns c = so_far-end c.loop-k.invariant c.loop-k-test.false
+
+pub shape_of-work-in_default : goal.shape_of-work-in_default
+shape_of-work-in_default c = c.process_disequality-processed.auto.work ∙ reached-length c.loop-k.invariant
+
+pub shape_of-work-in-Of : goal.shape_of-work-in-Of
+shape_of-work-in-Of c = c.process_disequality-processed.auto.work ∙ reached-length c.loop-k.invariant
+
+pub shape_of-work : goal.shape_of-work
+shape_of-work c = reached-length c.loop-k.invariant

@@ -1,0 +1,18 @@
+-- The book is read into a work area of zeros.
+use mathlib.Core.Path.{refl}
+use borrow.Author.Rules.{rules}
+use lib.ListN.{length}
+use Rattle.numbers.proofs.ClearedBytes.{cleared-zeros}
+use Rattle.book.proofs.RecordChains.{unused-zeros}
+use Rattle.runs.proofs.prepare.prepare.Goals as goal
+
+pub read_book-requires : goal.read_book-requires
+read_book-requires c =
+    let cleared = c in
+    let start = cleared in
+    (search rules, rw (cleared-zeros _ cleared.clear_from.ensures refl) (unused-zeros (length start.args.work.now)))
+
+pub returns : goal.returns
+returns c =
+    let read = c in
+    rw (← cleared-zeros _ read.clear_from.ensures refl) read.read_book.ensures
