@@ -19,7 +19,6 @@ import sys
 WORD = re.compile(r"[^\s(){}.;,@\"«»`\[\]]+")
 KEYWORDS = {"pub", "abbrev", "unfoldable", "opaque", "record", "data", "private"}
 NOT_NAMES = {"use", "module", "mod", "infix", "infixl", "infixr", "unfolding", "ruleset", "syntax", "mutual"}
-OPERATORS = re.compile(r"[^A-Za-z0-9_'′₀-₉-]")
 # Lemmas that would have their function's name once that is in snake case.
 LEMMAS = set(
     "all_codes all_right all_tested back_above by_tests end_by end_later first_code is_real joined_by lent_back numbers_of same_bytes same_sign twice_x whole_numbers".split()
@@ -47,6 +46,8 @@ BY_HAND = {
     "noQuotient": "not_quotient",
 }
 BY_HAND.update({it: it + "_lem" for it in LEMMAS})
+# An operator of the repository's own that is spelled as one of the library's, and its words.
+OWN_OPERATOR = {"if◌then◌else◌": "when◌then◌else◌", "if": "when"}
 # Names that have two meanings, and the files of the one that is turned.
 ONLY_IN = {"coded": "crates/book/", "same": "crates/book/proofs/SortRules.antt"}
 # What a parameter or Rattle itself already calls so keeps its spelling.
@@ -172,6 +173,8 @@ def of_file(path, rows, root):
     gone = {a for a, top in ONLY_IN.items() if not path.startswith(top)}
     if not path.endswith(".antt"):
         gone |= {a for a in rows if a == snake(a) and "-" not in a}
+    else:
+        rows = rows | OWN_OPERATOR
     return {a: b for a, b in rows.items() if a not in gone}
 
 

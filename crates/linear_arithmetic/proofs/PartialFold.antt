@@ -1,6 +1,7 @@
 -- The loop of `la_generic_partial`: the fold goes on from each number that is inferred, until all literals are done.
 --     PartSoFar, part-begin, part_length, part-few, rest-folds, part-less, part-fits       the loop
---     Rested, part-clear, part-refused, part-done, inferred-proper, part-more, part-again       one turn of it
+--     Rested, folded_rest, part-clear, part-refused, part-done, inferred-proper, part-more,
+--     part-again       one turn of it
 --     refused_end, done_end       where it ends
 use mathlib.Core.Path.{◌≡◌, refl, sym, ap, subst, ◌∙◌}
 use mathlib.Core.List.{List, [], ◌∷◌, ◌++◌, append-nil}
@@ -72,6 +73,15 @@ pub record Rested (g : Given) (w : Bytes) (p : by_value.Progress) (done : ℕ) (
 pub record More (g : Given) (done k : ℕ) : Type 0 where
   pub some : 0 < k
   pub within : done + k ≤ length g.literals / 4
+
+pub folded_rest :
+    {g : Given} {w w' part given : Bytes} {p : by_value.Progress} {done : ℕ} {r : Folded} →
+    part ≡ drop (4 * done) g.literals → given ≡ drop (4 * done) g.args →
+    FoldedLeft g.book w w' (length (numbers_in part)) r
+    (fold_read (limits_of g) (terms_in g.book part) (terms_in g.book given) (progress_of g.book w p)) →
+    Rested g w p done w' r
+folded_rest {part = part} {given} part_is given_is fold =
+    record { part = part; part_is = part_is; given = given; given_is = given_is; fold = fold }
 
 pub part-begin :
     (g : Given) (v : ℕ) → AllNumbers g.limit g.book g.args → Ready g.book g.work →

@@ -2,7 +2,7 @@
 -- for each answer, from what the callees have promised.
 use mathlib.Core.Path.{◌≡◌, refl, sym, ◌∙◌, ap}
 use mathlib.Core.Bool.{Bool, true, false, ◌&&◌, cond}
-use mathlib.Core.Logic.{◌⊎◌, inl, inr, ⊎_elim}
+use mathlib.Core.Logic.{◌⊎◌, ⊎_elim}
 use mathlib.Core.List.{List, [], ◌∷◌}
 use Prim.Native.Nat.{ℕ, suc, ◌/◌, ◌^◌, ◌≤◌, ◌<◌}
 use native.Mathlib.Nat.{eq-or-lt_of_le}
@@ -193,11 +193,14 @@ module _
 
 -- what the last arm of the match knows of the operator: it is none of the single numbers, and not of the range from
 -- ToReal to BvAdd
-abbrev pub OtherOperator : ℕ → Type 0
-OtherOperator o =
-    (((((Unit {0} × (o ≡ Add → ⊥)) × (o ≡ Sub → ⊥)) × (o ≡ BvSub → ⊥)) × (o ≡ BvNeg → ⊥))
-    × ((o ≡ Mult) ⊎ (o ≡ BvMul) → ⊥))
-    × (o ≡ RealDiv → ⊥)
+pub record OtherOperator (o : ℕ) : Type 0 where
+  pub not-add : o ≡ Add → ⊥
+  pub not-sub : o ≡ Sub → ⊥
+  pub not-bv_sub : o ≡ BvSub → ⊥
+  pub not-bv_neg : o ≡ BvNeg → ⊥
+  pub not-mult : o ≡ Mult → ⊥
+  pub not-bv_mul : o ≡ BvMul → ⊥
+  pub not-real_div : o ≡ RealDiv → ⊥
 
 abbrev pub OutOfSums : ℕ → Type 0
 OutOfSums o = (o < ToReal) ⊎ (suc BvAdd ≤ o)
@@ -258,13 +261,13 @@ unfolding arm_of if◌then◌else◌
 leaf_arm o ts h out =
     rw (
       arm_of,
-      ne_eqb o Add h.0.0.0.0.0.1,
-      ne_eqb o Sub h.0.0.0.0.1,
-      ne_eqb o BvSub h.0.0.0.1,
-      ne_eqb o BvNeg h.0.0.1,
-      ne_eqb o Mult (λ e. h.0.1 (inl e)),
-      ne_eqb o BvMul (λ e. h.0.1 (inr e)),
-      ne_eqb o RealDiv h.1,
+      ne_eqb o Add h.not-add,
+      ne_eqb o Sub h.not-sub,
+      ne_eqb o BvSub h.not-bv_sub,
+      ne_eqb o BvNeg h.not-bv_neg,
+      ne_eqb o Mult h.not-mult,
+      ne_eqb o BvMul h.not-bv_mul,
+      ne_eqb o RealDiv h.not-real_div,
       ne_eqb o ToReal (λ e. ⊎_elim (λ l. omega arith) (λ l. omega arith) out),
       ne_eqb o BvAdd (λ e. ⊎_elim (λ l. omega arith) (λ l. omega arith) out),
     )

@@ -1,6 +1,6 @@
 -- `add_term` of src/checker/rules/polynomial.rs: the walk of a term that fills a polynomial, and of the lists of its
 -- arguments and factors.
-use Rattle.std.specs.Prelude.{true, false, ◌&&◌, ◌||◌, not, [], ◌∷◌, ℕ, suc, eqb, pos}
+use Rattle.std.specs.Prelude.{true, false, ◌&&◌, ◌||◌, [], ◌∷◌, ℕ, suc, eqb, pos}
 use Rattle.std.proofs.Math.Option.{Option, some, none}
 use Rattle.numbers.specs.Rational.{Rational, whole, neg_q, is_zero}
 use Rattle.terms.specs.Operator.{Add, Sub, Mult, RealDiv, ToReal, BvAdd, BvSub, BvNeg, BvMul}

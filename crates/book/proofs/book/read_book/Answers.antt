@@ -4,7 +4,4 @@ use Rattle.book.proofs.book.read_book.Goals as goal
 
 pub returns : goal.returns
 returns c =
-    let cleared = c in
-    let read = cleared in
-    let start = read in
-    left-cleared _ _ _ _ _ start.requires.1 read.read_records-read.ensures cleared.clear.ensures
+    left-cleared _ _ _ _ _ c.requires.1 c.read_records-read.ensures c.clear.ensures

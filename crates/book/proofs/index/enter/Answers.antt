@@ -4,10 +4,5 @@ use Rattle.book.proofs.index.enter.Goals as goal
 
 pub returns : goal.returns
 returns c =
-    let second = c in
-    let first = second in
-    let read = first in
-    let chained = read in
-    let named = chained in
-    entered_all _ _ _ named.requires _ named.record.ensures _ chained.chain.ensures
-    _ read.read_u16-first.ensures _ _ first.write_u16.ensures second.write_u16-2.ensures
+    entered_all _ _ _ c.requires _ c.record.ensures _ c.chain.ensures
+    _ c.read_u16-first.ensures _ _ c.write_u16.ensures c.write_u16-2.ensures

@@ -1,28 +1,10 @@
-use mathlib.Core.Path.{◌≡◌, sym, ◌∙◌}
-use Prim.Native.Nat.{ℕ, ◌*◌}
-use lib.ListN.{length, drop}
-use Rattle.numbers.specs.Bytes.{Bytes}
-use Rattle.rules.specs.Memory.Parts.{numbers_in, terms_in}
-use Rattle.process_disequality.specs.declared.process_disequality.Progress.{Progress}
-use Rattle.process_disequality.specs.Memory.ProcessSteps.{progress_of}
-use Rattle.linear_arithmetic.specs.declared.linear_arithmetic.Folded.{Folded}
-use Rattle.linear_arithmetic.specs.Memory.LinearSteps.{fold_read, FoldedLeft}
-use Rattle.linear_arithmetic.proofs.FoldedAreas.{Given, limits_of}
+use mathlib.Core.Path.{sym, ◌∙◌}
+use Rattle.linear_arithmetic.proofs.FoldedAreas.{Given}
 use Rattle.linear_arithmetic.proofs.PartialEnd.{part-unread}
 use Rattle.linear_arithmetic.proofs.PartialFold.{part-begin, part_length, part-few, rest_folds}
-use Rattle.linear_arithmetic.proofs.PartialFold.{part-less, part-fits, Rested, part_clear, part-more}
+use Rattle.linear_arithmetic.proofs.PartialFold.{part-less, part-fits, folded_rest, part_clear, part-more}
 use Rattle.linear_arithmetic.proofs.PartialFold.{part-refused, part-done, part-again}
 use Rattle.linear_arithmetic.proofs.linear_arithmetic.la_generic_partial.Goals as goal
-
--- one turn
-rested :
-    {g : Given} {w w' part given : Bytes} {p : Progress} {done : ℕ} {r : Folded} → part ≡ drop (4 * done) g.literals →
-    given ≡ drop (4 * done) g.args →
-    FoldedLeft g.book w w' (length (numbers_in part)) r
-    (fold_read (limits_of g) (terms_in g.book part) (terms_in g.book given) (progress_of g.book w p)) →
-    Rested g w p done w' r
-rested {part = part} {given} part_is given_is fold =
-    record { part = part; part_is = part_is; given = given; given_is = given_is; fold = fold }
 
 pub returns-in-Refused : goal.returns-in-Refused
 returns-in-Refused c =
@@ -67,7 +49,7 @@ fold_literals-requires c =
 
 pub contradiction-requires : goal.contradiction-requires
 contradiction-requires c =
-    part_clear c.loop-q.invariant.1 (rested c.rest.ensures c.rest-in-loop-q.ensures c.fold_literals.ensures) _
+    part_clear c.loop-q.invariant.1 (folded_rest c.rest.ensures c.rest-in-loop-q.ensures c.fold_literals.ensures) _
     c.in-Done.is
 
 pub shape_of-work-in-Done : goal.shape_of-work-in-Done
@@ -77,7 +59,7 @@ shape_of-work-in-Done c =
 pub returns-in-Done : goal.returns-in-Done
 returns-in-Done c =
     let judged =
-    part-done c.loop-q.invariant.1 (rested c.rest.ensures c.rest-in-loop-q.ensures c.fold_literals.ensures) _
+    part-done c.loop-q.invariant.1 (folded_rest c.rest.ensures c.rest-in-loop-q.ensures c.fold_literals.ensures) _
     c.in-Done.is _ c.contradiction.ensures.value _ c.contradiction.ensures.work_after
     in
     record { value = judged.0; work_unchanged = judged.1 }
@@ -86,18 +68,18 @@ pub overflow_add-done : goal.overflow_add-done
 overflow_add-done c =
     let far = c.loop-q.invariant.1 in
     part-fits far _
-    (part-more far (rested c.rest.ensures c.rest-in-loop-q.ensures c.fold_literals.ensures) _ _ _ c.in-Inferred.is)
+    (part-more far (folded_rest c.rest.ensures c.rest-in-loop-q.ensures c.fold_literals.ensures) _ _ _ c.in-Inferred.is)
 
 pub loop-q-smaller : goal.loop-q-smaller
 loop-q-smaller c =
     let far = c.loop-q.invariant.1 in
     part-less far _
-    (part-more far (rested c.rest.ensures c.rest-in-loop-q.ensures c.fold_literals.ensures) _ _ _ c.in-Inferred.is)
+    (part-more far (folded_rest c.rest.ensures c.rest-in-loop-q.ensures c.fold_literals.ensures) _ _ _ c.in-Inferred.is)
 
 pub loop-q-preserved : goal.loop-q-preserved
 loop-q-preserved c = (
   _,
-  part-again c.loop-q.invariant.1 (rested c.rest.ensures c.rest-in-loop-q.ensures c.fold_literals.ensures) _ _ _
+  part-again c.loop-q.invariant.1 (folded_rest c.rest.ensures c.rest-in-loop-q.ensures c.fold_literals.ensures) _ _ _
       c.in-Inferred.is,
 )
 
@@ -107,7 +89,7 @@ shape_of-work-in-Refused-fold_literals c = c.fold_literals.auto.work ∙ part_le
 pub returns-in-Refused-fold_literals : goal.returns-in-Refused-fold_literals
 returns-in-Refused-fold_literals c =
     let judged =
-    part-refused c.loop-q.invariant.1 (rested c.rest.ensures c.rest-in-loop-q.ensures c.fold_literals.ensures) _
+    part-refused c.loop-q.invariant.1 (folded_rest c.rest.ensures c.rest-in-loop-q.ensures c.fold_literals.ensures) _
     c.in-Refused-fold_literals.is
     in
     record { value = judged.0; work_unchanged = judged.1 }

@@ -8,11 +8,8 @@ use Rattle.runs.proofs.prepare.prepare.Goals as goal
 
 pub read_book-requires : goal.read_book-requires
 read_book-requires c =
-    let cleared = c in
-    let start = cleared in
-    (search rules, rw (cleared-zeros _ cleared.clear_from.ensures refl) (unused-zeros (length start.args.work.now)))
+    (search rules, rw (cleared-zeros _ c.clear_from.ensures refl) (unused-zeros (length c.args.work.now)))
 
 pub returns : goal.returns
 returns c =
-    let read = c in
-    rw (← cleared-zeros _ read.clear_from.ensures refl) read.read_book.ensures
+    rw (← cleared-zeros _ c.clear_from.ensures refl) c.read_book.ensures

@@ -8,14 +8,12 @@ returns-then-part-at-ne0 c = byte-wrong c.loop-k.invariant (search rules) c.if-p
 
 pub returns-then-n-read_u16 : goal.returns-then-n-read_u16
 returns-then-n-read_u16 c =
-    let e = c in
-    number-wrong e.loop-k.invariant (search rules) e.if-part-at-ne0.false c.read_u16.ensures
+    number-wrong c.loop-k.invariant (search rules) c.if-part-at-ne0.false c.read_u16.ensures
     (le-ltb _ _ c.if-n-read_u16.true)
 
 pub loop-k-preserved : goal.loop-k-preserved
 loop-k-preserved c =
-    let e = c in
-    right_on e.loop-k.invariant (search rules) e.if-part-at-ne0.false c.read_u16.ensures
+    right_on c.loop-k.invariant (search rules) c.if-part-at-ne0.false c.read_u16.ensures
     (lt-ltb _ _ c.if-n-read_u16.false)
 
 pub loop-k-init : goal.loop-k-init

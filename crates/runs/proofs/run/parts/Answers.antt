@@ -4,30 +4,19 @@ use Rattle.runs.proofs.run.parts.Goals as goal
 
 pub overflow_sub-result : goal.overflow_sub-result
 overflow_sub-result c =
-    let premises = c in
-    let rows = premises in
-    literals-inside rows.args.step.now _ rows.rest.ensures premises.after-behind_premises.ensures
+    literals-inside c.args.step.now _ c.rest.ensures c.after-behind_premises.ensures
 
 pub overflow_sub-result-2 : goal.overflow_sub-result-2
 overflow_sub-result-2 c =
-    let clause = c in
-    let premises = clause in
-    let rows = premises in
-    arguments-inside rows.args.step.now _ rows.rest.ensures premises.after-behind_premises.ensures
-    clause.after-behind_clause.ensures
+    arguments-inside c.args.step.now _ c.rest.ensures c.after-behind_premises.ensures
+    c.after-behind_clause.ensures
 
 pub overflow_sub-result-3 : goal.overflow_sub-result-3
 overflow_sub-result-3 c =
-    let clause = c in
-    let premises = clause in
-    let rows = premises in
-    next-inside rows.args.step.now _ rows.rest.ensures premises.after-behind_premises.ensures
-    clause.after-behind_clause.ensures c.after-next.ensures
+    next-inside c.args.step.now _ c.rest.ensures c.after-behind_premises.ensures
+    c.after-behind_clause.ensures c.after-next.ensures
 
 pub returns : goal.returns
 returns c =
-    let clause = c in
-    let premises = clause in
-    let rows = premises in
-    parts-found rows.args.step.now _ rows.rest.ensures premises.after-behind_premises.ensures
-    clause.after-behind_clause.ensures c.after-next.ensures
+    parts-found c.args.step.now _ c.rest.ensures c.after-behind_premises.ensures
+    c.after-behind_clause.ensures c.after-next.ensures

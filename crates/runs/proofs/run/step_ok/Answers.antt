@@ -5,24 +5,16 @@ use Rattle.runs.proofs.run.step_ok.Goals as goal
 
 pub returns-then-parts_ok : goal.returns-then-parts_ok
 returns-then-parts_ok c =
-    let clause = c in
-    let premises = clause in
-    let byte = premises in
-    let then = byte in
-    let parts = then in
-    let head = parts in
     step-tests _ _ _
-    (passed head.head_ok.ensures parts.if-head_ok.true
-    (passed parts.parts_ok.ensures then.if-parts_ok.true
-    (shape_is _ head.head_ok.ensures parts.if-head_ok.true byte.byte.ensures premises.premises.ensures
-    clause.clause.ensures c.args-then-parts_ok.ensures _ c.shape_ok.ensures)))
+    (passed c.head_ok.ensures c.if-head_ok.true
+    (passed c.parts_ok.ensures c.if-parts_ok.true
+    (shape_is _ c.head_ok.ensures c.if-head_ok.true c.byte.ensures c.premises.ensures
+    c.clause.ensures c.args-then-parts_ok.ensures _ c.shape_ok.ensures)))
 
 pub returns-else-parts_ok : goal.returns-else-parts_ok
 returns-else-parts_ok c =
-    let parts = c in
-    let head = parts in
     step-tests _ _ _
-    (passed head.head_ok.ensures parts.if-head_ok.true (stopped _ parts.parts_ok.ensures c.if-parts_ok.false))
+    (passed c.head_ok.ensures c.if-head_ok.true (stopped _ c.parts_ok.ensures c.if-parts_ok.false))
 
 pub returns-else-head_ok : goal.returns-else-head_ok
 returns-else-head_ok c = step-tests _ _ _ (stopped _ c.head_ok.ensures c.if-head_ok.false)

@@ -12,12 +12,11 @@ finds e = record { is = e; number = ap vector_refusal e }
 
 pub returns-then-is_vector : goal.returns-then-is_vector
 returns-then-is_vector c =
-    let tested = c in
     finds
     (ap₂ Bits c.read_u64.ensures c.read_u64-then-is_vector.ensures
     ∙ sym
-    (vector-found _ _ tested.record-r.ensures (search rules)
-    (sym tested.is_vector.ensures ∙ c.if-is_vector.true)))
+    (vector-found _ _ c.record-r.ensures (search rules)
+    (sym c.is_vector.ensures ∙ c.if-is_vector.true)))
 
 pub returns-else-is_vector : goal.returns-else-is_vector
 returns-else-is_vector c =

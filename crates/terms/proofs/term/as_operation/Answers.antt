@@ -6,8 +6,7 @@ use Rattle.terms.proofs.term.as_operation.Goals as goal
 pub returns-in-Of : goal.returns-in-Of
 unfolding as_fraction
 returns-in-Of c =
-    let inside = c in
-    signed-inside (as_unsigned_fraction ranged) inside.unary.ensures inside.in-Of.is c.as_unsigned_fraction.ensures
+    signed-inside (as_unsigned_fraction ranged) c.unary.ensures c.in-Of.is c.as_unsigned_fraction.ensures
     c.negated.ensures
 
 pub returns-in-NotOne : goal.returns-in-NotOne

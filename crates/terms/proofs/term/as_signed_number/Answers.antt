@@ -6,8 +6,7 @@ use Rattle.terms.proofs.term.as_signed_number.Goals as goal
 pub returns-in-Of : goal.returns-in-Of
 unfolding as_signed_number
 returns-in-Of c =
-    let inside = c in
-    signed-inside as_number inside.unary.ensures inside.in-Of.is c.as_number.ensures
+    signed-inside as_number c.unary.ensures c.in-Of.is c.as_number.ensures
     c.negated.ensures
 
 pub returns-in-NotOne : goal.returns-in-NotOne

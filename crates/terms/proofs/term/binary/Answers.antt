@@ -5,17 +5,13 @@ use Rattle.terms.proofs.term.binary.Goals as goal
 
 pub returns-then-args-eq2 : goal.returns-then-args-eq2
 returns-then-args-eq2 c =
-    let args = c in
-    let kinds = args in
-    children-found _ _ _ kinds.record-r.ensures (search rules) (search rules) args.arg_bytes-args.ensures
+    children-found _ _ _ c.record-r.ensures (search rules) (search rules) c.arg_bytes-args.ensures
     (search rules) c.argument.ensures c.argument-then-args-eq2.ensures
 
 pub returns-else-args-eq2 : goal.returns-else-args-eq2
 returns-else-args-eq2 c =
-    let args = c in
-    let kinds = args in
-    other_than_children _ _ _ kinds.record-r.ensures (search rules) (search rules)
-    args.arg_bytes-args.ensures (search rules)
+    other_than_children _ _ _ c.record-r.ensures (search rules) (search rules)
+    c.arg_bytes-args.ensures (search rules)
 
 pub returns-else-byte-o : goal.returns-else-byte-o
 returns-else-byte-o c =

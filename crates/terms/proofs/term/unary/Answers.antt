@@ -6,17 +6,13 @@ use Rattle.terms.proofs.term.unary.Goals as goal
 
 pub returns-then-args-eq1 : goal.returns-then-args-eq1
 returns-then-args-eq1 c =
-    let args = c in
-    let kinds = args in
-    child-found _ _ _ kinds.record-r.ensures (search rules) (search rules) args.arg_bytes-args.ensures
+    child-found _ _ _ c.record-r.ensures (search rules) (search rules) c.arg_bytes-args.ensures
     (search rules) c.argument.ensures
 
 pub returns-else-args-eq1 : goal.returns-else-args-eq1
 returns-else-args-eq1 c =
-    let args = c in
-    let kinds = args in
-    other_than_child _ _ _ kinds.record-r.ensures (search rules) (search rules)
-    args.arg_bytes-args.ensures (search rules)
+    other_than_child _ _ _ c.record-r.ensures (search rules) (search rules)
+    c.arg_bytes-args.ensures (search rules)
 
 pub returns-else-byte-o : goal.returns-else-byte-o
 returns-else-byte-o c = no_operation-child _ _ _ c.record-r.ensures (λ k o. search rules)
