@@ -1,8 +1,8 @@
 -- The rule poly_simp on one step, src/checker/rules/polynomial.rs, line by line in the Rust's order.
-use Rattle.std.specs.Prelude.{List, [], ◌∷◌, ℕ, ◌^◌, pos}
+use Rattle.std.specs.Prelude.{[], ◌∷◌, ℕ, ◌^◌, pos}
 use Rattle.numbers.specs.Rational.{whole, modulo}
 use Rattle.terms.specs.Operator.{Equals}
-use Rattle.terms.specs.Term.{Sort, Term, sort}
+use Rattle.terms.specs.Term.{Sort, sort}
 use Rattle.terms.specs.Term.Sort.{bool, int, real, bits}
 use Rattle.rules.specs.Refusal.{Result, ◌>>=◌, assert}
 use Rattle.rules.specs.Refusal.Outcome.{ok}

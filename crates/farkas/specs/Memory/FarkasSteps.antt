@@ -1,6 +1,6 @@
 -- What one step's elaboration answers, and what it leaves in the out areas: every byte of them, also behind a step that
 -- is refused.
-use Rattle.std.specs.Prelude.{◌≡◌, true, false, List, [], ◌∷◌, ◌++◌, ℕ, ◌+◌, ◌*◌, length, drop}
+use Rattle.std.specs.Prelude.{◌≡◌, true, false, List, [], ◌∷◌, ◌++◌, ℕ, ◌*◌, length, drop}
 use Rattle.std.proofs.Math.Option.{some, none}
 use Rattle.numbers.specs.Rational.{Rational}
 use Rattle.numbers.specs.Bytes.{Bytes}
@@ -17,7 +17,7 @@ use Rattle.rules.specs.Shapes.{Clause}
 use Rattle.rules.specs.Memory.Parts.{Refuses}
 use Rattle.runs.specs.Rule.{is_rule}
 use Rattle.runs.specs.Rule.Rule.{bounded_farkas}
-use Rattle.runs.specs.Run.{Step, record_bytes}
+use Rattle.runs.specs.Run.{Step}
 use Rattle.steps.specs.CheckStep.{Accepted}
 use Rattle.out_areas.specs.Farkas.{Written, tail_bytes, add_reals, fits}
 use Rattle.rules.specs.declared.verdict.Verdict.{Verdict}

@@ -7,13 +7,13 @@ loop-k-init c = scaling_begin c.requires.1.1.1
 
 pub loop-k-preserved : goal.loop-k-preserved
 loop-k-preserved c =
-    scaling_more c.loop-k.invariant c.loop-k-test.true _ (search rules) _ c.enter_scaled-answer.ensures.few c.enter_scaled-answer.ensures.inserts_at _
-    c.in-Length.is
+    scaling_more c.loop-k.invariant c.loop-k-test.true _ (search rules) _ c.enter_scaled-answer.ensures.few
+    c.enter_scaled-answer.ensures.inserts_at _ c.in-Length.is
 
 pub returns-in_default-clause-inserts_at : goal.returns-in_default-clause-inserts_at
 returns-in_default-clause-inserts_at c =
-    scaling_refused c.loop-k.invariant c.loop-k-test.true _ (search rules) _ c.enter_scaled-answer.ensures.few c.enter_scaled-answer.ensures.inserts_at _
-    c.in_default.is
+    scaling_refused c.loop-k.invariant c.loop-k-test.true _ (search rules) _ c.enter_scaled-answer.ensures.few
+    c.enter_scaled-answer.ensures.inserts_at _ c.in_default.is
 
 pub returns-clause-few : goal.returns-clause-few
 returns-clause-few c = c.loop-k.invariant.few

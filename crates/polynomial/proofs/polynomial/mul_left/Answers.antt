@@ -7,13 +7,13 @@ loop-k-init c = left-begin
 
 pub loop-k-preserved : goal.loop-k-preserved
 loop-k-preserved c =
-    left-more c.loop-k.invariant c.loop-k-test.true _ (search rules) _ c.mul_entry-answer.ensures.few c.mul_entry-answer.ensures.inserts_at _
-    c.in-Length.is
+    left-more c.loop-k.invariant c.loop-k-test.true _ (search rules) _ c.mul_entry-answer.ensures.few
+    c.mul_entry-answer.ensures.inserts_at _ c.in-Length.is
 
 pub returns-in_default-clause-inserts_at : goal.returns-in_default-clause-inserts_at
 returns-in_default-clause-inserts_at c =
-    left-refused c.loop-k.invariant c.loop-k-test.true _ (search rules) _ c.mul_entry-answer.ensures.few c.mul_entry-answer.ensures.inserts_at _
-    c.in_default.is
+    left-refused c.loop-k.invariant c.loop-k-test.true _ (search rules) _ c.mul_entry-answer.ensures.few
+    c.mul_entry-answer.ensures.inserts_at _ c.in_default.is
 
 pub returns-clause-few : goal.returns-clause-few
 returns-clause-few c = c.loop-k.invariant.few

@@ -1,0 +1,52 @@
+-- The two polynomials are reduced and subtracted, and the difference is emptied: the laws are in PolynomialDifferences.
+use mathlib.Core.Path.{sym, ◌∙◌}
+use native.Mathlib.Omega.{arith}
+use borrow.Author.Rules.{rules}
+use Rattle.poly_simp.proofs.PolynomialDifferences.{two-areas, first_few, second_few, reduced-ready, clear_ready}
+use Rattle.poly_simp.proofs.PolynomialDifferences.{differ-refused, differ-equal, differ-constant, differ-entries}
+use Rattle.poly_simp.proofs.poly_simp.differ.Goals as goal
+
+pub reduced-a-requires : goal.reduced-a-requires
+reduced-a-requires c =
+    let two = c.requires.1.1.1.1 in
+    let areas = two-areas two.0 in
+    (omega (arith, areas), (first_few two.0 two.1.0, (two.1.0.proper, c.requires.0)))
+
+pub reduced-b-requires : goal.reduced-b-requires
+reduced-b-requires c =
+    let two = c.requires.1.1.1.1 in
+    let areas = two-areas two.0 in
+    (omega (arith, areas), (second_few two.0 two.1.1, (two.1.1.proper, c.requires.0)))
+
+pub sub-difference-requires : goal.sub-difference-requires
+sub-difference-requires c =
+    let two = c.requires.1.1.1.1 in
+    reduced-ready c.args.p c.args.q _ _ c.args.sort c.reduced-a.ensures c.reduced-b.ensures two.0 two.1.0 two.1.1
+
+pub clear_at-requires : goal.clear_at-requires
+clear_at-requires c =
+    let two = c.requires.1.1.1.1 in
+    clear_ready c.args.p c.args.q _ _ c.args.sort c.reduced-a.ensures c.reduced-b.ensures two.0 two.1.0 two.1.1
+    c.sub-difference.ensures c.in-Is.is
+
+-- ---- the verdicts
+
+pub returns-in_default : goal.returns-in_default
+returns-in_default c =
+    differ-refused c.args.p c.args.q _ _ c.args.sort c.reduced-a.ensures c.reduced-b.ensures c.sub-difference.ensures
+    c.args.visits c.in_default.is c.combined_refusal.ensures
+
+pub returns-then-is_zero : goal.returns-then-is_zero
+returns-then-is_zero c =
+    differ-equal c.args.p c.args.q _ _ c.args.sort c.reduced-a.ensures c.reduced-b.ensures c.sub-difference.ensures
+    c.args.visits c.in-Is.is c.clear_at.ensures (search rules) (sym c.is_zero.ensures ∙ c.if-is_zero.true)
+
+pub returns-else-is_zero : goal.returns-else-is_zero
+returns-else-is_zero c =
+    differ-constant c.args.p c.args.q _ _ c.args.sort c.reduced-a.ensures c.reduced-b.ensures c.sub-difference.ensures
+    c.args.visits c.in-Is.is c.clear_at.ensures (search rules) (sym c.is_zero.ensures ∙ c.if-is_zero.false)
+
+pub returns-else-n-eq0 : goal.returns-else-n-eq0
+returns-else-n-eq0 c =
+    differ-entries c.args.p c.args.q _ _ c.args.sort c.reduced-a.ensures c.reduced-b.ensures c.sub-difference.ensures
+    c.args.visits c.in-Is.is c.clear_at.ensures (search rules)

@@ -1,0 +1,21 @@
+use borrow.Author.Rules.{rules}
+use Rattle.poly_simp.proofs.TurnedEntries.{turning_none, turning_refused, turning_more, turning_done}
+use Rattle.poly_simp.proofs.poly_simp.insert_turned.Goals as goal
+
+pub loop-k-init : goal.loop-k-init
+loop-k-init c = turning_none (search rules)
+
+pub loop-k-preserved : goal.loop-k-preserved
+loop-k-preserved c =
+    turning_more c.loop-k.invariant c.loop-k-test.true (search rules) c.enter_turned-answer.ensures.few
+    c.enter_turned-answer.ensures.inserts_at c.in-Length.is
+
+pub returns-in_default-clause-inserts_at : goal.returns-in_default-clause-inserts_at
+returns-in_default-clause-inserts_at c =
+    turning_refused c.loop-k.invariant c.loop-k-test.true (search rules) c.enter_turned-answer.ensures.few
+    c.enter_turned-answer.ensures.inserts_at c.in_default.is
+
+pub returns : goal.returns
+returns c =
+    let done = turning_done c.loop-k.invariant c.loop-k-test.false in
+    record { few = done.0; inserts_at = done.1 }
