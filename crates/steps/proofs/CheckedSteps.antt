@@ -2,7 +2,7 @@
 -- the run.
 --     premises-are       what the rule `poly_simp_rel` looks up, where the step names one premise
 --     visits-traced, judged-assume .. judged-relation       the verdict by each rule
---     rule-eight       the rule where the byte is none of 0 to 7: a rule that was read has the byte of its number
+--     rule_eight       the rule where the byte is none of 0 to 7: a rule that was read has the byte of its number
 use mathlib.Core.Path.{◌≡◌, refl, sym, ap, ◌∙◌}
 use mathlib.Core.List.{List, [], ◌∷◌}
 use Prim.Native.Nat.{ℕ, suc, ◌/◌, ◌<◌}
@@ -171,9 +171,7 @@ module _ {b run part : Bytes} (s : StandsIn b run part) {ps named ds : Bytes} {k
 -- a byte that is none of 0 to 7
 abbrev pub NoOther : ℕ → Type 0
 NoOther k =
-    (((((((Unit {0} × (k ≡ 0 → ⊥)) × (k ≡ 1 → ⊥)) × (k ≡ 2 → ⊥)) × (k ≡ 3 → ⊥)) × (k ≡ 4 → ⊥)) × (k ≡ 5 → ⊥))
-    × (k ≡ 6 → ⊥))
-    × (k ≡ 7 → ⊥)
+    (k ≡ 0 → ⊥) × (k ≡ 1 → ⊥) × (k ≡ 2 → ⊥) × (k ≡ 3 → ⊥) × (k ≡ 4 → ⊥) × (k ≡ 5 → ⊥) × (k ≡ 6 → ⊥) × (k ≡ 7 → ⊥)
 
 pub rule_eight :
     {b run part : Bytes} → StandsIn b run part → {found : ℕ} → found ≡ get_or part 1 0 → NoOther found →
@@ -183,12 +181,12 @@ rule_eight {part = part} s {found} byte h =
     go (rule_in part) (rule-number (get_or part 1 0) (rule_in part) (stands-rule s))
   where
     go : (r : Rule) → rule_number r ≡ get_or part 1 0 → r ≡ Rule.poly_simp_rel
-    go Rule.assume e = absurd (h.0.0.0.0.0.0.0.1 (byte ∙ sym e))
-    go Rule.la_rw_eq e = absurd (h.0.0.0.0.0.0.1 (byte ∙ sym e))
-    go Rule.la_disequality e = absurd (h.0.0.0.0.0.1 (byte ∙ sym e))
-    go Rule.la_totality e = absurd (h.0.0.0.0.1 (byte ∙ sym e))
-    go Rule.la_tautology e = absurd (h.0.0.0.1 (byte ∙ sym e))
-    go Rule.la_generic e = absurd (h.0.0.1 (byte ∙ sym e))
-    go Rule.bounded_farkas e = absurd (h.0.1 (byte ∙ sym e))
-    go Rule.poly_simp e = absurd (h.1 (byte ∙ sym e))
+    go Rule.assume e = absurd (h.0 (byte ∙ sym e))
+    go Rule.la_rw_eq e = absurd (h.1 (byte ∙ sym e))
+    go Rule.la_disequality e = absurd (h.2 (byte ∙ sym e))
+    go Rule.la_totality e = absurd (h.3 (byte ∙ sym e))
+    go Rule.la_tautology e = absurd (h.4 (byte ∙ sym e))
+    go Rule.la_generic e = absurd (h.5 (byte ∙ sym e))
+    go Rule.bounded_farkas e = absurd (h.6 (byte ∙ sym e))
+    go Rule.poly_simp e = absurd (h.7 (byte ∙ sym e))
     go Rule.poly_simp_rel e = refl

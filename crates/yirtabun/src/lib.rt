@@ -4,6 +4,8 @@
 //
 // The answer is the verdict; the other numbers, four bytes each with the lowest first, are put into a slice that the
 // caller lends. A slice that is too short for them takes as many bytes as it has, a longer one gets zeros behind them.
+#![tactic(auto)]
+
 ghost use Rattle.std.specs.Prelude.{◌≡◌, [], ◌∷◌, length};
 ghost use Rattle.elaborate.specs.LentMemory.{lent};
 ghost use Rattle.yirtabun.specs.Answers.{number_bytes, shown, CheckShown, ElaborateShown, WrittenShown};
