@@ -1,1 +1,2 @@
 // The rules as the Alethe specification gives them.
+#![tactic(auto)]

@@ -116,8 +116,8 @@ module _ {P : Term → Type 0} (closed : Closed P) (by : Departures) where
       (fold-answers c ps qs ls ks lines w.1 z.1 q added.kept)
   fold-answers [] ps [] ls (k ∷ ks) x15 whole zero p h = elim x15 [ ]
   fold-answers [] ps (a ∷ qs) ls ks x12 whole zero p h = elim x12 [ ]
-  fold-answers (phi ∷ c) (of-P , ps) [] ls ks x9 whole zero p h = elim x9 [ ]
-  fold-answers (phi ∷ c) (of-P , ps) (a ∷ qs) (la, ls) [] x12 whole zero p h = elim x12 [ ]
+  fold-answers (phi ∷ c) (of-P, ps) [] ls ks x9 whole zero p h = elim x9 [ ]
+  fold-answers (phi ∷ c) (of-P, ps) (a ∷ qs) (la, ls) [] x12 whole zero p h = elim x12 [ ]
 
 -- ---- the end
 

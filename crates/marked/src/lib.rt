@@ -1,1 +1,2 @@
 // The table of cases, answered by hand, and what pins the demands.
+#![tactic(auto)]
