@@ -1,7 +1,7 @@
 -- What comes before the first step of a run.
---     lent-short, lent_none, lent-much, lent-right       refusal 1 by its tests
+--     lent-short, lent_none, lent_much, lent-right       refusal 1 by its tests
 --     opens-unfit, opens-ready, opens-steps, opens_stopped, opens-refused       what `open` answers and leaves
---     RefusedAs, refused-is, refused-marking       the marking where `open` refuses
+--     RefusedAs, refused_is, refused-marking       the marking where `open` refuses
 --     opened-read, opened-marked, opened-marking       the marking where it does not: that of the steps
 use mathlib.Core.Path.{◌≡◌, refl, sym, ap, ◌∙◌}
 use mathlib.Core.Bool.{Bool, true, false}
@@ -193,9 +193,9 @@ module _ (b run : Bytes) (limit n : ℕ) where
 
       pub refused-marking : record { verdict = v; steps = 0; visits = 0 } ≡ markedOf (check b run limit n)
       refused-marking =
-          let IsRefused-as = refused_is in
-          ap (λ c. record { verdict = c; steps = 0; visits = 0 }) IsRefused-as.code
-          ∙ ap markedOf (sym IsRefused-as.is)
+          let refusal = refused_is in
+          ap (λ c. record { verdict = c; steps = 0; visits = 0 }) refusal.code
+          ∙ ap markedOf (sym refusal.is)
 
     module _ (ready : r ≡ opened.Ready) where
       opened_is : Opening

@@ -13,7 +13,7 @@ use Rattle.rules.specs.Limits.{Limits, limited}
 use Rattle.runs.specs.Verdict.{LentRefusal, Verdict, lent}
 use Rattle.runs.specs.Verdict.LentRefusal.{work_area_or_limit, of_book}
 use Rattle.runs.specs.Run.{Step, step, read_run}
-use Rattle.steps.specs.CheckStep.{Counter, counter, Accepted, accepted, check_step}
+use Rattle.steps.specs.CheckStep.{Counter, counter, Accepted, check_step}
 
 -- ---- the steps in turn
 

@@ -3,11 +3,11 @@
 use mathlib.Core.Path.{◌≡◌, refl, sym, ◌∙◌, ap}
 use mathlib.Core.Bool.{Bool, true, false, ◌&&◌, ◌||◌, cond}
 use mathlib.Core.Option.{Option, some, none}
-use Prim.Native.Nat.{ℕ}
-use borrow.Author.Tests.{eq-eqb, ne_eqb}
+use Prim.Native.Nat.{ℕ, ◌≤◌, ◌<◌}
+use borrow.Author.Tests.{eq-eqb, ne_eqb, le-leb, lt-leb}
 use lib.Dec.{eqb}
 use Rattle.numbers.specs.Bytes.{Bytes}
-use Rattle.terms.specs.Operator.{Equals}
+use Rattle.terms.specs.Operator.{Equals, GreaterEq}
 use Rattle.terms.specs.Term.{Term, Terms, binary, two?}
 use Rattle.terms.specs.Term.Term.{integer, rational, bitvector, atom, op}
 use Rattle.terms.specs.Term.Terms.{nil, ◌▹◌}
@@ -64,6 +64,16 @@ operands-two (a ▹ b ▹ c ▹ ts) = refl
 both_none : (m : Option (Term × Term)) → both m none ≡ none
 both_none (some p) = refl
 both_none none = refl
+
+module _ (o : ℕ) where
+  pub among_relations : Equals ≤ o → o ≤ GreaterEq → true ≡ is_relation o
+  among_relations h k = rw (le-leb Equals o h, le-leb o GreaterEq k)
+
+  pub below_relations : o < Equals → false ≡ is_relation o
+  below_relations h = rw (lt-leb Equals o h)
+
+  pub above_relations : Equals ≤ o → GreaterEq < o → false ≡ is_relation o
+  above_relations h k = rw (le-leb Equals o h, lt-leb o GreaterEq k)
 
 -- what an operation is as an operator and arguments
 abbrev operation_in : Option (ℕ × Terms) → ℕ × Terms

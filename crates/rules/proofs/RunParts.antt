@@ -1,11 +1,11 @@
 -- A part of a run: the numbers in its 4-byte records, by place and from a place on, and the terms and arguments that
 -- they name. The laws go by induction along the part or the numbers in it.
 --     length-numbers_in, number_at_lem, numbers_in-drop       the numbers in a part
---     drop_to_end       what the function `rest` takes
+--     drop_to_end, drop-past-end       what the function `rest` takes
 --     length-terms_in, named-drop, named_cons, named_past, terms_in-drop       the terms that they name
 --     below_at, inside-drop       each names a record of the book
 --     read_of, fraction-read, signed-read       an argument that is read
-use mathlib.Core.Path.{◌≡◌, refl, ap, ◌∙◌}
+use mathlib.Core.Path.{◌≡◌, refl, sym, ap, ◌∙◌}
 use mathlib.Core.Bool.{true}
 use mathlib.Core.List.{List, [], ◌∷◌}
 use Prim.Native.Nat.{ℕ, zero, suc, ◌+◌, ◌*◌, ◌-◌, ◌/◌, ◌≤◌, ◌<◌}
@@ -55,6 +55,9 @@ number_at_lem (m ∷ c ∷ x ∷ y ∷ p) (suc k) d h =
 -- as the function `rest` takes it: up to the end, or nothing
 pub drop_to_end : (p : Bytes) (n : ℕ) → take (length p - n) (drop n p) ≡ drop n p
 drop_to_end p n = take_all (length p - n) (drop n p) (omega (arith, length-drop n p))
+
+pub drop-past-end : (p : Bytes) (n : ℕ) → length p < n → [] ≡ drop n p
+drop-past-end p n h = sym (drop_of_length-le p {i = n} (omega arith))
 
 pub numbers_in-drop : (p : Bytes) (k : ℕ) → numbers_in (drop (4 * k) p) ≡ drop k (numbers_in p)
 unfolding numbers_in

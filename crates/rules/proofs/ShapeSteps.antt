@@ -128,7 +128,13 @@ module _ (test : Term → Term → Result (Unit {0})) (s1 d1 s2 d2 : Term) {firs
   one_term h k = k ∙ sym (ap asserted_of (assertion_next _ _ (sym h ∙ e)))
 
 module _ (b : Bytes) (p q : Two) where
+  pub no_first : p ≡ two.NotTwo → none ≡ both (found_two b p) (found_two b q)
+  no_first e = rw e
+
   module _ {s1 d1 : ℕ} (p_is : p ≡ two.Both s1 d1) where
+    pub no_second : q ≡ two.NotTwo → none ≡ both (found_two b p) (found_two b q)
+    no_second e = rw (p_is, e)
+
     pub both_found :
         {s2 d2 : ℕ} → q ≡ two.Both s2 d2 →
         some (pair_of b s1 d1, pair_of b s2 d2) ≡ both (found_two b p) (found_two b q)
