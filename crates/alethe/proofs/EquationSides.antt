@@ -9,7 +9,7 @@ use native.Mathlib.Omega.{arith}
 use borrow.Author.Tests.{eqb-true}
 use Rattle.terms.specs.Operator.{Equals}
 use Rattle.terms.specs.Term.{Sort, Term, sort, sorts, same_sort, sort_code, is_numeric, is_bits, all, takes}
-use Rattle.numbers.specs.Choice.{if◌then◌else◌}
+use Rattle.numbers.specs.Choice.{when◌then◌else◌}
 use Rattle.terms.specs.Term.Sort.{bool, int, real, bits}
 use Rattle.terms.specs.Term.Term.{op}
 use Rattle.terms.specs.Term.Terms.{nil, ◌▹◌}
@@ -48,7 +48,7 @@ sides (bits w) b p q (inr e) = never e.0
 equation-takes :
     (i : ℕ) (t s : Term) → WellFormed (op i Equals (t ▹ s ▹ nil)) →
     (same_sort (sort t) (sort s) ≡ true) ⊎ ((is_numeric (sort t) ≡ true) × (is_numeric (sort s) ≡ true))
-unfolding WellFormed takes if◌then◌else◌ sorts all
+unfolding WellFormed takes when◌then◌else◌ sorts all
 equation-takes i t s (h, (ht, (hs, u))) =
     ⊎_elim (λ e. inl (both _ true (both (same_sort (sort t) (sort t)) _ e).1).0)
     (λ e. let k = both (is_numeric (sort t)) _ e in inr (k.0, (both (is_numeric (sort s)) true k.1).0))

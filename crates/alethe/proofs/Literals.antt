@@ -6,7 +6,7 @@ use Prim.Native.Nat.{ℕ}
 use Rattle.numbers.specs.Pair.{Pair, eq_p, less_p, less_eq_p}
 use Rattle.terms.specs.Operator.{Not, And, Or}
 use Rattle.terms.specs.Term.{Term}
-use Rattle.numbers.specs.Choice.{if◌then◌else◌}
+use Rattle.numbers.specs.Choice.{when◌then◌else◌}
 use Rattle.terms.specs.Smtlib.{truth, Assignment, as_pair, is_true, chain, every, any, meaning, value, holds}
 use Rattle.alethe.specs.Alethe.{Valid, Is1, Is2, Is3, is, IsNot2, IsRelation, equals, less_than, less_eq}
 use Rattle.alethe.specs.Alethe.{greater_than, greater_eq}
@@ -30,7 +30,7 @@ module _ (ρ : Assignment) where
 
   pub relation-value :
       {o : ℕ} (r : IsRelation o) {a b t : Term} → Is2 o a b t → value ρ t ≡ truth (test r (at a) (at b))
-  unfolding value meaning if◌then◌else◌ chain
+  unfolding value meaning when◌then◌else◌ chain
   relation-value equals {a} {b} (is i) = ap truth (and-true _)
   relation-value less_than {a} {b} (is i) = ap truth (and-true _)
   relation-value less_eq {a} {b} (is i) = ap truth (and-true _)
@@ -38,19 +38,19 @@ module _ (ρ : Assignment) where
   relation-value greater_eq {a} {b} (is i) = ap truth (and-true _)
 
   pub not-value : {a t : Term} → Is1 Not a t → value ρ t ≡ truth (not (says a))
-  unfolding value meaning if◌then◌else◌
+  unfolding value meaning when◌then◌else◌
   not-value (is i) = refl
 
   pub and_value : {a b t : Term} → Is2 And a b t → value ρ t ≡ truth (says a && says b)
-  unfolding value meaning if◌then◌else◌ every
+  unfolding value meaning when◌then◌else◌ every
   and_value {a} {b} (is i) = ap (λ (x : Bool). truth (says a && x)) (and-true (says b))
 
   pub or_value : {a b t : Term} → Is2 Or a b t → value ρ t ≡ truth (says a || says b)
-  unfolding value meaning if◌then◌else◌ any
+  unfolding value meaning when◌then◌else◌ any
   or_value {a} {b} (is i) = ap (λ (x : Bool). truth (says a || x)) (or-false (says b))
 
   pub or3_value : {a b c t : Term} → Is3 Or a b c t → value ρ t ≡ truth (says a || (says b || says c))
-  unfolding value meaning if◌then◌else◌ any
+  unfolding value meaning when◌then◌else◌ any
   or3_value {a} {b} {c} (is i) = ap (λ (x : Bool). truth (says a || (says b || x))) (or-false (says c))
 
   pub relation-says : {o : ℕ} (r : IsRelation o) {a b t : Term} → Is2 o a b t → says t ≡ test r (at a) (at b)

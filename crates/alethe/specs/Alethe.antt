@@ -3,7 +3,8 @@
 -- (`by`): with none (`words`) it is the specification's own text; with all (`carcara`) every step that Carcara accepts
 -- meets it, and Carcara refuses no other that does but for the differences in AletheDifferences. docs/DIFFERENCES.md
 -- has the smallest input of each.
-use Rattle.std.specs.Prelude.{◌≡◌, Bool, true, false, ◌||◌, not, List, [], ◌∷◌, ◌++◌, ◌⊎◌, ℕ, ◌≤◌, ◌%◌, ◌^◌, T, ℤ, pos, ◌*ℤ◌}
+use Rattle.std.specs.Prelude.{◌≡◌, Bool, true, false, ◌||◌, not, List, [], ◌∷◌, ◌++◌, ◌⊎◌, ℕ, ◌≤◌, ◌%◌, ◌^◌, T, ℤ}
+use Rattle.std.specs.Prelude.{pos, ◌*ℤ◌}
 use Rattle.numbers.specs.Rational.{Rational, whole, add_q, mul_q, neg_q, abs_q, floor_q, modulo, is_integer, is_zero}
 use Rattle.numbers.specs.Rational.{is_positive, less_q, less_eq_q}
 use Rattle.terms.specs.Operator.{Not, And, Or, Equals, LessThan, LessEq, GreaterThan, GreaterEq, Sub, Mult}
@@ -266,7 +267,8 @@ pub data BoundsForm (by : Departures) (phi1 phi2 : Term) : Type 0 where
   above :
       (s d1 d2 : Term) (q1 q2 : Rational) → IsNot2 GreaterEq s d1 phi1 → Is2 GreaterEq s d2 phi2 →
       Written d1 q1 → Written d2 q2 → T (less_eq_q q2 q1) → BoundsForm by phi1 phi2
-  above_or_not : (s d : Term) → Is2 GreaterEq s d phi1 → IsNot2 GreaterEq s d phi2 → Bound by d → BoundsForm by phi1 phi2
+  above_or_not :
+      (s d : Term) → Is2 GreaterEq s d phi1 → IsNot2 GreaterEq s d phi2 → Bound by d → BoundsForm by phi1 phi2
   apart :
       (s d1 d2 : Term) (q1 q2 : Rational) → IsNot2 LessEq s d1 phi1 → IsNot2 GreaterEq s d2 phi2 →
       Written d1 q1 → Written d2 q2 → T (less_q q1 q2) → BoundsForm by phi1 phi2

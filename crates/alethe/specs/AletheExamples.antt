@@ -2,12 +2,13 @@
 -- arguments made of them. proofs/AletheExamples shows which of them the specification's words accept,
 -- proofs/AletheRefusals and AletheNearMisses which they must not, proofs/AletheDepartures which a departure decides.
 use Rattle.std.specs.Prelude.{List, [], ◌∷◌, ℕ, pos, negsuc}
-use Rattle.numbers.specs.Rational.{frac, gcd_within, gcd, lowest, mul_q, div_q, add_q, neg_q, abs_q, floor_q, is_integer}
+use Rattle.numbers.specs.Rational.{frac, gcd_within, gcd, lowest, mul_q, div_q, add_q, neg_q, abs_q, floor_q}
+use Rattle.numbers.specs.Rational.{is_integer}
 use Rattle.numbers.specs.Rational.{is_zero, is_positive, less_q, less_eq_q}
 use Rattle.terms.specs.Operator.{Not, And, Or, Equals, LessThan, LessEq, GreaterThan, GreaterEq, Add, Sub, Mult}
 use Rattle.terms.specs.Operator.{RealDiv, ToReal, BvAdd, BvSub, BvMul}
 use Rattle.terms.specs.Term.{Term, all, gives, sort}
-use Rattle.numbers.specs.Choice.{if◌then◌else◌}
+use Rattle.numbers.specs.Choice.{when◌then◌else◌}
 use Rattle.terms.specs.Term.Sort.{bool, int, real, bits}
 use Rattle.terms.specs.Term.Term.{integer, rational, bitvector, atom, op}
 use Rattle.terms.specs.Term.Terms.{nil, ◌▹◌}
@@ -324,7 +325,7 @@ mixed = two 131 Equals x_below_y fa_less_fb
 -- ---- one name that opens all that the Alethe side's tests go through: a closed example says `unfolding alethe`
 
 unfoldable pub alethe : Unit {0}
-unfolding gcd_within gcd lowest mul_q div_q add_q neg_q abs_q floor_q is_integer is_zero is_positive less_q less_eq_q if◌then◌else◌
-    all gives sort times_each coefficient_of all_int_in scale_each times_one multiply without occurs same_atoms coefficient_in
-    all_terms sum_bound joined contradicts
+unfolding gcd_within gcd lowest mul_q div_q add_q neg_q abs_q floor_q is_integer is_zero is_positive less_q less_eq_q
+    when◌then◌else◌ all gives sort times_each coefficient_of all_int_in scale_each times_one multiply without occurs
+    same_atoms coefficient_in all_terms sum_bound joined contradicts
 alethe = tt

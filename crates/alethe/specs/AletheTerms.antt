@@ -4,7 +4,8 @@
 use Rattle.std.specs.Prelude.{◌≡◌, Bool, true, false, ◌&&◌, ◌||◌, List, [], ◌∷◌, ◌++◌, ◌⊎◌, ℕ, eqb, ℤ, pos, negsuc}
 use Rattle.numbers.specs.Rational as Rational
 use Rattle.numbers.specs.Rational.{Rational, add_q, mul_q, div_q, neg_q, is_zero}
-use Rattle.terms.specs.Operator.{Not, Equals, LessThan, LessEq, GreaterThan, GreaterEq, Add, Sub, Mult, IntDiv, RealDiv}
+use Rattle.terms.specs.Operator.{Not, Equals, LessThan, LessEq, GreaterThan, GreaterEq, Add, Sub, Mult, IntDiv}
+use Rattle.terms.specs.Operator.{RealDiv}
 use Rattle.terms.specs.Operator.{ToReal, BvAdd, BvSub, BvNeg, BvMul}
 use Rattle.terms.specs.Term.{Term, Terms, sort, same_sort, record_number, same}
 use Rattle.terms.specs.Term.Sort.{int}
@@ -220,7 +221,9 @@ mutual
     atom : {t : Term} → Indivisible t → Expands t ((one, t ∷ []) ∷ [])
     sum : {o : ℕ} {ts : Terms} {t : Term} {m : Products} → IsSum o → Is o ts t → ExpandsAll ts m → Expands t m
     real : {t u : Term} {m : Products} → Is1 ToReal t u → Expands t m → Expands u m
-    minus : {o : ℕ} {t u : Term} {m : Products} → IsMinus o → Is1 o t u → Expands t m → Expands u (scale_each minus_one m)
+    minus :
+        {o : ℕ} {t u : Term} {m : Products} → IsMinus o → Is1 o t u → Expands t m →
+        Expands u (scale_each minus_one m)
     difference :
         {o : ℕ} {t u v : Term} {ts : Terms} {m n : Products} → IsDifference o → Is o (t ▹ u ▹ ts) v → Expands t m →
         ExpandsAll (u ▹ ts) n → Expands v (m ++ scale_each minus_one n)

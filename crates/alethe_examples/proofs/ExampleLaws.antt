@@ -17,7 +17,7 @@ use Rattle.numbers.specs.Rational as Rational
 use Rattle.numbers.specs.Rational.{Rational, add_q, mul_q, neg_q, is_zero}
 use Rattle.terms.specs.Operator.{Not, Equals, LessThan, LessEq, GreaterThan, Mult}
 use Rattle.terms.specs.Term.{Sort, Term, Terms, record_number, unary, binary}
-use Rattle.numbers.specs.Choice.{if◌then◌else◌}
+use Rattle.numbers.specs.Choice.{when◌then◌else◌}
 use Rattle.terms.specs.Term.Term.{integer, rational, op}
 use Rattle.terms.specs.Term.Terms.{nil, ◌▹◌}
 use Rattle.terms.specs.Readers.{as_op, as_number, quotient_of, as_unsigned_fraction, as_fraction}
@@ -139,11 +139,11 @@ abbrev pub moved : Relation → Sum → Sum → Constraint
 moved r s t = constraint (s.terms ++ times_each minus_one t.terms) r (add_q t.constant (neg_q s.constant))
 
 abbrev pub relation_of : ℕ → Relation
-relation_of o = if eqb o Equals then eq else if eqb o GreaterThan || eqb o LessThan then gt else ge
+relation_of o = when eqb o Equals then eq else when eqb o GreaterThan || eqb o LessThan then gt else ge
 
 -- < and <= are turned round
 abbrev pub stated : ℕ → Sum → Sum → Constraint
-stated o s t = if eqb o LessThan || eqb o LessEq then moved (relation_of o) t s else moved (relation_of o) s t
+stated o s t = when eqb o LessThan || eqb o LessEq then moved (relation_of o) t s else moved (relation_of o) s t
 
 turns_no_negation : {p o : ℕ} → Turns p o → p ≡ Not → ⊥
 turns_no_negation less e = omega (arith, e)
@@ -180,7 +180,7 @@ module _ (by : Departures) (i j : ℕ) {a b : Term} (n : Numbers by a b) where
 
   pub states :
       {o : ℕ} {sa sb : Sum} → IsRelation o → Linear a sa → Linear b sb → States by (not_two i j o a b) (stated o sa sb)
-  unfolding if◌then◌else◌
+  unfolding when◌then◌else◌
   states equals la lb = stating equals as-equals la lb
   states less_than la lb = stating less_than turned-less lb la
   states less_eq la lb = stating less_eq turned-less_eq lb la
@@ -191,7 +191,7 @@ module _ {a b : Term} {sa sb : Sum} (oa : Only a sa) (ob : Only b sb) where
   moved-only :
       {c d x y : Term} {p : ℕ} {r : Relation} {left right : Sum} → Oriented c d p r x y → c ≡ a → d ≡ b →
       Linear x left → Linear y right → moved r left right ≡ stated p sa sb
-  unfolding if◌then◌else◌
+  unfolding when◌then◌else◌
   moved-only as-equals ea eb lx ly = ap₂ (moved eq) (oa _ (rw ea at lx)) (ob _ (rw eb at ly))
   moved-only as-greater ea eb lx ly = ap₂ (moved gt) (oa _ (rw ea at lx)) (ob _ (rw eb at ly))
   moved-only as-greater_eq ea eb lx ly = ap₂ (moved ge) (oa _ (rw ea at lx)) (ob _ (rw eb at ly))

@@ -12,7 +12,7 @@ use Rattle.numbers.specs.Rational as Rational
 use Rattle.numbers.specs.Rational.{Rational, whole, div_q, neg_q, is_zero, Lowest}
 use Rattle.terms.specs.Operator.{Sub, IntDiv, RealDiv}
 use Rattle.terms.specs.Term.{Term, Terms, record_number, unary, binary}
-use Rattle.numbers.specs.Choice.{if◌then◌else◌}
+use Rattle.numbers.specs.Choice.{when◌then◌else◌}
 use Rattle.terms.specs.Term.Sort.{int, real}
 use Rattle.terms.specs.Term.Term.{integer, rational, bitvector, atom, op}
 use Rattle.terms.specs.Term.Terms.{nil, ◌▹◌}
@@ -49,7 +49,7 @@ number_means (op i o ts) w q e = not-number e
 
 -- the opposite of what the one argument means
 negation_means : (t x : Term) → unary Sub t ≡ some x → (q : Rational) → Means x q → Means t (neg_q q)
-unfolding value meaning if◌then◌else◌
+unfolding value meaning when◌then◌else◌
 negation_means t x u q m =
     subst (λ (t : Term). Means t (neg_q q)) (sym (unary-shape Sub t x u))
     (record {
@@ -89,7 +89,7 @@ module _ (t : Term) (w : WellFormed t) where
 pub int-div-value :
     (ρ : Assignment) (i : ℕ) (ts : Terms) (q : Rational) → as_fraction unbounded (op i IntDiv ts) ≡ Value q →
     value ρ (op i IntDiv ts) ≡ number (Rational.value q)
-unfolding value meaning if◌then◌else◌
+unfolding value meaning when◌then◌else◌
 int-div-value ρ i ts q =
     ap (λ (r : Reading). elim r as (λ x. Meant) [ Value q ↦ number (Rational.value q) | NotNumber ↦ given ρ i int | OutOfRange ↦ given ρ i int ])
 
@@ -100,7 +100,7 @@ module _ (ρ : Assignment) (i : ℕ) (a b : Term) (d : Rational) where
   pub real-div-value :
       as_fraction unbounded b ≡ Value d → is_zero d ≡ false →
       value ρ (op i RealDiv (a ▹ b ▹ nil)) ≡ number (div_p (as_pair (value ρ a)) (Rational.value d))
-  unfolding value meaning if◌then◌else◌ over-divisor
+  unfolding value meaning when◌then◌else◌ over-divisor
   real-div-value e z =
       ap (λ (r : Reading). over-divisor (elim r as (λ x. Option Rational) [ Value q ↦ cond (is_zero q) none (some q) | NotNumber ↦ none | OutOfRange ↦ none ])) e
       ∙ ap (λ (t : Bool). over-divisor (cond t none (some d))) z

@@ -17,7 +17,7 @@ use Rattle.numbers.specs.Rational as Rational
 use Rattle.numbers.specs.Rational.{is_integer, div_q, modulo}
 use Rattle.terms.specs.Operator.{IntDiv}
 use Rattle.terms.specs.Term.{Sort, Term, Terms, sort, sorts, same_sort, is_bits, all, first, takes, gives, unary, binary}
-use Rattle.numbers.specs.Choice.{if◌then◌else◌}
+use Rattle.numbers.specs.Choice.{when◌then◌else◌}
 use Rattle.terms.specs.Term.Sort.{bool, int, real, bits}
 use Rattle.terms.specs.Term.Term.{integer, rational, bitvector, atom, op}
 use Rattle.terms.specs.Term.Terms.{nil, ◌▹◌}
@@ -66,8 +66,8 @@ all_whole (s ∷ ss) (v ∷ vs) h e =
     (whole_of_int v (subst (λ (s : Sort). OfSort s v) (is_int s k.0) h.0), all_whole ss vs h.1 k.1)
 
 -- a number is of sort Int where all arguments are and then it is whole, and else of sort Real
-number_of_sort : (t : Bool) (p : Pair) → (t ≡ true → Whole p) → OfSort (if t then int else real) (number p)
-unfolding if◌then◌else◌
+number_of_sort : (t : Bool) (p : Pair) → (t ≡ true → Whole p) → OfSort (when t then int else real) (number p)
+unfolding when◌then◌else◌
 number_of_sort true p h = h refl
 number_of_sort false p h = tt
 
@@ -133,7 +133,7 @@ operation_of_sort :
     (ρ : Assignment) (i : ℕ) (ts : Terms) → AllOfSort (sorts ts) (values ρ ts) → (o : ℕ) →
     Operation o (sorts ts) → even_div o ts ≡ true →
     OfSort (gives o (sorts ts)) (meaning o ρ i ts (values ρ ts))
-unfolding gives takes meaning if◌then◌else◌
+unfolding gives takes meaning when◌then◌else◌
 operation_of_sort ρ i ts h o w =
     by_operator (λ o. takes o (sorts ts) ≡ true → even_div o ts ≡ true → OfSort (gives o (sorts ts)) (meaning o ρ i ts (values ρ ts))) o w.least w.most
     (λ t e. tt) (λ t e. tt) (λ t e. tt) (λ t e. tt) (λ t e. tt) (λ t e. tt) (λ t e. tt) (λ t e. tt)
@@ -146,7 +146,7 @@ operation_of_sort ρ i ts h o w =
 
     arithmetic :
         (p : Pair) → (AllWhole (values ρ ts) → Whole p) →
-        OfSort (if all (same_sort int) (sorts ts) then int else real) (number p)
+        OfSort (when all (same_sort int) (sorts ts) then int else real) (number p)
     arithmetic p f = number_of_sort (all (same_sort int) (sorts ts)) p (λ e. f (all_whole (sorts ts) (values ρ ts) h e))
 
     vectors :

@@ -11,7 +11,7 @@ use lib.Dec.{leb, ltb, eqb}
 use lib.ListN.{get_or}
 use Rattle.numbers.specs.Bytes.{Bytes}
 use Rattle.terms.specs.Term.{Sort, Term, Terms, sort, sorts, sort_code}
-use Rattle.numbers.specs.Choice.{if◌then◌else◌}
+use Rattle.numbers.specs.Choice.{when◌then◌else◌}
 use Rattle.terms.specs.Term.Sort.{bool, bits}
 use Rattle.terms.specs.Book.{record_of, operator, sort_byte, field2, unused, is_width, atom_sort, numbers, arg_bytes}
 use Rattle.terms.specs.Book.{nothing, earlier, arguments, node, forest, tree, atom_ok, layout_ok, sort_ok, SortsBelow}
@@ -41,14 +41,14 @@ width-coded r h = rw (width_at_most (field2 r) h)
 module _ (r : Bytes) (other : Bool) where
   vector-atom :
       (t : Bool) → cond t (is_width (field2 r)) other ≡ true →
-      Coded (if t then width_code r else 1) (if t then bits (field2 r) else bool)
-  unfolding if◌then◌else◌
+      Coded (when t then width_code r else 1) (when t then bits (field2 r) else bool)
+  unfolding when◌then◌else◌
   vector-atom true h = width-coded r h
   vector-atom false h = refl
 
   vector-atom_wide :
-      (t : Bool) → cond t (is_width (field2 r)) other ≡ true → Wide (if t then bits (field2 r) else bool)
-  unfolding if◌then◌else◌
+      (t : Bool) → cond t (is_width (field2 r)) other ≡ true → Wide (when t then bits (field2 r) else bool)
+  unfolding when◌then◌else◌
   vector-atom_wide true h = width_at_least (field2 r) h
   vector-atom_wide false h = tt
 
@@ -74,7 +74,7 @@ module _ (i : ℕ) (r : Bytes) (ts : Terms) where
   record_sorted :
       (w : Bytes) → Laid i r → arg_sorts i w (numbers (arg_bytes r)) ≡ codes (sorts ts) → AllWide (sorts ts) →
       sorting i w r ≡ verdict (node i r ts)
-  unfolding sorting sort if◌then◌else◌
+  unfolding sorting sort when◌then◌else◌
   record_sorted w (an_integer k ok) args wide = rw (node-integer i r ts k (integer-number r ok), k)
   record_sorted w (a_rational k ok) args wide = rw (node-rational i r ts k (real-number r ok).0, k)
   record_sorted w (a_vector k ok) args wide =
@@ -99,7 +99,7 @@ module _ (i : ℕ) (r : Bytes) (ts : Terms) where
 
 -- the term of no record is an atom of sort Bool
 sort-nothing : (b : Bytes) → sort (tree b nothing) ≡ bool
-unfolding sort node if◌then◌else◌
+unfolding sort node when◌then◌else◌
 sort-nothing b = rw (tree-node b nothing, record_of-outside b nothing (omega arith))
 
 -- an argument of record i is an earlier record or none

@@ -11,7 +11,7 @@ use lib.Dec.{leb, eqb}
 use lib.ListN.{length, get_or, take}
 use lib.Seq.{take-suc, take_all}
 use Rattle.numbers.specs.Bytes.{Bytes, le}
-use Rattle.numbers.specs.Choice.{if◌then◌else◌}
+use Rattle.numbers.specs.Choice.{when◌then◌else◌}
 use Rattle.terms.specs.Book.{kind, operator, arg_bytes, numbers}
 use Rattle.book.specs.Memory.Sorting.{sort_at, arg_sorts, all_codes, first_code, numeric_code, common, takes_by, gives_by}
 use Rattle.book.specs.Memory.Sorting.{sort_rule, sorting}
@@ -24,48 +24,48 @@ use Rattle.book.proofs.SortRules.{either}
 
 module _ (o : ℕ) (c : ArgSorts) where
   pub takes_logic : o < 4 → takes_by o c ≡ (eqb c.first 1 && c.same)
-  unfolding takes_by if◌then◌else◌
+  unfolding takes_by when◌then◌else◌
   takes_logic h = rw (le-leb o 3 (omega arith))
 
   pub takes-equals : o ≡ 4 → takes_by o c ≡ (c.same || c.numeric)
-  unfolding takes_by if◌then◌else◌
+  unfolding takes_by when◌then◌else◌
   takes-equals h = rw h
 
   pub takes-numbers : 4 ≤ o → (o ≡ 4 → ⊥) → o < 15 → (o ≡ 12 → ⊥) → takes_by o c ≡ c.numeric
-  unfolding takes_by if◌then◌else◌
+  unfolding takes_by when◌then◌else◌
   takes-numbers low other₄ high other₁₂ =
       rw (lt-leb o 3 (omega arith), ne_eqb o 4 other₄, ne_eqb o 12 other₁₂, le-leb o 14 (omega arith))
       (either (λ t. t ≡ c.numeric) (leb o 11) refl refl)
 
   pub takes-integers : o ≡ 12 → takes_by o c ≡ c.int
-  unfolding takes_by if◌then◌else◌
+  unfolding takes_by when◌then◌else◌
   takes-integers h = rw h
 
   pub takes-vectors : 15 ≤ o → takes_by o c ≡ (leb 4 c.first && c.same)
-  unfolding takes_by if◌then◌else◌
+  unfolding takes_by when◌then◌else◌
   takes-vectors h =
       rw (lt-leb o 3 (omega arith), ne_eqb o 4 (λ e. omega arith), lt-leb o 11 (omega arith))
       (rw (ne_eqb o 12 (λ e. omega arith), lt-leb o 14 (omega arith)))
 
   pub gives-truth : o < 9 → gives_by o c ≡ 1
-  unfolding gives_by if◌then◌else◌
+  unfolding gives_by when◌then◌else◌
   gives-truth h = rw (le-leb o 8 (omega arith))
 
-  pub gives-number : 9 ≤ o → o < 12 → gives_by o c ≡ (if c.int then 2 else 3)
-  unfolding gives_by if◌then◌else◌
+  pub gives-number : 9 ≤ o → o < 12 → gives_by o c ≡ (when c.int then 2 else 3)
+  unfolding gives_by when◌then◌else◌
   gives-number low high = rw (lt-leb o 8 (omega arith), le-leb o 11 (omega arith))
 
   pub gives-integer : o ≡ 12 → gives_by o c ≡ 2
-  unfolding gives_by if◌then◌else◌
+  unfolding gives_by when◌then◌else◌
   gives-integer h = rw h
 
   pub gives-real : 12 ≤ o → (o ≡ 12 → ⊥) → o < 15 → gives_by o c ≡ 3
-  unfolding gives_by if◌then◌else◌
+  unfolding gives_by when◌then◌else◌
   gives-real low other high =
       rw (lt-leb o 8 (omega arith), lt-leb o 11 (omega arith), ne_eqb o 12 other, le-leb o 14 (omega arith))
 
   pub gives_first : 15 ≤ o → gives_by o c ≡ c.first
-  unfolding gives_by if◌then◌else◌
+  unfolding gives_by when◌then◌else◌
   gives_first h =
       rw (lt-leb o 8 (omega arith), lt-leb o 11 (omega arith))
       (rw (ne_eqb o 12 (λ e. omega arith), lt-leb o 14 (omega arith)))
@@ -75,7 +75,7 @@ module _ (o : ℕ) (c : ArgSorts) where
 pub sorting-operation :
     (i : ℕ) (w r : Bytes) → kind r ≡ 5 →
     sorting i w r ≡ sort_rule (operator r) (common (arg_sorts i w (numbers (arg_bytes r))))
-unfolding sorting if◌then◌else◌
+unfolding sorting when◌then◌else◌
 sorting-operation i w r e = rw e
 
 pub operation-sorted :

@@ -10,7 +10,7 @@ use borrow.Author.Tests.{le-leb, eqb-true, eqb-false, ne_eqb}
 use lib.Dec.{leb, eqb}
 use Rattle.terms.specs.Operator.{GreaterEq, Mult, IntDiv, ToReal, Equals, Or}
 use Rattle.terms.specs.Term.{Sort, sort_code, same_sort, is_numeric, is_bits, all, first, takes, gives}
-use Rattle.numbers.specs.Choice.{if◌then◌else◌}
+use Rattle.numbers.specs.Choice.{when◌then◌else◌}
 use Rattle.terms.specs.Term.Sort.{bool, int, real, bits}
 use Rattle.book.specs.Memory.Sorting.{all_codes, first_code, numeric_code, common, takes_by, gives_by, sort_rule}
 use Rattle.book.specs.declared.sort.Sorting.TheVariants.{Of, Broken}
@@ -80,13 +80,13 @@ all_bool-codes (c ∷ l) = go (eqb c 1) refl
 -- two chains of tests agree where their arms do
 pub both :
     {A B : Type 0} (R : A → B → Type 0) (t : Bool) {a a' : A} {b b' : B} → R a b → R a' b' →
-    R (if t then a else a') (if t then b else b')
-unfolding if◌then◌else◌
+    R (when t then a else a') (when t then b else b')
+unfolding when◌then◌else◌
 both R true p q = p
 both R false p q = q
 
-pub either : {A : Type 0} (P : A → Type 0) (t : Bool) {a b : A} → P a → P b → P (if t then a else b)
-unfolding if◌then◌else◌
+pub either : {A : Type 0} (P : A → Type 0) (t : Bool) {a b : A} → P a → P b → P (when t then a else b)
+unfolding when◌then◌else◌
 either P true p q = p
 either P false p q = q
 

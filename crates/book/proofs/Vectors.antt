@@ -12,7 +12,7 @@ use borrow.Author.Tests.{eqb-true}
 use lib.IntN.{ℤ}
 use Rattle.terms.specs.Operator.{BvAdd, BvSub, BvNeg, BvMul}
 use Rattle.terms.specs.Term.{Sort, Term, Terms, sort, sorts, same_sort, is_bits, all, first, gives}
-use Rattle.numbers.specs.Choice.{if◌then◌else◌}
+use Rattle.numbers.specs.Choice.{when◌then◌else◌}
 use Rattle.terms.specs.Term.Sort.{bool, int, real, bits}
 use Rattle.terms.specs.Term.Term.{integer, rational, bitvector, atom, op}
 use Rattle.terms.specs.Term.Terms.{nil, ◌▹◌}
@@ -29,15 +29,15 @@ use Rattle.book.proofs.WellFormed.{WellFormed, AllWellFormed, AtomSort, Operatio
 pub not_vector : {A : Type 0} {w : ℕ} (s : Sort) → is_bits s ≡ false → s ≡ bits w → A
 not_vector s e h = never (sym e ∙ ap is_bits h)
 
-number-sort : (t : Bool) → is_bits (if t then int else real) ≡ false
-unfolding if◌then◌else◌
+number-sort : (t : Bool) → is_bits (when t then int else real) ≡ false
+unfolding when◌then◌else◌
 number-sort true = refl
 number-sort false = refl
 
 pub by_vector-operator :
     {w : ℕ} (P : ℕ → Type 0) (o : ℕ) (ts : Terms) → Operation o (sorts ts) → gives o (sorts ts) ≡ bits w →
     P BvAdd → P BvSub → P BvNeg → P BvMul → P o
-unfolding gives if◌then◌else◌
+unfolding gives when◌then◌else◌
 by_vector-operator {w} P o ts h e add sub neg mul =
     by_operator (λ o. gives o (sorts ts) ≡ bits w → P o) o h.least h.most
     truth truth truth truth truth truth truth truth number number number
@@ -47,7 +47,7 @@ by_vector-operator {w} P o ts h e add sub neg mul =
     truth : {A : Type 0} → bool ≡ bits w → A
     truth = not_vector bool refl
 
-    number : {A : Type 0} → (if all (same_sort int) (sorts ts) then int else real) ≡ bits w → A
+    number : {A : Type 0} → (when all (same_sort int) (sorts ts) then int else real) ≡ bits w → A
     number = not_vector _ (number-sort (all (same_sort int) (sorts ts)))
 
 -- ---- the width
@@ -59,7 +59,7 @@ atom-width real w h e = not_vector real refl e
 atom-width (bits v) w h e = let k : v ≡ w = cc in omega (arith, h.least)
 
 mutual
-  unfolding WellFormed sort gives if◌then◌else◌
+  unfolding WellFormed sort gives when◌then◌else◌
 
   pub width_positive : (t : Term) → WellFormed t → (w : ℕ) → sort t ≡ bits w → 1 ≤ w
   width_positive (integer i v) h w e = not_vector int refl e
@@ -96,7 +96,7 @@ pub record IsBits (w : ℕ) (v : Meant) : Type 0 where
 
 pub vector-value :
     (t : Term) → WellFormed t → (w : ℕ) → sort t ≡ bits w → (ρ : Assignment) → IsBits w (value ρ t)
-unfolding WellFormed sort value gives meaning if◌then◌else◌
+unfolding WellFormed sort value gives meaning when◌then◌else◌
 vector-value (integer i v) h w e ρ = not_vector int refl e
 vector-value (rational i q) h w e ρ = not_vector real refl e
 vector-value (bitvector i v n) h w e ρ =

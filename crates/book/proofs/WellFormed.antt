@@ -15,7 +15,7 @@ use Rattle.numbers.specs.Bytes.{Bytes}
 use Rattle.numbers.specs.Rational.{Lowest, in_range}
 use Rattle.terms.specs.Operator.{Not, Sub, IntDiv, RealDiv, ToReal, BvSub, BvNeg, BvMul}
 use Rattle.terms.specs.Term.{Sort, Term, Terms, sorts, takes}
-use Rattle.numbers.specs.Choice.{if◌then◌else◌}
+use Rattle.numbers.specs.Choice.{when◌then◌else◌}
 use Rattle.terms.specs.Term.Sort.{bool, int, real, bits}
 use Rattle.terms.specs.Term.Term.{integer, rational, bitvector, atom, op}
 use Rattle.terms.specs.Term.Terms.{nil, ◌▹◌}
@@ -80,8 +80,8 @@ is_vector_lem r e =
 -- `i`, `r` and `v` say that the sort is 2, 3 or 4
 atom-sort :
     (i r v : Bool) (w : ℕ) (x : Bool) → cond v (is_width w) x ≡ true →
-    AtomSort (if i then int else if r then real else if v then bits w else bool)
-unfolding if◌then◌else◌
+    AtomSort (when i then int else when r then real else when v then bits w else bool)
+unfolding when◌then◌else◌
 atom-sort true r v w x e = tt
 atom-sort false true v w x e = tt
 atom-sort false false true w x e = is_width_lem w e
@@ -147,12 +147,12 @@ module _ (i : ℕ) (r : Bytes) (ts : Terms) where
 -- ---- an operation's arguments
 
 pub count_ok-most : (o n : ℕ) → count_ok o n ≡ true → n ≤ 14
-unfolding count_ok if◌then◌else◌
+unfolding count_ok when◌then◌else◌
 count_ok-most o n =
-    go (eqb o Not || (eqb o ToReal || eqb o BvNeg)) (eqb o IntDiv || (eqb o RealDiv || eqb o BvSub)) (if eqb o Sub then 1 else 2)
+    go (eqb o Not || (eqb o ToReal || eqb o BvNeg)) (eqb o IntDiv || (eqb o RealDiv || eqb o BvSub)) (when eqb o Sub then 1 else 2)
   where
     go :
-        (s t : Bool) (m : ℕ) → (if s then eqb n 1 else if t then eqb n 2 else leb n 14 && leb m n) ≡ true →
+        (s t : Bool) (m : ℕ) → (when s then eqb n 1 else when t then eqb n 2 else leb n 14 && leb m n) ≡ true →
         n ≤ 14
     go true t m e = omega (arith, eqb-true n 1 e)
     go false true m e = omega (arith, eqb-true n 2 e)

@@ -14,7 +14,7 @@ use lib.ListN.{length}
 use Rattle.numbers.specs.Bytes.{Bytes}
 use Rattle.terms.specs.Operator.{Not, Equals, LessThan, LessEq, GreaterThan, GreaterEq}
 use Rattle.terms.specs.Term.{Term, Terms, record_number, unary}
-use Rattle.numbers.specs.Choice.{if◌then◌else◌}
+use Rattle.numbers.specs.Choice.{when◌then◌else◌}
 use Rattle.terms.specs.Term.Term.{op}
 use Rattle.terms.specs.Term.Terms.{nil, ◌▹◌}
 use Rattle.terms.specs.Book.{count, record_of, arg_bytes, tree, numbers, arguments, argument_at, earlier, forest, all_below}
@@ -44,25 +44,25 @@ use Rattle.book.proofs.ArgumentsBelow.{args-below}
 
 module _ (o : ℕ) where
   pub negated-less : o ≡ LessThan → GreaterEq ≡ or_zero (negate_operator o)
-  unfolding negate_operator if◌then◌else◌
+  unfolding negate_operator when◌then◌else◌
   negated-less e = rw e
 
   pub negated-greater : o ≡ GreaterThan → LessEq ≡ or_zero (negate_operator o)
-  unfolding negate_operator if◌then◌else◌
+  unfolding negate_operator when◌then◌else◌
   negated-greater e = rw e
 
   pub negated-less-eq : o ≡ LessEq → GreaterThan ≡ or_zero (negate_operator o)
-  unfolding negate_operator if◌then◌else◌
+  unfolding negate_operator when◌then◌else◌
   negated-less-eq e = rw e
 
   pub negated-greater-eq : o ≡ GreaterEq → LessThan ≡ or_zero (negate_operator o)
-  unfolding negate_operator if◌then◌else◌
+  unfolding negate_operator when◌then◌else◌
   negated-greater-eq e = rw e
 
   pub not-negated :
       (o ≡ LessThan → ⊥) → (o ≡ GreaterThan → ⊥) → (o ≡ LessEq → ⊥) → (o ≡ GreaterEq → ⊥) →
       0 ≡ or_zero (negate_operator o)
-  unfolding negate_operator if◌then◌else◌
+  unfolding negate_operator when◌then◌else◌
   not-negated f g h k =
       rw (negate_operator, ne_eqb o LessThan f, ne_eqb o GreaterThan g, ne_eqb o LessEq h, ne_eqb o GreaterEq k)
 
@@ -74,7 +74,7 @@ relation_in m = elim m [ some p ↦ elim (is_relation p.0) [ true ↦ some p | f
 
 -- under a negation
 negation-inner : (i : ℕ) (u : Term) → inner (op i Not (u ▹ nil)) ≡ relation_in (as_op u)
-unfolding inner remove_negation unary as_op negate_operator if◌then◌else◌
+unfolding inner remove_negation unary as_op negate_operator when◌then◌else◌
 negation-inner i u = refl
 
 -- what m is as an operator and arguments
@@ -106,7 +106,7 @@ plain-inner t e = rw (e, inner)
 is_negated :
     (m : Option (ℕ × Terms)) (o : ℕ) → o ≡ or_zero (negate_operator (operator_in m)) → (o ≡ 0 → ⊥) →
     negated_in m ≡ some (o, arguments_in m)
-unfolding negate_operator if◌then◌else◌
+unfolding negate_operator when◌then◌else◌
 is_negated none o e h = absurd (h e)
 is_negated (some p) o e h = go (negate_operator p.0) e
   where
@@ -119,14 +119,14 @@ is_negated (some p) o e h = go (negate_operator p.0) e
 -- no operator's negation is 0
 abbrev by_tests : Bool → Bool → Bool → Bool → Option ℕ
 by_tests s t u v =
-    if s then some GreaterEq else
-    if t then some LessEq else
-    if u then some GreaterThan else
-    if v then some LessThan else
+    when s then some GreaterEq else
+    when t then some LessEq else
+    when u then some GreaterThan else
+    when v then some LessThan else
     none
 
 negated-nonzero : (o : ℕ) → or_zero (negate_operator o) ≡ 0 → negate_operator o ≡ none
-unfolding negate_operator if◌then◌else◌
+unfolding negate_operator when◌then◌else◌
 negated-nonzero o = go (eqb o LessThan) (eqb o GreaterThan) (eqb o LessEq) (eqb o GreaterEq)
   where
     go : (s t u v : Bool) → or_zero (by_tests s t u v) ≡ 0 → by_tests s t u v ≡ none

@@ -13,7 +13,7 @@ use Rattle.numbers.specs.Rational.{is_zero, eq_q}
 use Rattle.terms.specs.Operator.{GreaterThan, GreaterEq}
 use Rattle.numbers.specs.Bytes.{Bytes}
 use Rattle.terms.specs.Term.{Term}
-use Rattle.numbers.specs.Choice.{if◌then◌else◌}
+use Rattle.numbers.specs.Choice.{when◌then◌else◌}
 use Rattle.numbers.specs.declared.number.Checked.{Checked}
 use Rattle.numbers.specs.declared.number.Checked.TheVariants as answer
 use Rattle.rules.specs.Refusal.{Result, ◌>>=◌}
@@ -41,7 +41,7 @@ times-wholes d a a-is a-whole d-is d-whole = sym (times-whole d a (sym d-is ∙ 
 
 module _ (d a : Rational) {zero : Bool} (zero_is : zero ≡ is_zero a) where
   pub times_zero : zero ≡ true → true ≡ is_integer_times d a
-  unfolding is_integer_times if◌then◌else◌
+  unfolding is_integer_times when◌then◌else◌
   times_zero e = rw (← zero_is, is_integer_times, e)
 
   module _ (nonzero : zero ≡ false) {one : Rational} (one-is : one ≡ whole (pos 1)) {same : Bool}
@@ -50,11 +50,11 @@ module _ (d a : Rational) {zero : Bool} (zero_is : zero ≡ is_zero a) where
     same_one = same_is ∙ ap (eq_q a) one-is
 
     pub times_one_lem : {r : Bool} → same ≡ true → r ≡ is_integer d → r ≡ is_integer_times d a
-    unfolding is_integer_times if◌then◌else◌
+    unfolding is_integer_times when◌then◌else◌
     times_one_lem e r-is = r-is ∙ rw (← zero_is, is_integer_times, nonzero, ← same_one, e)
 
     pub times-other : {r : Bool} → same ≡ false → r ≡ is_integer (mul_q d a) → r ≡ is_integer_times d a
-    unfolding is_integer_times if◌then◌else◌
+    unfolding is_integer_times when◌then◌else◌
     times-other e r-is = r-is ∙ rw (← zero_is, is_integer_times, nonzero, ← same_one, e)
 
 -- ---- raised

@@ -10,7 +10,7 @@ use Rattle.numbers.specs.Rational.{Rational, Makes, neg_q}
 use Rattle.numbers.specs.Bytes.{Bytes}
 use Rattle.terms.specs.Operator.{LessThan, LessEq, GreaterThan, GreaterEq}
 use Rattle.terms.specs.Term.{Term}
-use Rattle.numbers.specs.Choice.{if◌then◌else◌}
+use Rattle.numbers.specs.Choice.{when◌then◌else◌}
 use Rattle.numbers.proofs.Ranges.{proper-neg}
 use Rattle.rules.specs.Refusal.{number, Result, ◌>>=◌}
 use Rattle.rules.specs.Refusal.Outcome.{ok}
@@ -47,7 +47,7 @@ module _ {b w : Bytes} {s : Sum} (a : Area 1 w) (kept : KeptSum b (area_of 1 w) 
   pub as_it_is :
       o ≢ LessThan → o ≢ LessEq →
       LiteralLeft b w w (is_now o s n) (ok (turned o (comb_of b (area_of 1 w) s) n))
-  unfolding turned if◌then◌else◌
+  unfolding turned when◌then◌else◌
   as_it_is not-less not-less-eq =
       record {
         map = kept.kept.map;
@@ -72,12 +72,12 @@ module _ {b w : Bytes} {s : Sum} (a : Area 1 w) (kept : KeptSum b (area_of 1 w) 
 
     pub from_less :
         o ≡ LessThan → LiteralLeft b w w' (is_now GreaterThan r n) (ok (turned o (comb_of b (area_of 1 w) s) n))
-    unfolding turned if◌then◌else◌ neg
+    unfolding turned when◌then◌else◌ neg
     from_less less = record { map = _; held = held; only = only; is = (rw (turned, less, is), has) }
 
     pub from_less-eq :
         o ≡ LessEq → LiteralLeft b w w' (is_now GreaterEq r n) (ok (turned o (comb_of b (area_of 1 w) s) n))
-    unfolding turned if◌then◌else◌ neg
+    unfolding turned when◌then◌else◌ neg
     from_less-eq less = record { map = _; held = held; only = only; is = (rw (turned, less, is), has) }
 
 -- ---- subtracted

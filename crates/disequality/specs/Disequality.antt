@@ -5,7 +5,7 @@ use Rattle.std.proofs.Math.Option.{Option, some, none}
 use Rattle.numbers.specs.Rational.{Rational, whole, mul_q, neg_q, floor_q, is_integer, is_zero, eq_q}
 use Rattle.terms.specs.Operator.{LessThan, LessEq, GreaterThan, GreaterEq}
 use Rattle.terms.specs.Term.{Term, Terms}
-use Rattle.numbers.specs.Choice.{if◌then◌else◌}
+use Rattle.numbers.specs.Choice.{when◌then◌else◌}
 use Rattle.terms.specs.Term.Terms.{nil, ◌▹◌}
 use Rattle.terms.specs.Readers.{as_op, remove_negation}
 use Rattle.rules.specs.Refusal.{Result, or_else, ◌>>=◌}
@@ -20,10 +20,10 @@ use Rattle.rules.specs.Shapes.{is_relation}
 
 unfoldable pub negate_operator : ℕ → Option ℕ
 negate_operator o =
-    if eqb o LessThan then some GreaterEq else
-    if eqb o GreaterThan then some LessEq else
-    if eqb o LessEq then some GreaterThan else
-    if eqb o GreaterEq then some LessThan else
+    when eqb o LessThan then some GreaterEq else
+    when eqb o GreaterThan then some LessEq else
+    when eqb o LessEq then some GreaterThan else
+    when eqb o GreaterEq then some LessThan else
     none
 
 -- the operation under a negation, where there is one
@@ -67,8 +67,8 @@ negate_disequality l phi n = do
 -- < and <= are turned to > and >=
 unfoldable pub turned : ℕ → LinearComb → ℕ → Disequality
 turned o s n =
-    if eqb o LessThan then disequality GreaterThan (neg s) n else
-    if eqb o LessEq then disequality GreaterEq (neg s) n else
+    when eqb o LessThan then disequality GreaterThan (neg s) n else
+    when eqb o LessEq then disequality GreaterEq (neg s) n else
     disequality o s n
 
 -- steps 1 to 3: negated, all atoms on the left and the constant on the right, turned to > or >=
@@ -81,8 +81,8 @@ disequality_of l phi n = do
 -- whether the constant times the argument is whole; the product itself is not tested for its range
 unfoldable pub is_integer_times : Rational → Rational → Bool
 is_integer_times d a =
-    if is_zero a then true else
-    if eq_q a (whole (pos 1)) then is_integer d else
+    when is_zero a then true else
+    when eq_q a (whole (pos 1)) then is_integer d else
     is_integer (mul_q d a)
 
 -- the constant is rounded down, and then raised

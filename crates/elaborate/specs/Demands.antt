@@ -15,7 +15,8 @@ use Rattle.alethe.specs.AletheDifferences.{NoZeroArgument}
 use Rattle.runs.specs.Verdict.{lent, is_lent, is_of_rule, is_lent_or_limit}
 use Rattle.runs.specs.Verdict.LentRefusal.{no_room}
 use Rattle.runs.specs.Rule.{Rule}
-use Rattle.runs.specs.Rule.Rule.{assume, la_rw_eq, la_disequality, la_totality, la_tautology, la_generic, bounded_farkas}
+use Rattle.runs.specs.Rule.Rule.{assume, la_rw_eq, la_disequality, la_totality, la_tautology, la_generic}
+use Rattle.runs.specs.Rule.Rule.{bounded_farkas}
 use Rattle.runs.specs.Rule.Rule.{poly_simp, poly_simp_rel}
 use Rattle.runs.specs.Run.{Step, step, steps_of, Every}
 use Rattle.steps.specs.CheckStep.{clauses_of}
@@ -43,7 +44,8 @@ check_of m limit = check m.book m.run limit (length m.work)
 -- the two give one verdict and one count
 pub record TraceOnAndOff (m : Memory) (limit : ℕ) : Type 0 where
   -- one verdict, but that '8 is tested after the marking and replaces the run's verdict'
-  pub verdict : ((answer_to m limit).verdict ≡ lent no_room → ⊥) → (answer_to m limit).verdict ≡ (check_of m limit).verdict
+  pub verdict :
+      ((answer_to m limit).verdict ≡ lent no_room → ⊥) → (answer_to m limit).verdict ≡ (check_of m limit).verdict
   -- 'accepted steps and visits stay in the answer', under refusal 8 too
   pub steps : (answer_to m limit).steps ≡ length (check_of m limit).steps
   pub visits : (answer_to m limit).visits ≡ (check_of m limit).visits
@@ -106,7 +108,8 @@ MeetsAlethe =
 
 -- the step at which a run stops
 abbrev pub stops_at : Bytes → Bytes → ℕ → Step
-stops_at book run limit = get_or (steps_of book run) (length (mark (limited limit) book run).steps) (step assume [] [] [])
+stops_at book run limit =
+    get_or (steps_of book run) (length (mark (limited limit) book run).steps) (step assume [] [] [])
 
 -- where Carcara refuses what the words accept, by the rule and the clause
 pub data Differs (by : Alethe.Departures) : Rule → Clause → Type 0 where

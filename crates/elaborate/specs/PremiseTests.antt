@@ -51,5 +51,6 @@ all_tested ((book, run, ts) ∷ cs) = all_met (mark (limited 1000) (joined book)
 
 -- one name that opens all that computing the tests goes through, beside `marks` of Cases
 unfoldable pub tests : Unit {0}
-unfolding premises_met all_met all_tested divs_even all_even whole_coefficients whole_literal whole_given whole_literals
+unfolding premises_met all_met all_tested divs_even all_even whole_coefficients whole_literal whole_given
+    whole_literals
 tests = tt

@@ -9,7 +9,7 @@ use native.Mathlib.Omega.{arith}
 use lib.ListN.{length, length-append}
 use Rattle.numbers.specs.Rational.{Rational, Makes, Gives, add_q, is_zero, checked}
 use Rattle.numbers.specs.Bytes.{Bytes, number_at}
-use Rattle.numbers.specs.Choice.{if◌then◌else◌}
+use Rattle.numbers.specs.Choice.{when◌then◌else◌}
 use Rattle.numbers.specs.declared.number.Checked.{Checked}
 use Rattle.numbers.specs.declared.number.Checked.TheVariants as answer
 use Rattle.rules.specs.Refusal.{Result, ◌>>=◌}
@@ -153,7 +153,7 @@ module _
         pub sum_gone :
             is_zero sum ≡ true → v ≡ swapped enc n k w →
             Made enc places Good b v (n - 1) (insert keyed (limited l) m x value)
-        unfolding ◌>>=◌ if◌then◌else◌
+        unfolding ◌>>=◌ when◌then◌else◌
         sum_gone z left =
             let t = there below in
             let p = t.front in
@@ -174,7 +174,7 @@ module _
         pub sum-put :
             is_zero sum ≡ false → v ≡ put_entry enc w k c sum →
             Made enc places Good b v n (insert keyed (limited l) m x value)
-        unfolding ◌>>=◌ if◌then◌else◌
+        unfolding ◌>>=◌ when◌then◌else◌
         sum-put z left =
             let t = there below in
             let p = t.front in

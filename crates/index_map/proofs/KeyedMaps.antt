@@ -9,7 +9,7 @@ use native.Mathlib.Nat.{add-zero}
 use native.Mathlib.Omega.{arith}
 use lib.ListN.{length}
 use Rattle.numbers.specs.Rational.{Rational, is_zero}
-use Rattle.numbers.specs.Choice.{if◌then◌else◌}
+use Rattle.numbers.specs.Choice.{when◌then◌else◌}
 use Rattle.terms.specs.Readers.{within}
 use Rattle.rules.specs.Refusal.{Result, ◌>>=◌, assert}
 use Rattle.rules.specs.Refusal.Outcome.{ok, refused}
@@ -62,7 +62,7 @@ module _ {K : Type 0} (keys : Keys K) (key : K) where
 
   -- what an insertion makes of p ++ e ∷ s, by the sum of e's value and the new one
   abbrev pub entered : Map K → K × Rational → Map K → Result Rational → Result (Map K)
-  entered p e s sum = sum >>= λ q. ok (p ++ (if is_zero q then swap_remove s else (e.0, q) ∷ s))
+  entered p e s sum = sum >>= λ q. ok (p ++ (when is_zero q then swap_remove s else (e.0, q) ∷ s))
 
   -- an entry more, where n of them are within the limit
   abbrev pub appended : Limits → ℕ → Map K → Rational → Result (Map K)

@@ -4,7 +4,7 @@
 use Rattle.std.specs.Prelude.{Bool, true, false, List, [], ◌∷◌, ℕ, suc, pos}
 use Rattle.std.proofs.Math.Option.{Option, some, none}
 use Rattle.numbers.specs.Rational.{Rational, whole, neg_q, is_zero}
-use Rattle.numbers.specs.Choice.{if◌then◌else◌}
+use Rattle.numbers.specs.Choice.{when◌then◌else◌}
 use Rattle.terms.specs.Readers.{Bound, within}
 use Rattle.rules.specs.Refusal.{Result, ◌>>=◌, assert}
 use Rattle.rules.specs.Refusal.Outcome.{ok}
@@ -67,7 +67,7 @@ module _ {K : Type 0} (keys : Keys K) where
   enter l n (e ∷ m) key value = elim (keys.same e.0 key) [
     | true ↦ (do
       sum ← plus l e.1 value
-      ok (if is_zero sum then swap_remove m else (e.0, sum) ∷ m))
+      ok (when is_zero sum then swap_remove m else (e.0, sum) ∷ m))
     | false ↦ (do
       r ← enter l (suc n) m key value
       ok (e ∷ r))

@@ -8,7 +8,7 @@ use borrow.Author.Tests.{eq-eqb, ne_eqb}
 use lib.Dec.{eqb}
 use Rattle.numbers.specs.Rational.{Rational, is_zero, is_positive}
 use Rattle.numbers.specs.Bytes.{Bytes}
-use Rattle.numbers.specs.Choice.{if◌then◌else◌}
+use Rattle.numbers.specs.Choice.{when◌then◌else◌}
 use Rattle.terms.specs.Operator.{Equals, GreaterThan}
 use Rattle.rules.specs.Refusal.{number}
 use Rattle.rules.specs.Refusal.Refusal.{disequality_is_not_contradiction}
@@ -26,23 +26,23 @@ use Rattle.rules.specs.declared.verdict.Verdict.TheVariants.{Accepted, Refused}
 
 module _ (o : ℕ) (r : Rational) (p : Bool) (p_is : p ≡ is_positive r) where
   pub positive-right : p ≡ true → false ≡ is_true_at_zero o r
-  unfolding is_true_at_zero if◌then◌else◌
-  positive-right h = let e : is_positive r ≡ true = cc in rw (e, is_true_at_zero, if◌then◌else◌)
+  unfolding is_true_at_zero when◌then◌else◌
+  positive-right h = let e : is_positive r ≡ true = cc in rw (e, is_true_at_zero, when◌then◌else◌)
 
   module _ (z : Bool) (z-is : z ≡ is_zero r) (h : p ≡ false) where
     pub zero_right : z ≡ true → not (eqb o GreaterThan) ≡ is_true_at_zero o r
-    unfolding is_true_at_zero if◌then◌else◌
+    unfolding is_true_at_zero when◌then◌else◌
     zero_right g =
         let e : is_positive r ≡ false = cc in
         let f : is_zero r ≡ true = cc in
-        rw (e, f, is_true_at_zero, if◌then◌else◌)
+        rw (e, f, is_true_at_zero, when◌then◌else◌)
 
     pub negative-right : z ≡ false → not (eqb o Equals) ≡ is_true_at_zero o r
-    unfolding is_true_at_zero if◌then◌else◌
+    unfolding is_true_at_zero when◌then◌else◌
     negative-right g =
         let e : is_positive r ≡ false = cc in
         let f : is_zero r ≡ false = cc in
-        rw (e, f, is_true_at_zero, if◌then◌else◌)
+        rw (e, f, is_true_at_zero, when◌then◌else◌)
 
 -- ---- the left side is empty and the disequality is a contradiction
 

@@ -6,10 +6,11 @@ use Rattle.std.proofs.Math.Option.{some, none}
 use Rattle.numbers.specs.Rational.{Rational, is_zero, is_positive}
 use Rattle.terms.specs.Operator.{Or, Equals, GreaterThan}
 use Rattle.terms.specs.Term.{Term, binary}
-use Rattle.numbers.specs.Choice.{if◌then◌else◌}
+use Rattle.numbers.specs.Choice.{when◌then◌else◌}
 use Rattle.rules.specs.Refusal.{Result, ◌>>=◌, assert}
 use Rattle.rules.specs.Refusal.Outcome.{ok}
-use Rattle.rules.specs.Refusal.Refusal.{wrong_number_of_args, disequality_is_not_contradiction, disequality_is_not_tautology}
+use Rattle.rules.specs.Refusal.Refusal.{wrong_number_of_args, disequality_is_not_contradiction}
+use Rattle.rules.specs.Refusal.Refusal.{disequality_is_not_tautology}
 use Rattle.rules.specs.Limits.{Limits, fraction_err}
 use Rattle.index_map.specs.IndexMap.{is_empty, new}
 use Rattle.rules.specs.Shapes.{Clause, only_literal}
@@ -40,8 +41,8 @@ fold_literals l (phi ∷ clause) (a ∷ args) p = do
 -- whether 0 stands in the relation to the right side: only =, > and >= arise
 unfoldable pub is_true_at_zero : ℕ → Rational → Bool
 is_true_at_zero o r =
-    if is_positive r then false else
-    if is_zero r then not (eqb o GreaterThan) else
+    when is_positive r then false else
+    when is_zero r then not (eqb o GreaterThan) else
     not (eqb o Equals)
 
 unfoldable pub la_generic_partial : Limits → Clause → List Term → ℕ → Result Progress

@@ -18,7 +18,7 @@ use Rattle.numbers.specs.Pair.{eq_z}
 use Rattle.numbers.specs.Rational.{Rational, Proper, limit, whole, gcd, is_integer}
 use Rattle.numbers.specs.Bytes.{Bytes, number_at}
 use Rattle.terms.specs.Term.{Term}
-use Rattle.numbers.specs.Choice.{if◌then◌else◌}
+use Rattle.numbers.specs.Choice.{when◌then◌else◌}
 use Rattle.numbers.proofs.Divisors.{gcd-zero, gcd_dvd_right}
 use Rattle.numbers.proofs.Machine.{R, eqb-of_z}
 use Rattle.index_map.specs.IndexMap.{Map}
@@ -45,7 +45,7 @@ module _ (g : ℤ) (e : Term × Rational) (r : Map Term) where
     stops_at_fraction fraction = rw (other, fraction, gcd_from)
 
 at_the_end : (g : ℤ) (t : Bool) → lt_z g (pos 1) ≡ t → gcd_from g [] ≡ elim t as (λ x. ℤ) [ true ↦ pos 1 | false ↦ g ]
-unfolding gcd_from if◌then◌else◌
+unfolding gcd_from when◌then◌else◌
 at_the_end (pos m) true e = let h : m < 1 = ltb-true m 1 e in rw (lt-leb 1 m h)
 at_the_end (pos m) false e = let h : 1 ≤ m = ltb-false m 1 e in rw (le-leb 1 m h)
 at_the_end (negsuc m) true e = refl

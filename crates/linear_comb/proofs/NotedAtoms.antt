@@ -21,7 +21,7 @@ use lib.Pow.{pow_pos, pow-lt}
 use lib.Seq.{get_or-set_same, get_or-set_other}
 use Rattle.numbers.specs.Rational.{Rational, is_zero}
 use Rattle.numbers.specs.Bytes.{Bytes}
-use Rattle.numbers.specs.Choice.{if◌then◌else◌}
+use Rattle.numbers.specs.Choice.{when◌then◌else◌}
 use Rattle.terms.specs.Term.{Term, record_number, same}
 use Rattle.terms.specs.Book.{tree}
 use Rattle.terms.specs.Format.{max_records}
@@ -120,11 +120,11 @@ module _ (ns : List ℕ) (long : length ns ≡ note_words) (x : ℕ) (small : x 
 
 module _ (ns : List ℕ) (x : ℕ) where
   pub noting-known : is_noted ns x ≡ true → noting ns x ≡ ns
-  unfolding noting if◌then◌else◌
+  unfolding noting when◌then◌else◌
   noting-known known = rw (noting, known)
 
   pub noting-other : is_noted ns x ≡ false → noting ns x ≡ with_note ns x
-  unfolding noting if◌then◌else◌
+  unfolding noting when◌then◌else◌
   noting-other other = rw (noting, other)
 
 module _ (ns : List ℕ) (long : length ns ≡ note_words) (x : ℕ) (small : x < max_records) where

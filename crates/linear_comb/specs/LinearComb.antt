@@ -4,7 +4,7 @@ use Rattle.std.specs.Prelude.{true, false, ◌&&◌, Bool, [], ◌∷◌, leb, �
 use Rattle.numbers.specs.Pair.{eq_z}
 use Rattle.numbers.specs.Rational.{Rational, whole, gcd, is_zero, is_integer, eq_q}
 use Rattle.terms.specs.Term.{Term, sort, same_sort}
-use Rattle.numbers.specs.Choice.{if◌then◌else◌}
+use Rattle.numbers.specs.Choice.{when◌then◌else◌}
 use Rattle.rules.specs.Refusal.{Result, ◌>>=◌}
 use Rattle.rules.specs.Refusal.Outcome.{ok}
 use Rattle.rules.specs.Limits.{Limits, times}
@@ -32,7 +32,7 @@ mul l s q = elim (is_zero q) [
 
 -- `max(1, result)`
 abbrev pub at_least_one : ℤ → ℤ
-at_least_one (pos n) = if leb 1 n then pos n else pos 1
+at_least_one (pos n) = when leb 1 n then pos n else pos 1
 at_least_one (negsuc n) = pos 1
 
 -- the loop over the coefficients, with the result so far

@@ -13,7 +13,7 @@ use lib.IntN.{pos}
 use lib.Signed.{lt_z}
 use Rattle.numbers.specs.Rational.{Rational, whole, Lowest, is_zero, is_positive, eq_q}
 use Rattle.terms.specs.Term.{Term}
-use Rattle.numbers.specs.Choice.{if◌then◌else◌}
+use Rattle.numbers.specs.Choice.{when◌then◌else◌}
 use Rattle.numbers.proofs.Rationals.{eq_z-eq, eq_q-eq}
 use Rattle.numbers.proofs.Truths.{never}
 use Rattle.numbers.proofs.Ring.{◌⊗◌, neg, 𝟘, 𝟙, ◌≐◌, ◌·◌, ◌and◌, ◌from◌, derive}
@@ -42,7 +42,7 @@ operator_is is_greater = refl
 operator_is is_greater_eq = refl
 
 pub join_operators_lem : (r s : Relation) → join_operators (operator_of r) (operator_of s) ≡ operator_of (stronger r s)
-unfolding if◌then◌else◌
+unfolding when◌then◌else◌
 join_operators_lem eq eq = refl
 join_operators_lem eq ge = refl
 join_operators_lem eq gt = refl
@@ -54,7 +54,7 @@ join_operators_lem gt ge = refl
 join_operators_lem gt gt = refl
 
 pub scalar-factor : (r : Relation) (a : Rational) → scalar (operator_of r) a ≡ factor r a
-unfolding if◌then◌else◌
+unfolding when◌then◌else◌
 scalar-factor eq a = refl
 scalar-factor ge a = refl
 scalar-factor gt a = refl
@@ -62,7 +62,7 @@ scalar-factor gt a = refl
 -- > with argument 0 becomes >= on both sides, or does not arise
 pub weakened-operator : {by : Departures} {a : Rational} {r s : Relation} → ScaledRelation by a r s →
     (r ≡ gt → by Departure.argument_zero ⊎ (is_zero a ≡ false)) → weakened (operator_of r) a ≡ operator_of s
-unfolding if◌then◌else◌
+unfolding when◌then◌else◌
 weakened-operator (stays eq c) h = refl
 weakened-operator (stays ge c) h = refl
 weakened-operator {a = a} (stays gt c) h =
@@ -86,24 +86,24 @@ not-both d p z = never (ap (lt_z (pos 0)) (sym (eq_z-eq d.num (pos 0) z)) ∙ p)
 
 -- 0 ⋈ d is false where the Rust finds that it is not true
 pub contradicts_is : (r : Relation) (d : Rational) → contradicts r d ≡ not (is_true_at_zero (operator_of r) d)
-unfolding contradicts is_true_at_zero if◌then◌else◌
+unfolding contradicts is_true_at_zero when◌then◌else◌
 contradicts_is eq d = at (is_positive d) (is_zero d) (not-both d)
   where
     at : (p z : Bool) → (p ≡ true → z ≡ true → ⊥) →
-        not z ≡ not (if p then false else if z then true else false)
+        not z ≡ not (when p then false else when z then true else false)
     at true true h = absurd (h refl refl)
     at true false h = refl
     at false true h = refl
     at false false h = refl
 contradicts_is ge d = at (is_positive d) (is_zero d)
   where
-    at : (p z : Bool) → p ≡ not (if p then false else if z then true else true)
+    at : (p z : Bool) → p ≡ not (when p then false else when z then true else true)
     at true z = refl
     at false true = refl
     at false false = refl
 contradicts_is gt d = at (is_positive d) (is_zero d)
   where
-    at : (p z : Bool) → (p || z) ≡ not (if p then false else if z then false else true)
+    at : (p z : Bool) → (p || z) ≡ not (when p then false else when z then false else true)
     at true z = refl
     at false true = refl
     at false false = refl

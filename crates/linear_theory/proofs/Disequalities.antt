@@ -11,7 +11,7 @@ use lib.Dec.{eqb}
 use Rattle.numbers.specs.Rational.{Lowest, neg_q}
 use Rattle.terms.specs.Operator.{Equals, GreaterThan, GreaterEq}
 use Rattle.terms.specs.Term.{Term, Terms}
-use Rattle.numbers.specs.Choice.{if◌then◌else◌}
+use Rattle.numbers.specs.Choice.{when◌then◌else◌}
 use Rattle.terms.specs.Term.Terms.{nil, ◌▹◌}
 use Rattle.terms.specs.Smtlib.{Assignment, is_true, value}
 use Rattle.numbers.proofs.Comparisons.{of_eq_p, of_less_p, of_less_eq_p}
@@ -109,7 +109,7 @@ sides-inside P turned-less_eq pa pb = (pb, pa)
 -- the operator that a relation is turned to
 turned-operator : {a b x y : Term} {o : ℕ} {r : Relation} → Oriented a b o r x y → (s : LinearComb) (n : ℕ) →
     Upward (Literal.turned o s n).operator × (relation_of (Literal.turned o s n).operator ≡ r)
-unfolding Literal.turned if◌then◌else◌
+unfolding Literal.turned when◌then◌else◌
 turned-operator as-equals s n = (is_equals, refl)
 turned-operator as-greater s n = (is_greater, refl)
 turned-operator as-greater_eq s n = (is_greater_eq, refl)
@@ -121,7 +121,7 @@ turned_apart : (P : Term → Type 0) {a b x y : Term} {o : ℕ} {r : Relation} �
     (c : LinearComb) (n : ℕ) →
     ((s t : Sum) → Linear a s → Linear b t → Apart P s t c) → (left right : Sum) → Linear x left → Linear y right →
     Apart P left right (Literal.turned o c n).sum
-unfolding Literal.turned if◌then◌else◌
+unfolding Literal.turned when◌then◌else◌
 turned_apart P as-equals c n h left right hx hy = h left right hx hy
 turned_apart P as-greater c n h left right hx hy = h left right hx hy
 turned_apart P as-greater_eq c n h left right hx hy = h left right hx hy

@@ -18,7 +18,7 @@ use lib.IntN.{pos}
 use Rattle.numbers.specs.Rational.{Rational, Lowest}
 use Rattle.terms.specs.Operator.{Add, Sub, Mult}
 use Rattle.terms.specs.Term.{Term, Terms, same, unary, binary}
-use Rattle.numbers.specs.Choice.{if◌then◌else◌}
+use Rattle.numbers.specs.Choice.{when◌then◌else◌}
 use Rattle.terms.specs.Term.Term.{atom, op}
 use Rattle.terms.specs.Term.Terms.{nil, ◌▹◌}
 use Rattle.terms.specs.Readers.{unbounded, as_number, quotient_of, as_unsigned_fraction, as_fraction, as_op}
@@ -52,7 +52,7 @@ pub data Armed (o : ℕ) (ts : Terms) : Arm → Type 0 where
   a_leaf : eqb o Add ≡ false → eqb o Sub ≡ false → (eqb o Mult && eqb (size ts) 2) ≡ false → Armed o ts Arm.leaf
 
 pub armed : (o : ℕ) (ts : Terms) → Armed o ts (arm_of o ts)
-unfolding arm_of if◌then◌else◌
+unfolding arm_of when◌then◌else◌
 armed o ts =
     go (eqb o Add) (eqb o Sub) (eqb (size ts) 1) (eqb o Mult) (eqb (size ts) 2) refl refl refl refl refl
   where
@@ -60,8 +60,8 @@ armed o ts =
         (a s n m p : Bool) → eqb o Add ≡ a → eqb o Sub ≡ s → eqb (size ts) 1 ≡ n → eqb o Mult ≡ m →
         eqb (size ts) 2 ≡ p →
         Armed o ts
-        (if a then Arm.sum else if s then (if n then Arm.negation else Arm.difference) else
-        if m && p then Arm.product else Arm.leaf)
+        (when a then Arm.sum else when s then (when n then Arm.negation else Arm.difference) else
+        when m && p then Arm.product else Arm.leaf)
     go true s n m p ea es en em ep = a_sum (eqb-true o Add ea)
     go false true true m p ea es en em ep = a_negation (eqb-true o Sub es) (eqb-true (size ts) 1 en)
     go false true false m p ea es en em ep = a_difference (eqb-true o Sub es) en

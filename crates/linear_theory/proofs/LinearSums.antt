@@ -13,7 +13,7 @@ use lib.IntN.{pos, negsuc}
 use Rattle.numbers.specs.Rational.{Rational, Lowest, add_q, mul_q}
 use Rattle.terms.specs.Operator.{Add, Sub, Mult}
 use Rattle.terms.specs.Term.{Term, Terms, sorts}
-use Rattle.numbers.specs.Choice.{if◌then◌else◌}
+use Rattle.numbers.specs.Choice.{when◌then◌else◌}
 use Rattle.terms.specs.Term.Term.{integer, rational, bitvector, atom, op}
 use Rattle.terms.specs.Term.Terms.{nil, ◌▹◌}
 use Rattle.terms.specs.Readers.{as_op}
@@ -180,7 +180,7 @@ module _ (i : ℕ) where
 
   difference-formed :
       (ts : Terms) → eqb (size ts) 1 ≡ false → WellFormed (op i Sub ts) → Each Formed ts → Formed (op i Sub ts)
-  unfolding WellFormed count_ok if◌then◌else◌ sorts
+  unfolding WellFormed count_ok when◌then◌else◌ sorts
   difference-formed nil n w fs = never w.0.counted
   difference-formed (t ▹ nil) n w fs = never (sym n)
   difference-formed (t ▹ u ▹ ts) n w (f, fs) =

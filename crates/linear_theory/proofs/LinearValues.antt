@@ -10,7 +10,7 @@ use lib.IntN.{pos}
 use Rattle.numbers.specs.Rational as Rational
 use Rattle.terms.specs.Operator.{Add, Sub, Mult}
 use Rattle.terms.specs.Term.{Term, Terms}
-use Rattle.numbers.specs.Choice.{if◌then◌else◌}
+use Rattle.numbers.specs.Choice.{when◌then◌else◌}
 use Rattle.terms.specs.Term.Term.{op}
 use Rattle.terms.specs.Term.Terms.{nil, ◌▹◌}
 use Rattle.terms.specs.Smtlib.{Assignment, as_pair, value, values, meaning}
@@ -41,24 +41,24 @@ module _ (ρ : Assignment) where
 
   module _ (i : ℕ) where
     pub add-meant : (ts : Terms) → meant_at (op i Add ts) ≡ sum_at meant_at ts
-    unfolding value meaning if◌then◌else◌
+    unfolding value meaning when◌then◌else◌
     add-meant ts = mk-sum (values ρ ts) ∙ sums-meant ts
 
     pub negation-meant : (ts : Terms) → size ts ≡ 1 → meant_at (op i Sub ts) ≡ - sum_at meant_at ts
-    unfolding value meaning if◌then◌else◌
+    unfolding value meaning when◌then◌else◌
     negation-meant nil e = absurd (omega arith)
     negation-meant (t ▹ nil) e = mk-opposite (value ρ t) ∙ ap -◌ (sums-meant (t ▹ nil))
     negation-meant (t ▹ u ▹ ts) e = absurd (omega arith)
 
     pub difference-meant : (ts : Terms) → eqb (size ts) 1 ≡ false → meant_at (op i Sub ts) ≡ difference_at meant_at ts
-    unfolding value meaning if◌then◌else◌
+    unfolding value meaning when◌then◌else◌
     difference-meant nil e = mk-whole (pos 0)
     difference-meant (t ▹ nil) e = cc
     difference-meant (t ▹ u ▹ ts) e =
         mk-difference (value ρ t) (value ρ u) (values ρ ts) ∙ ap (λ (x : ℚ). meant_at t + - x) (sums-meant (u ▹ ts))
 
     pub product-meant : (a b : Term) → meant_at (op i Mult (a ▹ b ▹ nil)) ≡ meant_at a * meant_at b
-    unfolding value meaning if◌then◌else◌ product_of
+    unfolding value meaning when◌then◌else◌ product_of
     product-meant a b =
         mk-product (value ρ a) (value ρ b ∷ [])
         ∙ solve ℚring (meant_at a ∷ meant_at b ∷ []) (λ a b. a ⊗ (b ⊗ 𝟙) ≐ a ⊗ b) tt

@@ -13,7 +13,7 @@ use lib.IntN.{pos}
 use Rattle.numbers.specs.Rational.{Rational, whole}
 use Rattle.terms.specs.Operator.{Add, Sub, Mult}
 use Rattle.terms.specs.Term.{Term, Terms, record_number}
-use Rattle.numbers.specs.Choice.{if◌then◌else◌}
+use Rattle.numbers.specs.Choice.{when◌then◌else◌}
 use Rattle.terms.specs.Term.Term.{integer, rational, bitvector, atom, op}
 use Rattle.terms.specs.Term.Terms.{nil, ◌▹◌}
 use Rattle.terms.specs.Readers.{unbounded, as_fraction}
@@ -124,18 +124,18 @@ module _ (v : ℕ → ℚ) where
   sum_with_lem (t ▹ ts) = ap (◌+◌ (linear_at v t)) (sum_with_lem ts)
 
   pub sum_weighs : (i : ℕ) (ts : Terms) → linear_at v (op i Add ts) ≡ sum_at (linear_at v) ts
-  unfolding linear_at arm_of if◌then◌else◌
+  unfolding linear_at arm_of when◌then◌else◌
   sum_weighs i ts = sum_with_lem ts
 
   pub negation_weighs : (i : ℕ) (ts : Terms) → size ts ≡ 1 → linear_at v (op i Sub ts) ≡ - sum_at (linear_at v) ts
-  unfolding linear_at arm_of if◌then◌else◌
+  unfolding linear_at arm_of when◌then◌else◌
   negation_weighs i nil e = absurd (omega arith)
   negation_weighs i (t ▹ nil) e = ap -◌ (sum_with_lem (t ▹ nil))
   negation_weighs i (t ▹ u ▹ ts) e = absurd (omega arith)
 
   difference_arm : (ts : Terms) → eqb (size ts) 1 ≡ false → arm_of Sub ts ≡ Arm.difference
-  unfolding arm_of if◌then◌else◌
-  difference_arm ts e = ap (λ (t : Bool). if t then Arm.negation else Arm.difference) e
+  unfolding arm_of when◌then◌else◌
+  difference_arm ts e = ap (λ (t : Bool). when t then Arm.negation else Arm.difference) e
 
   difference_with_lem : (ts : Terms) → difference_with v ts ≡ difference_at (linear_at v) ts
   unfolding linear_at
@@ -150,13 +150,13 @@ module _ (v : ℕ → ℚ) where
 
   pub product_weighs : (i : ℕ) (a b : Term) (q : Rational) → Written a q ⊎ Written b q →
       linear_at v (op i Mult (a ▹ b ▹ nil)) ≡ linear_at v a * linear_at v b
-  unfolding linear_at arm_of if◌then◌else◌
+  unfolding linear_at arm_of when◌then◌else◌
   product_weighs i a b q w =
       ap (if_read (product_with v (a ▹ b ▹ nil)) (v i)) (factor-read a b w)
       ∙ solve ℚring (linear_at v a ∷ linear_at v b ∷ []) (λ a b. a ⊗ (b ⊗ 𝟙) ≐ a ⊗ b) tt
 
   unsigned_weighs : {t : Term} {q : Rational} → Unsigned t q → numberℚ q ≡ linear_at v t
-  unfolding linear_at arm_of if◌then◌else◌
+  unfolding linear_at arm_of when◌then◌else◌
   unsigned_weighs (Unsigned.constant (Constant.whole i z)) = refl
   unsigned_weighs (Unsigned.constant (Constant.fraction i q)) = refl
   unsigned_weighs (Unsigned.quotient div (is i) a b z) =

@@ -6,7 +6,7 @@ use mathlib.Core.Option.{some}
 use Prim.Native.Nat.{ℕ}
 use Rattle.numbers.specs.Rational.{neg_q}
 use Rattle.terms.specs.Term.{Term, Terms, unary}
-use Rattle.numbers.specs.Choice.{if◌then◌else◌}
+use Rattle.numbers.specs.Choice.{when◌then◌else◌}
 use Rattle.terms.specs.Term.Terms.{nil, ◌▹◌}
 use Rattle.terms.specs.Readers.{as_op, remove_negation}
 use Rattle.book.proofs.BookTerms.{Each, Closed}
@@ -29,7 +29,7 @@ use Rattle.rules_theory.proofs.Unlimited.{Free, answers, freely, sub-free}
 use Rattle.linear_theory.proofs.UnlimitedLinear.{from_term-free}
 
 pub opposite-inner : {ts : Terms} {phi : Term} {o : ℕ} → Opposite ts phi o → inner phi ≡ some (o, ts)
-unfolding inner negate_operator remove_negation unary as_op if◌then◌else◌
+unfolding inner negate_operator remove_negation unary as_op when◌then◌else◌
 opposite-inner (negation body equals (is i) (is j)) = refl
 opposite-inner (negation body less_than (is i) (is j)) = refl
 opposite-inner (negation body less_eq (is i) (is j)) = refl

@@ -12,7 +12,7 @@ use lib.Signed.{quot_z}
 use Rattle.numbers.specs.Pair.{eq_z}
 use Rattle.numbers.specs.Rational.{Rational, gcd, is_integer}
 use Rattle.terms.specs.Term.{Term}
-use Rattle.numbers.specs.Choice.{if◌then◌else◌}
+use Rattle.numbers.specs.Choice.{when◌then◌else◌}
 use Rattle.terms.specs.Smtlib.{Assignment, value}
 use Rattle.numbers.proofs.Integers.{◌⊕◌, ◌⊗◌, 𝟘, 𝟙, ◌≐◌, ◌·◌, ◌and◌, ◌from◌, solveℤ, deriveℤ, nat_abs_*ℤ}
 use Rattle.numbers.proofs.Truths.{both}
@@ -91,7 +91,7 @@ pub data Found (r : ℤ) (m : Map Term) : ℤ → Type 0 where
 
 module _ (r : ℤ) (e : Term × Rational) (m : Map Term) where
   stopped : r ≡ pos 1 → Found r (e ∷ m) (pos 1)
-  unfolding if◌then◌else◌
+  unfolding when◌then◌else◌
   stopped one = go (whole_coefficients (e ∷ m)) refl
     where
       go : (t : Bool) → whole_coefficients (e ∷ m) ≡ t → Found r (e ∷ m) (pos 1)

@@ -16,7 +16,7 @@ use lib.IntN.{ℤ, pos, negsuc, nat_abs, ◌*ℤ◌}
 use lib.Signed.{lt_z}
 use Rattle.numbers.specs.Rational.{Rational, whole, Lowest, floor_z, floor_q, is_zero, is_integer, is_positive}
 use Rattle.terms.specs.Term.{Term, record_number, sort, same_sort}
-use Rattle.numbers.specs.Choice.{if◌then◌else◌}
+use Rattle.numbers.specs.Choice.{when◌then◌else◌}
 use Rattle.terms.specs.Term.Sort.{int}
 use Rattle.terms.specs.Smtlib.{Assignment, value}
 use Rattle.numbers.proofs.Truths.{never, same_test}
@@ -118,11 +118,11 @@ pub record Divisor (k : Constraint) (m : Map Term) : Type 0 where
       ⊎ (Common divisor k × ((h : ℕ) → Common h k → h ≤ divisor) × (Cancels k.terms → is_positive k.bound ≡ true))
 
 at_least-zero : at_least_one (pos 0) ≡ pos 1
-unfolding if◌then◌else◌
+unfolding when◌then◌else◌
 at_least-zero = refl
 
 at_least-positive : (j : ℕ) → at_least_one (pos (suc j)) ≡ pos (suc j)
-unfolding if◌then◌else◌
+unfolding when◌then◌else◌
 at_least-positive j = let h : 1 ≤ suc j = omega arith in rw (le-leb 1 (suc j) h)
 
 negative-bound : (q : Rational) (n : ℕ) → (floor_q q).num ≡ negsuc n → (j : ℕ) × (q.num ≡ negsuc j)
@@ -135,7 +135,7 @@ negative-bound q n = go q.num
 
 -- where the divisor of a bound alone is above 1, the bound is positive
 positive-bound : (q : Rational) (i : ℕ) → at_least_one (floor_q q).num ≡ pos (suc (suc i)) → is_positive q ≡ true
-unfolding floor_q is_positive if◌then◌else◌
+unfolding floor_q is_positive when◌then◌else◌
 positive-bound q i = go q.num
   where
     go : (z : ℤ) → at_least_one (floor_z z (nat_abs q.den)) ≡ pos (suc (suc i)) → lt_z (pos 0) z ≡ true

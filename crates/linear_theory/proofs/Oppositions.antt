@@ -10,7 +10,7 @@ use borrow.Author.Tests.{eqb-true}
 use lib.Dec.{eqb}
 use Rattle.terms.specs.Operator.{Not, LessThan, LessEq, GreaterThan, GreaterEq}
 use Rattle.terms.specs.Term.{Term, Terms}
-use Rattle.numbers.specs.Choice.{if◌then◌else◌}
+use Rattle.numbers.specs.Choice.{when◌then◌else◌}
 use Rattle.terms.specs.Term.Terms.{nil, ◌▹◌}
 use Rattle.terms.specs.Readers.{as_op, remove_negation}
 use Rattle.terms.specs.Smtlib.{Assignment}
@@ -26,13 +26,13 @@ use Rattle.numbers.proofs.Comparisons.{less_p-not, less_eq_p-not}
 use Rattle.alethe.proofs.Literals.{test, at, says, relation-says, negated-says}
 
 turns : (p o : ℕ) → negate_operator p ≡ some o → Turns p o
-unfolding negate_operator if◌then◌else◌
+unfolding negate_operator when◌then◌else◌
 turns p o e = go (eqb p LessThan) (eqb p GreaterThan) (eqb p LessEq) (eqb p GreaterEq) refl refl refl refl e
   where
     go :
         (s t u v : Bool) → eqb p LessThan ≡ s → eqb p GreaterThan ≡ t → eqb p LessEq ≡ u →
         eqb p GreaterEq ≡ v →
-        (if s then some GreaterEq else if t then some LessEq else if u then some GreaterThan else if v then some LessThan else none) ≡ some o →
+        (when s then some GreaterEq else when t then some LessEq else when u then some GreaterThan else when v then some LessThan else none) ≡ some o →
         Turns p o
     go true t u v es et eu ev e = let h : GreaterEq ≡ o = cc in rw (eqb-true p LessThan es, ← h) less
     go false true u v es et eu ev e = let h : LessEq ≡ o = cc in rw (eqb-true p GreaterThan et, ← h) greater

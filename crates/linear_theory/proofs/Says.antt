@@ -16,7 +16,7 @@ use Rattle.numbers.specs.Pair.{eq_z}
 use Rattle.numbers.specs.Rational as Rational
 use Rattle.numbers.specs.Rational.{Rational, Lowest, abs_q, is_zero}
 use Rattle.terms.specs.Operator.{Equals, GreaterThan, GreaterEq}
-use Rattle.numbers.specs.Choice.{if◌then◌else◌}
+use Rattle.numbers.specs.Choice.{when◌then◌else◌}
 use Rattle.numbers.proofs.Truths.{never, if_either}
 use Rattle.numbers.proofs.Order.{pos-nonneg}
 use Rattle.numbers.proofs.Rationals.{abs_lowest}
@@ -45,7 +45,7 @@ add-positive x y h k =
     positive-as (solve ℚring (x ∷ y ∷ []) (λ x y. y ⊕ x ≐ x ⊕ y) tt) (positive-add y x k h)
 
 pub says-add : {o p : ℕ} {x y : ℚ} → Says o x → Says p y → Says (join_operators o p) (sum x y)
-unfolding if◌then◌else◌
+unfolding when◌then◌else◌
 says-add {x} {y} (of_zero h) (of_zero k) =
     of_zero (derive ℚring (x ∷ y ∷ []) (λ x y. x ⊕ y ≐ 𝟘 from 𝟙 · x ≐ 𝟘 and 𝟙 · y ≐ 𝟘) tt h k)
 says-add (of_zero h) (of_nonneg k) = of_nonneg (nonneg-add _ _ (nonneg_of_zero _ h) k)
@@ -79,7 +79,7 @@ module _ (a : Rational) (la : Lowest a) where
   scalar-lowest o = if_either Lowest (eqb o Equals) (λ e. la) (λ e. abs_lowest a la)
 
   pub says-scaled : {o : ℕ} {x : ℚ} → Says o x → Says (weakened o a) (product x (numberℚ (scalar o a)))
-  unfolding if◌then◌else◌
+  unfolding when◌then◌else◌
   says-scaled {x = x} (of_zero h) =
       of_zero (derive ℚring (x ∷ numberℚ a ∷ []) (λ x a. x ⊗ a ≐ 𝟘 from a · x ≐ 𝟘) tt h)
   says-scaled (of_nonneg h) = of_nonneg (nonneg-mul _ _ h abs_nonneg)
@@ -96,7 +96,7 @@ module _ (d : Rational) (ld : Lowest d) where
 
   -- whether 0 stands in the relation, by the two tests on d
   abbrev standing : ℕ → Bool → Bool → Bool
-  standing o p z = if p then false else if z then not (eqb o GreaterThan) else not (eqb o Equals)
+  standing o p z = when p then false else when z then not (eqb o GreaterThan) else not (eqb o Equals)
 
   not-both : Nonneg minus → Positive (numberℚ d) → ⊥
   not-both h k =
@@ -108,7 +108,7 @@ module _ (d : Rational) (ld : Lowest d) where
 
   at_tests : {o : ℕ} → Says o minus → (p z : Bool) → Rational.is_positive d ≡ p → is_zero d ≡ z →
       standing o p z ≡ true
-  unfolding if◌then◌else◌
+  unfolding when◌then◌else◌
   at_tests (of_zero h) true z ep ez = absurd (not-both (nonneg_of_zero minus h) (positive_by ep))
   at_tests (of_zero h) false true ep ez = refl
   at_tests (of_zero h) false false ep ez =

@@ -3,7 +3,7 @@
 -- term.
 use mathlib.Core.Path.{◌≡◌}
 use mathlib.Core.List.{[], ◌∷◌}
-use Rattle.numbers.specs.Choice.{if◌then◌else◌}
+use Rattle.numbers.specs.Choice.{when◌then◌else◌}
 use Rattle.terms.specs.Operator.{Not, And, Or, Equals, LessEq}
 use Rattle.terms.specs.Term.{Term}
 use Rattle.terms.specs.Readers.{as_op}
@@ -19,7 +19,7 @@ rw_eq-matches :
     {t u first second left right phi : Term} →
     Is2 Equals left right phi → Is2 Equals t u left → Is2 And first second right →
     Is2 LessEq t u first → Is2 LessEq u t second → has_form rw_eq_form (phi ∷ []) ≡ ok tt
-unfolding has_form solve_all solve bind_all bind as_op only_literal ◌>>=◌ or_else if◌then◌else◌
+unfolding has_form solve_all solve bind_all bind as_op only_literal ◌>>=◌ or_else when◌then◌else◌
 rw_eq-matches {t} {u} (is i) (is j) (is k) (is l) (is m) =
     rw (same_self t, same_self u, solve_all, solve, bind_all, bind)
     (rw (same_self u, solve_all, solve, bind_all, bind, same_self t))
@@ -28,7 +28,7 @@ disequality-matches :
     {t u first second a b c phi : Term} →
     Is3 Or a b c phi → Is2 Equals t u a → Is1 Not first b → Is2 LessEq t u first → Is1 Not second c →
     Is2 LessEq u t second → has_form disequality_form (phi ∷ []) ≡ ok tt
-unfolding has_form solve_all solve bind_all bind as_op only_literal ◌>>=◌ or_else if◌then◌else◌
+unfolding has_form solve_all solve bind_all bind as_op only_literal ◌>>=◌ or_else when◌then◌else◌
 disequality-matches {t} {u} (is i) (is j) (is k) (is l) (is m) (is n) =
     rw (same_self t, same_self u, solve_all, solve, bind_all, bind)
     (rw (same_self u, solve_all, solve, bind_all, bind, same_self t))
@@ -36,7 +36,7 @@ disequality-matches {t} {u} (is i) (is j) (is k) (is l) (is m) (is n) =
 totality-matches :
     {t u first second phi : Term} → Is2 Or first second phi → Is2 LessEq t u first → Is2 LessEq u t second →
     has_form totality_form (phi ∷ []) ≡ ok tt
-unfolding has_form solve_all solve bind_all bind as_op only_literal ◌>>=◌ or_else if◌then◌else◌
+unfolding has_form solve_all solve bind_all bind as_op only_literal ◌>>=◌ or_else when◌then◌else◌
 totality-matches {t} {u} (is i) (is j) (is k) = rw (same_self u, solve_all, solve, bind_all, bind, same_self t)
 
 -- ---- the rules

@@ -10,7 +10,7 @@ use lib.Dec.{eqb}
 use Rattle.numbers.specs.Rational.{Rational, is_zero, is_positive}
 use Rattle.terms.specs.Operator.{Or, GreaterThan}
 use Rattle.terms.specs.Term.{Term, binary}
-use Rattle.numbers.specs.Choice.{if◌then◌else◌}
+use Rattle.numbers.specs.Choice.{when◌then◌else◌}
 use Rattle.terms.specs.Smtlib.{is_true}
 use Rattle.numbers.proofs.Truths.{both, true_or_false}
 use Rattle.book.proofs.WellFormed.{WellFormed}
@@ -42,7 +42,7 @@ use Rattle.linear_theory.proofs.BoundsForms.{by_found, case_form, form-says}
 
 -- 0 stands in no relation to a positive number
 positive-refutes : (r : Relation) (c : Rational) → is_positive c ≡ true → is_true_at_zero (operator_of r) c ≡ false
-unfolding is_true_at_zero if◌then◌else◌
+unfolding is_true_at_zero when◌then◌else◌
 positive-refutes r c e = rw e
 
 of_first : (p : Bool) → (p || false) ≡ true → p ≡ true

@@ -10,7 +10,7 @@ use lib.IntN.{pos}
 use Rattle.numbers.specs.Rational.{Rational, whole, neg_q}
 use Rattle.terms.specs.Operator.{LessThan, LessEq, GreaterThan, GreaterEq}
 use Rattle.terms.specs.Term.{Term, Terms}
-use Rattle.numbers.specs.Choice.{if◌then◌else◌}
+use Rattle.numbers.specs.Choice.{when◌then◌else◌}
 use Rattle.terms.specs.Term.Term.{integer, rational, bitvector, atom, op}
 use Rattle.terms.specs.Term.Terms.{nil, ◌▹◌}
 use Rattle.rules.specs.Refusal.{Refusal, Result, ◌>>=◌, assert}
@@ -146,12 +146,12 @@ SameTerms d e = d.sum ≡ e.sum
 -- `turned` by its two tests
 abbrev turned_by : ℕ → LinearComb → Bool → Bool → ℕ → Disequality
 turned_by o s b c n =
-    if b then disequality GreaterThan (IndexMap.neg s) n else
-    if c then disequality GreaterEq (IndexMap.neg s) n else
+    when b then disequality GreaterThan (IndexMap.neg s) n else
+    when c then disequality GreaterEq (IndexMap.neg s) n else
     disequality o s n
 
 turned-sum : (o : ℕ) (s : LinearComb) (n k : ℕ) → SameTerms (turned o s n) (turned o s k)
-unfolding turned if◌then◌else◌
+unfolding turned when◌then◌else◌
 turned-sum o s n k = go (eqb o LessThan) (eqb o LessEq)
   where
     go : (b c : Bool) →

@@ -39,6 +39,7 @@ whole_given phi OutOfRange = true
 -- 'given or inferred': literal by literal, the arguments given and then those inferred
 unfoldable pub whole_literals : Clause → List Term → List Rational → Bool
 whole_literals [] args inferred = true
-whole_literals (phi ∷ c) (a ∷ args) inferred = whole_given phi (as_fraction unbounded a) && whole_literals c args inferred
+whole_literals (phi ∷ c) (a ∷ args) inferred =
+    whole_given phi (as_fraction unbounded a) && whole_literals c args inferred
 whole_literals (phi ∷ c) [] [] = true
 whole_literals (phi ∷ c) [] (q ∷ inferred) = whole_literal phi q && whole_literals c [] inferred

@@ -11,7 +11,7 @@ use Rattle.numbers.specs.Rational.{Rational, Proper, Gives, Makes, mul_q, neg_q,
 use Rattle.numbers.specs.Bytes.{Bytes}
 use Rattle.terms.specs.Operator.{Add, Sub, Mult}
 use Rattle.terms.specs.Term.{Term, Terms, two?, binary}
-use Rattle.numbers.specs.Choice.{if◌then◌else◌}
+use Rattle.numbers.specs.Choice.{when◌then◌else◌}
 use Rattle.terms.specs.Term.Term.{integer, rational, bitvector, atom, op}
 use Rattle.terms.specs.Term.Terms.{nil, ◌▹◌}
 use Rattle.terms.specs.Book.{tree}
@@ -122,25 +122,25 @@ module _ (t : Term) (coeff : Rational) where
   at_operator o = by_operator (λ k ts. operation_node t k ts coeff) (leaf_node t coeff) o (as_op t)
 
   pub sum-node : operator_of t ≡ Add → Proper coeff → NodeIs (node.Args coeff coeff) (node_of t coeff)
-  unfolding operation_node arm_of if◌then◌else◌
+  unfolding operation_node arm_of when◌then◌else◌
   sum-node e p = node_is (p, p) (sym (at_operator 8 e))
 
   module _ (e : operator_of t ≡ Sub) {minus : Rational} (m : Makes minus (neg_q coeff)) where
     pub negation-node : size (arguments_of t) ≡ 1 → NodeIs (node.Args minus minus) (node_of t coeff)
-    unfolding operation_node arm_of if◌then◌else◌
+    unfolding operation_node arm_of when◌then◌else◌
     negation-node n =
         node_is (m.proper, m.proper)
         (sym (at_operator 9 e ∙ rw (eq-eqb (size (arguments_of t)) 1 n, operation_node, m.is)))
 
     pub difference-node :
         (size (arguments_of t) ≡ 1 → ⊥) → Proper coeff → NodeIs (node.Args coeff minus) (node_of t coeff)
-    unfolding operation_node arm_of if◌then◌else◌
+    unfolding operation_node arm_of when◌then◌else◌
     difference-node n p =
         node_is (p, m.proper)
         (sym (at_operator 9 e ∙ rw (ne_eqb (size (arguments_of t)) 1 n, operation_node, m.is)))
 
 product-shape : (i : ℕ) (a c : Term) (coeff : Rational) → node_of (op i Mult (a ▹ c ▹ nil)) coeff ≡ product_node a c coeff
-unfolding node_of operation_node arm_of if◌then◌else◌ as_op
+unfolding node_of operation_node arm_of when◌then◌else◌ as_op
 product-shape i a c coeff = refl
 
 -- no pair of arguments
@@ -152,7 +152,7 @@ not-two (a ▹ c ▹ d ▹ ts) e = ne_eqb (size (a ▹ c ▹ d ▹ ts)) 2 (λ h.
 
 leaf_arm :
     (o : ℕ) (ts : Terms) → (o ≡ Add → ⊥) → (o ≡ Sub → ⊥) → (o ≡ Mult → two? ts ≡ none) → arm_of o ts ≡ leaf
-unfolding arm_of if◌then◌else◌
+unfolding arm_of when◌then◌else◌
 leaf_arm o ts f g h = rw (arm_of, ne_eqb o Add f, ne_eqb o Sub g, no_product (eqb o Mult) refl)
   where
     no_product : (t : Bool) → eqb o Mult ≡ t → t && eqb (size ts) 2 ≡ false

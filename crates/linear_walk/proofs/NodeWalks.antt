@@ -12,7 +12,7 @@ use Rattle.numbers.specs.Rational.{Rational, mul_q, neg_q, checked}
 use Rattle.numbers.specs.Bytes.{Bytes}
 use Rattle.terms.specs.Operator.{Add, Sub, Mult}
 use Rattle.terms.specs.Term.{Term, Terms, record_number, two?}
-use Rattle.numbers.specs.Choice.{if◌then◌else◌}
+use Rattle.numbers.specs.Choice.{when◌then◌else◌}
 use Rattle.terms.specs.Term.Term.{integer, rational, bitvector, atom, op}
 use Rattle.terms.specs.Term.Terms.{nil, ◌▹◌}
 use Rattle.terms.specs.Book.{record_of, tree, layout_ok}
@@ -83,12 +83,12 @@ difference-each nil l coeff w = refl
 difference-each (t ▹ ts) l coeff w = refl
 
 product-size : (o : ℕ) (ts : Terms) → arm_of o ts ≡ product → eqb (size ts) 2 ≡ true
-unfolding arm_of if◌then◌else◌
+unfolding arm_of when◌then◌else◌
 product-size o ts = go (eqb o Add) (eqb o Sub) (eqb (size ts) 1) (eqb o Mult) (eqb (size ts) 2)
   where
     go :
         (a s n m k : Bool) →
-        (if a then sum else if s then (if n then negation else difference) else if m && k then product else leaf)
+        (when a then sum else when s then (when n then negation else difference) else when m && k then product else leaf)
         ≡ product →
         k ≡ true
     go true s n m k e = cc

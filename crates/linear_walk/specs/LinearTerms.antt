@@ -5,7 +5,7 @@ use Rattle.std.proofs.Math.Option.{Option, some, none}
 use Rattle.numbers.specs.Rational.{Rational, whole, neg_q}
 use Rattle.terms.specs.Operator.{Add, Sub, Mult}
 use Rattle.terms.specs.Term.{Term, Terms}
-use Rattle.numbers.specs.Choice.{if◌then◌else◌}
+use Rattle.numbers.specs.Choice.{when◌then◌else◌}
 use Rattle.terms.specs.Term.Term.{integer, rational, bitvector, atom, op}
 use Rattle.terms.specs.Term.Terms.{nil, ◌▹◌}
 use Rattle.rules.specs.Refusal.{Result, ◌>>=◌}
@@ -22,9 +22,9 @@ pub data Arm : Type 0 where
 
 unfoldable pub arm_of : ℕ → Terms → Arm
 arm_of o ts =
-    if eqb o Add then sum else
-    if eqb o Sub then (if eqb (size ts) 1 then negation else difference) else
-    if eqb o Mult && eqb (size ts) 2 then product else
+    when eqb o Add then sum else
+    when eqb o Sub then (when eqb (size ts) 1 then negation else difference) else
+    when eqb o Mult && eqb (size ts) 2 then product else
     leaf
 
 -- the last arm: a number goes to the constant, anything else is an atom

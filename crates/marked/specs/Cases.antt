@@ -62,8 +62,8 @@ all_marked (c ∷ cs) = elim (is_marked c) [ true ↦ all_marked cs | false ↦ 
 -- ---- computing
 
 unfoldable pub marks : Unit {0}
-unfolding rules recs leading after all_right numbers_of terms_of with_number rule_of head_rule read_step read_steps read_run
-    clauses_of check_rule check_step turn turns check_steps mark_run mark check bytes_of Farkas.real_record find_real place_in
-    add_real add_reals premise_bytes term_bytes step_bytes add_steps tail_bytes fits elaborated elaborate_under elaborate
-    run_record run_records step_records all_marked
+unfolding rules recs leading after all_right numbers_of terms_of with_number rule_of head_rule read_step read_steps
+    read_run clauses_of check_rule check_step turn turns check_steps mark_run mark check bytes_of Farkas.real_record
+    find_real place_in add_real add_reals premise_bytes term_bytes step_bytes add_steps tail_bytes fits elaborated
+    elaborate_under elaborate run_record run_records step_records all_marked
 marks = tt

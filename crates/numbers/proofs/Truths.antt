@@ -5,7 +5,7 @@ use mathlib.Core.Logic.{◌⊎◌, inl, inr}
 use Prim.Native.Nat.{ℕ}
 use native.Mathlib.Omega.{arith}
 use lib.Dec.{T}
-use Rattle.numbers.specs.Choice.{if◌then◌else◌}
+use Rattle.numbers.specs.Choice.{when◌then◌else◌}
 
 pub both : (s t : Bool) → (s && t) ≡ true → (s ≡ true) × (t ≡ true)
 both true t e = (refl, e)
@@ -42,7 +42,7 @@ opposite-test false false f (inr e) = never e
 -- what holds of both branches where they are taken holds of the choice
 pub if_either :
     {A : Type 0} (P : A → Type 0) (t : Bool) {x y : A} → (t ≡ true → P x) → (t ≡ false → P y) →
-    P (if t then x else y)
-unfolding if◌then◌else◌
+    P (when t then x else y)
+unfolding when◌then◌else◌
 if_either P true first second = first refl
 if_either P false first second = second refl

@@ -1,7 +1,8 @@
 -- Lists of bytes: whether two are the same, zeros, little-endian numbers at any width, and a rational number as two
 -- numbers of four bytes. Nothing is asked of the place: a number that does not lie wholly in the bytes reads as 0 and
 -- is not written.
-use Rattle.std.specs.Prelude.{◌≡◌, refl, Bool, true, false, ◌&&◌, cond, List, [], ◌∷◌, ◌++◌, ℕ, zero, suc, ◌+◌, ◌*◌, ◌-◌, ◌/◌, ◌%◌, ◌^◌, eqb, leb, ltb, ℤ, pos, negsuc, length, get_or, set, take, replicate}
+use Rattle.std.specs.Prelude.{◌≡◌, refl, Bool, true, false, ◌&&◌, cond, List, [], ◌∷◌, ◌++◌, ℕ, zero, suc, ◌+◌, ◌*◌}
+use Rattle.std.specs.Prelude.{◌-◌, ◌/◌, ◌%◌, ◌^◌, eqb, leb, ltb, ℤ, pos, negsuc, length, get_or, set, take, replicate}
 use Rattle.std.specs.Int.Signed.{lt_z}
 use Rattle.numbers.specs.Rational.{Rational, frac, whole, in_range, modulo}
 

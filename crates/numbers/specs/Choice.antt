@@ -1,7 +1,7 @@
 -- The Rust's `if`, as a definition that proofs can unfold.
 use Rattle.std.specs.Prelude.{Bool, true, false}
 
-infixr 10 if◌then◌else◌
-unfoldable pub if◌then◌else◌ : {A : Type 0} → Bool → A → A → A
-if◌then◌else◌ true x y = x
-if◌then◌else◌ false x y = y
+infixr 10 when◌then◌else◌
+unfoldable pub when◌then◌else◌ : {A : Type 0} → Bool → A → A → A
+when◌then◌else◌ true x y = x
+when◌then◌else◌ false x y = y

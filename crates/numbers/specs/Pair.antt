@@ -1,6 +1,7 @@
 -- Values of numbers, as document 01's 'Meaning' has them: a whole number over a positive one, of any size, not in
 -- lowest terms. They are added and multiplied as such pairs, and compared by their cross products.
-use Rattle.std.specs.Prelude.{◌≡◌, refl, Bool, true, false, ℕ, zero, suc, ◌*◌, ◌<◌, eqb, ℤ, pos, negsuc, neg_ℤ, ◌+ℤ◌, ◌*ℤ◌, ◌≤ℤ◌, ◌<ℤ◌}
+use Rattle.std.specs.Prelude.{◌≡◌, refl, Bool, true, false, ℕ, zero, suc, ◌*◌, ◌<◌, eqb, ℤ, pos, negsuc, neg_ℤ, ◌+ℤ◌}
+use Rattle.std.specs.Prelude.{◌*ℤ◌, ◌≤ℤ◌, ◌<ℤ◌}
 use Rattle.std.proofs.Common.{mul-pos, zero-lt-suc}
 use Rattle.std.specs.Int.Signed.{le_z, lt_z}
 

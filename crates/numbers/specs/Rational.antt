@@ -1,7 +1,8 @@
 -- Rational numbers of any size, and each operation that the Rust makes of them: rug's `Rational`, and its `Integer`
 -- where a gcd is taken. A number is in lowest terms with a denominator of at least 1 (`Lowest`); each operation is
 -- worked out on the parts and put in lowest terms. Document 01's range is a test by itself (`inRange`, `checked`).
-use Rattle.std.specs.Prelude.{◌≡◌, refl, Bool, true, false, ◌&&◌, cond, ℕ, zero, suc, ◌-◌, ◌/◌, ◌%◌, ◌≤◌, leb, ℤ, pos, negsuc, neg_ℤ, nat_abs, ◌+ℤ◌, ◌*ℤ◌, ◌<ℤ◌}
+use Rattle.std.specs.Prelude.{◌≡◌, refl, Bool, true, false, ◌&&◌, cond, ℕ, zero, suc, ◌-◌, ◌/◌, ◌%◌, ◌≤◌, leb, ℤ, pos}
+use Rattle.std.specs.Prelude.{negsuc, neg_ℤ, nat_abs, ◌+ℤ◌, ◌*ℤ◌, ◌<ℤ◌}
 use Rattle.std.proofs.Common.{zero-lt-suc}
 use Rattle.std.specs.Int.Signed.{quot_z, le_z, lt_z}
 use Rattle.numbers.specs.Pair.{Pair, pair, whole_p, eq_z}

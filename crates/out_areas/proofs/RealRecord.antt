@@ -16,7 +16,7 @@ use lib.ListN.{length, replicate}
 use lib.Signed.{mag, lt_z}
 use Rattle.numbers.specs.Rational.{Rational, Lowest, Proper, gcd, limit}
 use Rattle.numbers.specs.Bytes.{Bytes, le, digits, signed, complement, bytes_of}
-use Rattle.numbers.specs.Choice.{if◌then◌else◌}
+use Rattle.numbers.specs.Choice.{when◌then◌else◌}
 use Rattle.terms.specs.Term.Term.{rational}
 use Rattle.terms.specs.Book.{record_of, kind, field1, field2, rational_of, is_number, tree, all_zero, unused, layout_ok, stands}
 use Rattle.numbers.proofs.Truths.{never, T_true}
@@ -143,7 +143,7 @@ module _ (q : Rational) where
         other e = never (sym (lacks n (omega arith)) ∙ ap (is_real q) (real-tree c n e) ∙ eq_q-refl q)
 
   pub real-layout : Storable q → (i : ℕ) → layout_ok i (real_record q) ≡ true
-  unfolding layout_ok if◌then◌else◌
+  unfolding layout_ok when◌then◌else◌
   real-layout s i =
       rw (real-kind, real-unused.0, real-unused.1, real_is_number s.proper)
       (ap (λ (x : Rational). eqb (gcd (nat_abs x.num) (nat_abs x.den)) 1) (real_of s.proper)

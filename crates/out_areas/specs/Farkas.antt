@@ -1,7 +1,8 @@
 -- The elaboration of one step, src/elaborator/local/farkas.rs: its records with rule 6 turned to 5, and the numbers
 -- that it inferred appended as A records of real constants. A constant that neither the book nor the tail has is added
 -- to the tail.
-use Rattle.std.specs.Prelude.{Bool, true, false, ◌&&◌, List, [], ◌∷◌, ◌++◌, ℕ, zero, suc, ◌+◌, ◌*◌, ◌/◌, leb, ltb, length, replicate}
+use Rattle.std.specs.Prelude.{Bool, true, false, ◌&&◌, List, [], ◌∷◌, ◌++◌, ℕ, zero, suc, ◌+◌, ◌*◌, ◌/◌, leb, ltb}
+use Rattle.std.specs.Prelude.{length, replicate}
 use Rattle.std.proofs.Math.Option.{Option, some, none}
 use Rattle.numbers.specs.Rational.{Rational, eq_q}
 use Rattle.numbers.specs.Bytes.{Bytes, bytes_of, complement}
@@ -11,7 +12,8 @@ use Rattle.terms.specs.Format as format
 use Rattle.terms.specs.Book.{count, tree}
 use Rattle.terms.specs.Format.{max_run_records, run_record_bytes}
 use Rattle.runs.specs.Rule.{Rule, rule_number}
-use Rattle.runs.specs.Rule.Rule.{assume, la_rw_eq, la_disequality, la_totality, la_tautology, la_generic, bounded_farkas}
+use Rattle.runs.specs.Rule.Rule.{assume, la_rw_eq, la_disequality, la_totality, la_tautology, la_generic}
+use Rattle.runs.specs.Rule.Rule.{bounded_farkas}
 use Rattle.runs.specs.Rule.Rule.{poly_simp, poly_simp_rel}
 use Rattle.runs.specs.Run.{Step, S, C, A, record_bytes, premise_bytes, term_bytes}
 

@@ -10,7 +10,7 @@ use borrow.Author.Tests.{leb-true, ltb-true, le-ltb}
 use lib.Dec.{leb, ltb, eqb, lit≤}
 use Rattle.numbers.specs.Bytes.{Bytes}
 use Rattle.terms.specs.Term.{Sort, Term, sort, sorts, sort_code, gives, first}
-use Rattle.numbers.specs.Choice.{if◌then◌else◌}
+use Rattle.numbers.specs.Choice.{when◌then◌else◌}
 use Rattle.terms.specs.Term.Sort.{bool, int, real, bits}
 use Rattle.terms.specs.Book.{record_of, sort_byte, field2, operator, is_width, atom_ok, atom_sort, unused, layout_ok, numbers}
 use Rattle.terms.specs.Book.{arg_bytes, arguments, node, forest, tree, all_below, count}
@@ -33,8 +33,8 @@ width_small : (w : ℕ) → is_width w ≡ true → Small (bits w)
 width_small w e = omega (arith, leb-true w 30 (both (leb 1 w) (leb w 30) e).1)
 
 -- of the sort byte 4 and of the others
-vector-small : (w : ℕ) (other t : Bool) → cond t (is_width w) other ≡ true → Small (if t then bits w else bool)
-unfolding if◌then◌else◌
+vector-small : (w : ℕ) (other t : Bool) → cond t (is_width w) other ≡ true → Small (when t then bits w else bool)
+unfolding when◌then◌else◌
 vector-small w other true e = width_small w e
 vector-small w other false e = lit≤ tt
 

@@ -7,7 +7,7 @@ use Prim.Native.Nat.{ℕ, zero, suc, ◌%◌, ◌<◌}
 use native.Mathlib.Omega.{arith}
 use borrow.Author.Tests.{eq-eqb, ne_eqb}
 use lib.ListN.{length, get_or, replicate}
-use Rattle.numbers.specs.Choice.{if◌then◌else◌}
+use Rattle.numbers.specs.Choice.{when◌then◌else◌}
 use Rattle.numbers.specs.Bytes.{Bytes}
 use Rattle.terms.specs.Operator.{Equals, Sub, ToReal}
 use Rattle.terms.specs.Term.{Term, unary, binary}
@@ -78,18 +78,18 @@ module _
 module _ (b : Bytes) (i d : ℕ) where
   pub plain-difference : (d ≡ Sub → ⊥) → {w : Two} → Children b i w (binary d (tree b i)) →
       found_two b w ≡ difference d (tree b i)
-  unfolding difference if◌then◌else◌
+  unfolding difference when◌then◌else◌
   plain-difference h c = c.is ∙ sym (rw (ne_eqb d Sub h))
 
   module _ (e : d ≡ Sub) {u : Only} (c : Child b i u (unary ToReal (tree b i))) {w : Two} where
     pub number-difference :
         u ≡ only.NotOne → Children b i w (binary d (tree b i)) → found_two b w ≡ difference d (tree b i)
-    unfolding difference if◌then◌else◌
+    unfolding difference when◌then◌else◌
     number-difference f k = k.is ∙ sym (rw (eq-eqb d Sub e, sym c.is ∙ ap (found b) f))
 
     pub real-difference :
         {x : ℕ} → u ≡ only.Of x → Children b x w (binary d (tree b x)) → found_two b w ≡ difference d (tree b i)
-    unfolding difference if◌then◌else◌
+    unfolding difference when◌then◌else◌
     real-difference f k = k.is ∙ sym (rw (eq-eqb d Sub e, sym c.is ∙ ap (found b) f))
 
 -- ---- the premise

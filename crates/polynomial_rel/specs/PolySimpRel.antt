@@ -2,7 +2,7 @@
 use Rattle.std.specs.Prelude.{◌&&◌, ◌||◌, not, List, [], ◌∷◌, ℕ, ◌%◌, eqb}
 use Rattle.std.specs.Bool.{beq}
 use Rattle.std.proofs.Math.Option.{Option, some, none}
-use Rattle.numbers.specs.Choice.{if◌then◌else◌}
+use Rattle.numbers.specs.Choice.{when◌then◌else◌}
 use Rattle.numbers.specs.Rational.{is_zero, is_positive}
 use Rattle.terms.specs.Operator.{Equals, Sub, Mult, ToReal, BvSub, BvMul}
 use Rattle.terms.specs.Term.{Term, Terms, unary, binary}
@@ -45,7 +45,7 @@ equated o t = equated_in (matches (equated_form o) t)
 
 -- (d x y), and of numbers also (to_real (- x y))
 unfoldable pub difference : ℕ → Term → Option (Term × Term)
-difference d t = if eqb d Sub then elim (unary ToReal t) [ some u ↦ binary d u | none ↦ binary d t ] else binary d t
+difference d t = when eqb d Sub then elim (unary ToReal t) [ some u ↦ binary d u | none ↦ binary d t ] else binary d t
 
 -- (= (o c1 xs) (o c2 ys)), where xs and ys are differences by d
 unfoldable pub scaled : ℕ → ℕ → Term → Result Scaled

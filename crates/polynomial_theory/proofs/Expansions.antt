@@ -13,7 +13,7 @@ use lib.IntN.{pos, negsuc}
 use Rattle.numbers.specs.Rational.{Rational, whole, mul_q, div_q}
 use Rattle.terms.specs.Operator.{Sub, Mult, RealDiv, BvMul}
 use Rattle.terms.specs.Term.{Term, Terms, sorts}
-use Rattle.numbers.specs.Choice.{if◌then◌else◌}
+use Rattle.numbers.specs.Choice.{when◌then◌else◌}
 use Rattle.terms.specs.Term.Term.{integer, rational, bitvector, op}
 use Rattle.terms.specs.Term.Terms.{nil, ◌▹◌}
 use Rattle.terms.specs.Book.{count_ok}
@@ -185,13 +185,13 @@ module _ {R : Ring} {N : Valuation R} (T : TermReading N) (formed : (t : Term) �
 
   sum_of_lem : {o : ℕ} → IsSum o → (i : ℕ) (ts : Terms) → Fits (op i o ts) →
       Each Fits ts × (value (op i o ts) ≡ sum_of R value ts)
-  unfolding arm_of if◌then◌else◌
+  unfolding arm_of when◌then◌else◌
   sum_of_lem IsSum.add i ts f = T.operation i _ ts f
   sum_of_lem IsSum.bvadd i ts f = T.operation i _ ts f
 
   minus_of : {o : ℕ} → IsMinus o → (i : ℕ) (t : Term) → Fits (op i o (t ▹ nil)) →
       Fits t × (value (op i o (t ▹ nil)) ≡ - value t)
-  unfolding arm_of if◌then◌else◌ sum_of
+  unfolding arm_of when◌then◌else◌ sum_of
   minus_of IsMinus.sub i t f =
       let h = T.operation i _ (t ▹ nil) f in (h.0.0, h.1 ∙ ap -◌ (R.add-zero (value t)))
   minus_of IsMinus.bvneg i t f =
@@ -199,14 +199,14 @@ module _ {R : Ring} {N : Valuation R} (T : TermReading N) (formed : (t : Term) �
 
   difference_of_lem : {o : ℕ} → IsDifference o → (i : ℕ) (t u : Term) (ts : Terms) → Fits (op i o (t ▹ u ▹ ts)) →
       Each Fits (t ▹ u ▹ ts) × (value (op i o (t ▹ u ▹ ts)) ≡ value t + - sum_of R value (u ▹ ts))
-  unfolding arm_of if◌then◌else◌ difference_of
+  unfolding arm_of when◌then◌else◌ difference_of
   difference_of_lem IsDifference.sub i t u ts f =
       rw (ne_eqb (suc (suc (size ts))) 1 (omega arith)) at (T.operation i Sub (t ▹ u ▹ ts) f)
   difference_of_lem IsDifference.bvsub i t u ts f = T.operation i _ (t ▹ u ▹ ts) f
 
   product_of_lem : {o : ℕ} → IsProduct o → (i : ℕ) (ts : Terms) → Fits (op i o ts) →
       Each Fits ts × (value (op i o ts) ≡ factors_of R value ts)
-  unfolding arm_of if◌then◌else◌ product_of factors_of WellFormed count_ok sorts
+  unfolding arm_of when◌then◌else◌ product_of factors_of WellFormed count_ok sorts
   product_of_lem IsProduct.mult i nil f = never (formed (op i Mult nil) f).0.counted
   product_of_lem IsProduct.mult i (t ▹ ts) f = T.operation i _ (t ▹ ts) f
   product_of_lem IsProduct.bvmul i nil f = never (formed (op i BvMul nil) f).0.counted
@@ -237,7 +237,7 @@ module _ {R : Ring} {N : Valuation R} (T : TermReading N) (formed : (t : Term) �
   factors_come (factor h hs) c f = comes-multiply N Fits v (c.0.comes h f.0) (factors_come hs c.1 f.1)
 
   one_step : {t : Term} {m : Products} → Expands t m → ArgumentsCome t → Fits t → C m (value t)
-  unfolding sum_of arm_of if◌then◌else◌ first_of First
+  unfolding sum_of arm_of when◌then◌else◌ first_of First
   one_step (number {t} {q} w) c f =
       let h = T.fraction t f q (written_read w) in comes-as N Fits v (sym h.1) (comes-number N Fits v q h.0)
   one_step (vector i n w) c f =

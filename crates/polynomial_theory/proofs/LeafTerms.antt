@@ -10,7 +10,7 @@ use lib.ListN.{length}
 use Rattle.numbers.specs.Rational.{Rational, whole, is_zero}
 use Rattle.terms.specs.Operator.{Add, Sub, Mult, RealDiv, BvAdd, BvSub, BvNeg, BvMul}
 use Rattle.terms.specs.Term.{Sort, Term, Terms, sorts, unary}
-use Rattle.numbers.specs.Choice.{if◌then◌else◌}
+use Rattle.numbers.specs.Choice.{when◌then◌else◌}
 use Rattle.terms.specs.Term.Term.{integer, rational, bitvector, op}
 use Rattle.terms.specs.Term.Terms.{nil, ◌▹◌}
 use Rattle.terms.specs.Readers.{unbounded, bounded, negated, over, divided, as_number, as_signed_number, quotient_of}
@@ -129,7 +129,7 @@ pub data Leaf : Term → Type 0 where
 
 quotient-leaf : (i : ℕ) (ts : Terms) → count_ok RealDiv (length (sorts ts)) ≡ true → Indivisible (op i RealDiv ts) →
     Leaf (op i RealDiv ts)
-unfolding arm_of second_divisor count_ok sorts if◌then◌else◌
+unfolding arm_of second_divisor count_ok sorts when◌then◌else◌
 quotient-leaf i nil c h = never c
 quotient-leaf i (a ▹ nil) c h = never c
 quotient-leaf i (a ▹ b ▹ nil) c h =
@@ -142,7 +142,7 @@ quotient-leaf i (a ▹ b ▹ nil) c h =
 quotient-leaf i (a ▹ b ▹ e ▹ ts) c h = absurd (omega (arith, eqb-true (suc (suc (suc (length (sorts ts))))) 2 c))
 
 operation-leaf : (i o : ℕ) (ts : Terms) → Operation o (sorts ts) → Indivisible (op i o ts) → Leaf (op i o ts)
-unfolding arm_of if◌then◌else◌
+unfolding arm_of when◌then◌else◌
 operation-leaf i o ts w h =
     by_operator (λ o. count_ok o (length (sorts ts)) ≡ true → Indivisible (op i o ts) → Leaf (op i o ts))
     o w.least w.most (stays 1 refl) (stays 2 refl) (stays 3 refl) (stays 4 refl) (stays 5 refl) (stays 6 refl)

@@ -16,7 +16,7 @@ use Rattle.numbers.specs.Rational.{Rational, Lowest, div_q}
 use Rattle.terms.specs.Operator.{Sub, RealDiv, ToReal}
 use Rattle.terms.specs.Term.{Sort, Term, Terms, sort, sorts, same_sort, is_numeric, is_bits, all, first, takes, gives}
 use Rattle.terms.specs.Term.{same}
-use Rattle.numbers.specs.Choice.{if◌then◌else◌}
+use Rattle.numbers.specs.Choice.{when◌then◌else◌}
 use Rattle.terms.specs.Term.Sort.{bool, int, real, bits}
 use Rattle.terms.specs.Term.Term.{bitvector, op}
 use Rattle.terms.specs.Term.Terms.{nil, ◌▹◌}
@@ -93,7 +93,7 @@ module _ (ρ : Assignment) where
     TakenAs o ts p = Taken rationals meant_by Fits (arm_of o ts) ts (mk p)
 
     minus-taken : (ts : Terms) → Each Fits ts → TakenAs Sub ts (minus (values ρ ts))
-    unfolding arm_of if◌then◌else◌ values difference_of
+    unfolding arm_of when◌then◌else◌ values difference_of
     minus-taken nil h = (h, mk-whole (pos 0))
     minus-taken (t ▹ nil) h = (h, mk-opposite (value ρ t) ∙ ap opposite (sum_over (t ▹ nil)))
     minus-taken (t ▹ s ▹ ts) h =
@@ -106,7 +106,7 @@ module _ (ρ : Assignment) where
     to_real-taken :
         (ts : Terms) → Each Fits ts → count_ok ToReal (length (sorts ts)) ≡ true →
         TakenAs ToReal ts (as_pair (Smtlib.first_of (values ρ ts)))
-    unfolding arm_of if◌then◌else◌ values sum_of count_ok sorts
+    unfolding arm_of when◌then◌else◌ values sum_of count_ok sorts
     to_real-taken nil h e = (h, mk-whole (pos 0))
     to_real-taken (t ▹ nil) h e = (h, sym (ℚring.add-zero (meant_by t)))
     to_real-taken (t ▹ s ▹ ts) h e = absurd (omega (arith, eqb-true (suc (suc (length (sorts ts)))) 1 e))
@@ -127,7 +127,7 @@ module _ (ρ : Assignment) where
     real-div-taken :
         (i : ℕ) (ts : Terms) → Each Fits ts → count_ok RealDiv (length (sorts ts)) ≡ true →
         Quotient rationals meant_by Fits ts (meant_by (op i RealDiv ts))
-    unfolding count_ok if◌then◌else◌ sorts First first_of
+    unfolding count_ok when◌then◌else◌ sorts First first_of
     real-div-taken i nil h e = never e
     real-div-taken i (a ▹ nil) h e = never e
     real-div-taken i (a ▹ b ▹ nil) (ha, (hb, t)) e =
@@ -144,7 +144,7 @@ module _ (ρ : Assignment) where
         (i o : ℕ) (ts : Terms) → Operation o (sorts ts) → (all is_numeric (sorts ts) ≡ true → Each Fits ts) →
         is_bits (gives o (sorts ts)) ≡ false →
         Taken rationals meant_by Fits (arm_of o ts) ts (meant_by (op i o ts))
-    unfolding takes gives meaning value arm_of if◌then◌else◌
+    unfolding takes gives meaning value arm_of when◌then◌else◌
     operator-taken i o ts w fit =
         by_operator
         (λ o.

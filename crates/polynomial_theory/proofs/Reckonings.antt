@@ -10,7 +10,7 @@ use lib.IntN.{pos}
 use Rattle.numbers.specs.Rational.{Rational, whole, div_q, neg_q, is_zero}
 use Rattle.terms.specs.Operator.{Sub, IntDiv, RealDiv}
 use Rattle.terms.specs.Term.{Term, Terms}
-use Rattle.numbers.specs.Choice.{if◌then◌else◌}
+use Rattle.numbers.specs.Choice.{when◌then◌else◌}
 use Rattle.terms.specs.Term.Term.{integer, rational, bitvector, atom, op}
 use Rattle.terms.specs.Term.Terms.{nil, ◌▹◌}
 use Rattle.terms.specs.Readers.{unbounded, as_fraction}
@@ -162,7 +162,7 @@ module _ {R : Ring} (N : Valuation R) (x : Term → R.carrier) where
 
     negated : (i : ℕ) (t : Term) (q : Rational) → N.Good q → reckon t ≡ N.number q →
         reckon (op i Sub (t ▹ nil)) ≡ N.number (neg_q q)
-    unfolding reckon arm_of if◌then◌else◌
+    unfolding reckon arm_of when◌then◌else◌
     negated i t q g e = ap -◌ (R.add-zero (reckon t) ∙ e) ∙ sym (N.number-neg q g)
 
     signed_reckoned : {t : Term} {q : Rational} → Signed t q → P t → reckon t ≡ N.number q
@@ -172,7 +172,7 @@ module _ {R : Ring} (N : Valuation R) (x : Term → R.carrier) where
         (constant_reckoned c)
 
     unsigned_reckoned : {t : Term} {q : Rational} → Unsigned t q → P t → reckon t ≡ N.number q
-    unfolding reckon arm_of if◌then◌else◌ leaf_of
+    unfolding reckon arm_of when◌then◌else◌ leaf_of
     unsigned_reckoned (Unsigned.constant c) p = constant_reckoned c
     unsigned_reckoned (Unsigned.quotient {a = a} {b} IsDivision.div (is i) sa sb z) p =
         ap (λ (r : Reading). leaf_of r (op i IntDiv (a ▹ b ▹ nil)))

@@ -9,7 +9,7 @@ use mathlib.Core.Logic.{◌⊎◌, inl, inr, ⊎_elim}
 use Prim.Native.Nat.{ℕ, ◌%◌}
 use borrow.Author.Tests.{eq-eqb}
 use lib.Dec.{eqb}
-use Rattle.numbers.specs.Choice.{if◌then◌else◌}
+use Rattle.numbers.specs.Choice.{when◌then◌else◌}
 use Rattle.numbers.specs.Rational.{is_positive}
 use Rattle.terms.specs.Operator.{Equals, Sub, Mult, BvSub, BvMul}
 use Rattle.terms.specs.Term.{Term, Terms, unary, binary}
@@ -34,11 +34,11 @@ use Rattle.rules_theory.proofs.Shapes.{same_self, binary_err_of, operation_of_le
 -- ---- the readers
 
 vector-difference : {x y d : Term} → Is2 BvSub x y d → difference BvSub d ≡ some (x, y)
-unfolding difference binary if◌then◌else◌
+unfolding difference binary when◌then◌else◌
 vector-difference (is i) = refl
 
 difference_of_lem : {by : Departures} {x y d : Term} → Difference by x y d → difference Sub d ≡ some (x, y)
-unfolding difference unary binary if◌then◌else◌
+unfolding difference unary binary when◌then◌else◌
 difference_of_lem (plain (is i)) = refl
 difference_of_lem (real_difference g (is i) (is j)) = refl
 
@@ -57,7 +57,7 @@ relation-accepted greater_eq = refl
 equated_of :
     {o : ℕ} {a b c d left right t : Term} → Is2 Equals left right t → Is2 o a b left → Is2 o c d right →
     or_else (equated o t) term_of_wrong_form ≡ ok ((a, b), (c, d))
-unfolding equated solve_all solve bind_all bind as_op or_else if◌then◌else◌
+unfolding equated solve_all solve bind_all bind as_op or_else when◌then◌else◌
 equated_of {o} (is i) (is j) (is k) =
     rw (eq-eqb o o refl, equated, solve_all, solve, bind_all, bind, eq-eqb o o refl)
 
@@ -73,7 +73,7 @@ scaled_of_lem o d e l r a b = next _ (equated_of e l r) ∙ rw (a, b)
 no_vectors :
     {a b left right t : Term} → Is2 Equals left right t → Is2 Mult a b left →
     scaled BvMul BvSub t ≡ refused term_of_wrong_form
-unfolding scaled equated solve_all solve bind_all bind as_op or_else if◌then◌else◌ ◌>>=◌
+unfolding scaled equated solve_all solve bind_all bind as_op or_else when◌then◌else◌ ◌>>=◌
 no_vectors (is i) (is j) = refl
 
 -- what the rule makes of the first attempt

@@ -15,7 +15,7 @@ use Rattle.numbers.specs.Rational as Rational
 use Rattle.numbers.specs.Rational.{Rational, Lowest, is_zero, div_q, whole}
 use Rattle.terms.specs.Operator.{Equals, Mult}
 use Rattle.terms.specs.Term.{Term}
-use Rattle.numbers.specs.Choice.{if◌then◌else◌}
+use Rattle.numbers.specs.Choice.{when◌then◌else◌}
 use Rattle.terms.specs.Smtlib.{Assignment, value, values, meaning, fold_left}
 use Rattle.numbers.proofs.Truths.{true-T, T_true, same_test, true_or_false, never}
 use Rattle.numbers.proofs.Comparisons.{of_eq_p, eq_p-true, less_p-not}
@@ -184,12 +184,12 @@ equation-true ρ h e = sym (relation-says ρ equals h) ∙ e
 
 module _ (by : Departures) (ρ : Assignment) where
   difference-value : {x y d : Term} → Difference by x y d → mk (at ρ d) ≡ mk (at ρ x) less mk (at ρ y)
-  unfolding value values meaning if◌then◌else◌ fold_left
+  unfolding value values meaning when◌then◌else◌ fold_left
   difference-value {x} {y} (plain (is i)) = mk-less (at ρ x) (at ρ y)
   difference-value {x} {y} (real_difference g (is i) (is j)) = mk-less (at ρ x) (at ρ y)
 
   product_value : {a b t : Term} → Is2 Mult a b t → mk (at ρ t) ≡ product (mk (at ρ a)) (mk (at ρ b))
-  unfolding value values meaning if◌then◌else◌ fold_left
+  unfolding value values meaning when◌then◌else◌ fold_left
   product_value {a} {b} (is i) = mk-mul (at ρ a) (at ρ b)
 
   -- c times a difference

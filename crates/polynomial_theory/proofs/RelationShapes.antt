@@ -10,7 +10,7 @@ use Prim.Native.Nat.{ℕ, zero, suc, ◌%◌, ◌<◌}
 use native.Mathlib.Omega.{arith}
 use borrow.Author.Tests.{eqb-true}
 use Rattle.terms.specs.Operator.{Equals, Sub, ToReal, BvSub}
-use Rattle.numbers.specs.Choice.{if◌then◌else◌}
+use Rattle.numbers.specs.Choice.{when◌then◌else◌}
 use Rattle.terms.specs.Term.{Term, Terms, unary, binary}
 use Rattle.terms.specs.Term.Term.{integer, rational, bitvector, atom, op}
 use Rattle.terms.specs.Term.Terms.{nil, ◌▹◌}
@@ -146,13 +146,13 @@ module _ {P : Term → Type 0} (closed : Closed P) where
 
   module _ (t : Term) (p : P t) (q : Term × Term) where
     pub vector-parts : difference BvSub t ≡ some q → Parts P (Is2 BvSub) t q
-    unfolding difference if◌then◌else◌
+    unfolding difference when◌then◌else◌
     vector-parts e =
         let f = binary-found closed BvSub t p q e in
         record { shape = f.shape; inside = inside_both f }
 
     pub number-parts : difference Sub t ≡ some q → Parts P (Difference carcara) t q
-    unfolding difference if◌then◌else◌
+    unfolding difference when◌then◌else◌
     number-parts =
         by_option (unary ToReal t) (binary Sub) (binary Sub t) (some q)
         (λ u e f.

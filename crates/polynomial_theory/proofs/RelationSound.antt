@@ -14,7 +14,7 @@ use Rattle.numbers.specs.Pair.{whole_p, eq_p}
 use Rattle.numbers.specs.Rational.{modulo}
 use Rattle.terms.specs.Operator.{Equals, BvSub, BvMul}
 use Rattle.terms.specs.Term.{Sort, Term, Terms, sort, sorts, same_sort, is_bits, all, first, takes, gives}
-use Rattle.numbers.specs.Choice.{if◌then◌else◌}
+use Rattle.numbers.specs.Choice.{when◌then◌else◌}
 use Rattle.terms.specs.Term.Sort.{bits}
 use Rattle.terms.specs.Term.Term.{bitvector}
 use Rattle.terms.specs.Term.Terms.{nil, ◌▹◌}
@@ -76,7 +76,7 @@ module _ (w : ℕ) where
 
   -- the arguments of an operation of sort bits w have its sort
   vector-arguments : {o : ℕ} {a b t : Term} → Is2 o a b t → Sized w t → Sized w a × Sized w b
-  unfolding WellFormed sort sorts takes gives if◌then◌else◌ all
+  unfolding WellFormed sort sorts takes gives when◌then◌else◌ all
   vector-arguments {o} {a} {b} (is i) h =
       let k = by_vector-operator
       (λ o.
@@ -110,13 +110,13 @@ module _ (w : ℕ) (ρ : Assignment) where
 
   difference_cong :
       {x y d : Term} → Is2 BvSub x y d → Sized w d → Cong (2 ^ w) (bits_at d) (bits_at x -ℤ bits_at y)
-  unfolding value values meaning if◌then◌else◌ sum_z sorts
+  unfolding value values meaning when◌then◌else◌ sum_z sorts
   difference_cong {x} {y} (is i) h =
       cong_trans (remainder_cong (x ▹ y ▹ nil) _ (vector-arguments w {o = BvSub} (is i) h).0.sized)
       (cong_of_eq (solveℤ (bits_at x ∷ bits_at y ∷ []) (λ x y. x ⊕ neg (y ⊕ 𝟘) ≐ x ⊖ y) tt))
 
   product_cong : {c d t : Term} → Is2 BvMul c d t → Sized w t → Cong (2 ^ w) (bits_at t) (bits_at c *ℤ bits_at d)
-  unfolding value values meaning if◌then◌else◌ product_z sorts
+  unfolding value values meaning when◌then◌else◌ product_z sorts
   product_cong {c} {d} (is i) h =
       cong_trans (remainder_cong (c ▹ d ▹ nil) _ (vector-arguments w {o = BvMul} (is i) h).0.sized)
       (cong_of_eq (solveℤ (bits_at c ∷ bits_at d ∷ []) (λ c d. c ⊗ (d ⊗ 𝟙) ≐ c ⊗ d) tt))
@@ -161,7 +161,7 @@ module _ (ρ : Assignment) where
   vectors-alike :
       {o : ℕ} {premise x1 x2 y1 y2 : Term} → WellFormed premise → ScaledVectors o premise x1 x2 y1 y2 →
       says ρ premise ≡ true → eq_p (at ρ x1) (at ρ x2) ≡ eq_p (at ρ y1) (at ρ y2)
-  unfolding WellFormed sort sorts gives if◌then◌else◌
+  unfolding WellFormed sort sorts gives when◌then◌else◌
   vectors-alike {x1 = x1} {x2} {y1} {y2} f s e =
       let ws = arguments-formed s.equation f in
       let w = s.w1 in

@@ -11,7 +11,7 @@ use lib.ListN.{length}
 use Rattle.numbers.specs.Rational.{Rational, modulo}
 use Rattle.terms.specs.Operator.{BvAdd, BvSub, BvNeg, BvMul}
 use Rattle.terms.specs.Term.{Term, Terms, sort, sorts, same_sort, is_bits, all, first, takes, gives, same, unary, binary}
-use Rattle.numbers.specs.Choice.{if◌then◌else◌}
+use Rattle.numbers.specs.Choice.{when◌then◌else◌}
 use Rattle.terms.specs.Term.Sort.{bool, int, real, bits}
 use Rattle.terms.specs.Term.Term.{integer, rational, bitvector, atom, op}
 use Rattle.terms.specs.Term.Terms.{nil, ◌▹◌}
@@ -94,13 +94,13 @@ module _ (w : ℕ) (ρ : Assignment) where
 
       sum-taken :
           (ts : Terms) → Each Fits ts → first (sorts ts) ≡ bits w → TakenAs BvAdd ts (sum_z (values ρ ts))
-      unfolding arm_of if◌then◌else◌
+      unfolding arm_of when◌then◌else◌
       sum-taken ts h e = (h, remainder_is ts (sum_z (values ρ ts)) e ∙ sum_is ts)
 
       difference-taken :
           (ts : Terms) → Each Fits ts → first (sorts ts) ≡ bits w →
           TakenAs BvSub ts (difference_z (values ρ ts))
-      unfolding arm_of if◌then◌else◌ sorts values difference_of
+      unfolding arm_of when◌then◌else◌ sorts values difference_of
       difference-taken nil h e = not_vector bool refl e
       difference-taken (t ▹ ts) h e = (
         h,
@@ -111,7 +111,7 @@ module _ (w : ℕ) (ρ : Assignment) where
 
       product-taken :
           (ts : Terms) → Each Fits ts → first (sorts ts) ≡ bits w → TakenAs BvMul ts (product_z (values ρ ts))
-      unfolding arm_of if◌then◌else◌ sorts product_of factors_of
+      unfolding arm_of when◌then◌else◌ sorts product_of factors_of
       product-taken nil h e = not_vector bool refl e
       product-taken (t ▹ ts) h e =
           (h, remainder_is (t ▹ ts) (product_z (values ρ (t ▹ ts))) e ∙ factors-are (t ▹ ts))
@@ -119,7 +119,7 @@ module _ (w : ℕ) (ρ : Assignment) where
       opposite-taken :
           (ts : Terms) → Each Fits ts → first (sorts ts) ≡ bits w → count_ok BvNeg (length (sorts ts)) ≡ true →
           TakenAs BvNeg ts (opposite_z (values ρ ts))
-      unfolding arm_of if◌then◌else◌ sorts values sum_of count_ok
+      unfolding arm_of when◌then◌else◌ sorts values sum_of count_ok
       opposite-taken nil h e c = not_vector bool refl e
       opposite-taken (t ▹ nil) h e c = (
         h,
@@ -133,7 +133,7 @@ module _ (w : ℕ) (ρ : Assignment) where
           (i o : ℕ) (ts : Terms) → Operation o (sorts ts) →
           (all (same_sort (bits w)) (sorts ts) ≡ true → Each Fits ts) → gives o (sorts ts) ≡ bits w →
           Taken (wholes (2 ^ w)) residue_of Fits (arm_of o ts) ts (residue_of (op i o ts))
-      unfolding takes gives meaning value if◌then◌else◌
+      unfolding takes gives meaning value when◌then◌else◌
       operator-taken i o ts h fit e =
           by_vector-operator
           (λ o.

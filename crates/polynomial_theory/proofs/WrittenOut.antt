@@ -9,7 +9,7 @@ use lib.ListN.{length}
 use Rattle.numbers.specs.Rational.{Rational, whole, is_zero}
 use Rattle.terms.specs.Operator.{Sub, RealDiv, ToReal, BvSub, BvNeg}
 use Rattle.terms.specs.Term.{Sort, Term, Terms, sorts}
-use Rattle.numbers.specs.Choice.{if◌then◌else◌}
+use Rattle.numbers.specs.Choice.{when◌then◌else◌}
 use Rattle.terms.specs.Term.Term.{integer, rational, bitvector, atom, op}
 use Rattle.terms.specs.Term.Terms.{nil, ◌▹◌}
 use Rattle.terms.specs.Readers.{unbounded, as_fraction}
@@ -137,7 +137,7 @@ module _ (i : ℕ) (ts : Terms) (h : Each WrittenOut ts) where
 
 minus_out : (i : ℕ) (ts : Terms) → Each WrittenOut ts → count_ok Sub (length (sorts ts)) ≡ true →
     WrittenOut (op i Sub ts)
-unfolding sorts count_ok if◌then◌else◌
+unfolding sorts count_ok when◌then◌else◌
 minus_out i nil h c = never c
 minus_out i (t ▹ nil) h c = (_, Expands.minus IsMinus.sub (is i) h.0.1)
 minus_out i (t ▹ u ▹ ts) h c =
@@ -145,7 +145,7 @@ minus_out i (t ▹ u ▹ ts) h c =
 
 bvsub_out : (i : ℕ) (ts : Terms) → Each WrittenOut ts → count_ok BvSub (length (sorts ts)) ≡ true →
     WrittenOut (op i BvSub ts)
-unfolding sorts count_ok if◌then◌else◌
+unfolding sorts count_ok when◌then◌else◌
 bvsub_out i nil h c = never c
 bvsub_out i (t ▹ nil) h c = never c
 bvsub_out i (t ▹ u ▹ ts) h c =
@@ -153,14 +153,14 @@ bvsub_out i (t ▹ u ▹ ts) h c =
 
 bvneg_out : (i : ℕ) (ts : Terms) → Each WrittenOut ts → count_ok BvNeg (length (sorts ts)) ≡ true →
     WrittenOut (op i BvNeg ts)
-unfolding sorts count_ok if◌then◌else◌
+unfolding sorts count_ok when◌then◌else◌
 bvneg_out i nil h c = never c
 bvneg_out i (t ▹ nil) h c = (_, Expands.minus IsMinus.bvneg (is i) h.0.1)
 bvneg_out i (t ▹ u ▹ ts) h c = absurd (omega (arith, eqb-true (suc (suc (length (sorts ts)))) 1 c))
 
 real_out : (i : ℕ) (ts : Terms) → Each WrittenOut ts → count_ok ToReal (length (sorts ts)) ≡ true →
     WrittenOut (op i ToReal ts)
-unfolding sorts count_ok if◌then◌else◌
+unfolding sorts count_ok when◌then◌else◌
 real_out i nil h c = never c
 real_out i (t ▹ nil) h c = (_, Expands.real (is i) h.0.1)
 real_out i (t ▹ u ▹ ts) h c = absurd (omega (arith, eqb-true (suc (suc (length (sorts ts)))) 1 c))
@@ -188,7 +188,7 @@ quotient_out i a b h = go (as_fraction unbounded b) refl
 
 over_out : (i : ℕ) (ts : Terms) → Each WrittenOut ts → count_ok RealDiv (length (sorts ts)) ≡ true →
     WrittenOut (op i RealDiv ts)
-unfolding sorts count_ok if◌then◌else◌
+unfolding sorts count_ok when◌then◌else◌
 over_out i nil h c = never c
 over_out i (a ▹ nil) h c = never c
 over_out i (a ▹ b ▹ nil) h c = quotient_out i a b h.0

@@ -19,7 +19,7 @@ use Rattle.numbers.specs.Rational.{checked}
 use Rattle.numbers.specs.Bytes.{Bytes}
 use Rattle.terms.specs.Operator.{Add, Sub, Mult, RealDiv, ToReal, BvAdd, BvSub, BvNeg, BvMul}
 use Rattle.terms.specs.Term.{Term, Terms}
-use Rattle.numbers.specs.Choice.{if◌then◌else◌}
+use Rattle.numbers.specs.Choice.{when◌then◌else◌}
 use Rattle.terms.specs.Term.Term.{integer, rational, bitvector, atom, op}
 use Rattle.terms.specs.Book.{record_of, kind, field1, field2, is_width, is_vector, numbers, nothing, arguments, argument_at}
 use Rattle.terms.specs.Book.{forest, tree}
@@ -211,39 +211,39 @@ module _ (t : Term) (coeff : Rational) where
   at_operator o = by_operator (λ k ts. operation_node t k ts coeff) (leaf_node t coeff) o (as_op t)
 
   pub sum-node : operator_of t ≡ Add → Proper coeff → NodeIs (node.Args coeff coeff) (node_of t coeff)
-  unfolding operation_node arm_of if◌then◌else◌
+  unfolding operation_node arm_of when◌then◌else◌
   sum-node e p = node_is (p, p) (sym (at_operator 8 e))
 
   -- ToReal and BvAdd
   pub sums-node :
       ToReal ≤ operator_of t → operator_of t < suc BvAdd → Proper coeff →
       NodeIs (node.Args coeff coeff) (node_of t coeff)
-  unfolding operation_node arm_of if◌then◌else◌
+  unfolding operation_node arm_of when◌then◌else◌
   sums-node h k p =
       node_is (p, p)
       (sym (⊎_elim (at_operator 14) (λ l. at_operator 13 (omega (arith, h, l))) (eq-or-lt_of_le (omega (arith, k)))))
 
   pub product-node : (operator_of t ≡ Mult) ⊎ (operator_of t ≡ BvMul) → NodeIs node.Product (node_of t coeff)
-  unfolding operation_node arm_of if◌then◌else◌
+  unfolding operation_node arm_of when◌then◌else◌
   product-node h = node_is tt (sym (⊎_elim (at_operator 10) (at_operator 17) h))
 
   pub quotient-node :
       {n : Node} → operator_of t ≡ RealDiv → NodeIs n (quotient_of t coeff) → NodeIs n (node_of t coeff)
-  unfolding operation_node arm_of if◌then◌else◌ quotient_of
+  unfolding operation_node arm_of when◌then◌else◌ quotient_of
   quotient-node e n = node_of_lem n (sym (at_operator 12 e))
 
   module _ {minus : Rational} (m : Makes minus (neg_q coeff)) where
     pub opposite-node : operator_of t ≡ BvNeg → NodeIs (node.Args minus minus) (node_of t coeff)
-    unfolding operation_node arm_of if◌then◌else◌
+    unfolding operation_node arm_of when◌then◌else◌
     opposite-node e = node_is (m.proper, m.proper) (sym (at_operator 16 e ∙ rw m.is))
 
     pub vector-difference-node : operator_of t ≡ BvSub → Proper coeff → NodeIs (node.Args coeff minus) (node_of t coeff)
-    unfolding operation_node arm_of if◌then◌else◌
+    unfolding operation_node arm_of when◌then◌else◌
     vector-difference-node e p = node_is (p, m.proper) (sym (at_operator 15 e ∙ rw m.is))
 
     pub negation-node :
         operator_of t ≡ Sub → size (arguments_of t) ≡ 1 → NodeIs (node.Args minus minus) (node_of t coeff)
-    unfolding operation_node arm_of if◌then◌else◌
+    unfolding operation_node arm_of when◌then◌else◌
     negation-node e n =
         node_is (m.proper, m.proper)
         (sym (at_operator 9 e ∙ rw (eq-eqb (size (arguments_of t)) 1 n, operation_node, m.is)))
@@ -251,13 +251,13 @@ module _ (t : Term) (coeff : Rational) where
     pub difference-node :
         operator_of t ≡ Sub → (size (arguments_of t) ≡ 1 → ⊥) → Proper coeff →
         NodeIs (node.Args coeff minus) (node_of t coeff)
-    unfolding operation_node arm_of if◌then◌else◌
+    unfolding operation_node arm_of when◌then◌else◌
     difference-node e n p =
         node_is (p, m.proper)
         (sym (at_operator 9 e ∙ rw (ne_eqb (size (arguments_of t)) 1 n, operation_node, m.is)))
 
 leaf_arm : (o : ℕ) (ts : Terms) → OtherOperator o → OutOfSums o → arm_of o ts ≡ leaf
-unfolding arm_of if◌then◌else◌
+unfolding arm_of when◌then◌else◌
 leaf_arm o ts h out =
     rw (
       arm_of,

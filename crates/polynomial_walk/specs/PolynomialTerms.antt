@@ -5,7 +5,7 @@ use Rattle.std.proofs.Math.Option.{Option, some, none}
 use Rattle.numbers.specs.Rational.{Rational, whole, neg_q, is_zero}
 use Rattle.terms.specs.Operator.{Add, Sub, Mult, RealDiv, ToReal, BvAdd, BvSub, BvNeg, BvMul}
 use Rattle.terms.specs.Term.{Term, Terms}
-use Rattle.numbers.specs.Choice.{if◌then◌else◌}
+use Rattle.numbers.specs.Choice.{when◌then◌else◌}
 use Rattle.terms.specs.Term.Term.{integer, rational, bitvector, atom, op}
 use Rattle.terms.specs.Term.Terms.{nil, ◌▹◌}
 use Rattle.terms.specs.Readers.{as_bitvector, within}
@@ -25,11 +25,11 @@ pub data Arm : Type 0 where
 
 unfoldable pub arm_of : ℕ → Terms → Arm
 arm_of o ts =
-    if eqb o Add || (eqb o BvAdd || eqb o ToReal) then sum else
-    if (eqb o Sub && eqb (size ts) 1) || eqb o BvNeg then negation else
-    if eqb o Sub || eqb o BvSub then difference else
-    if eqb o Mult || eqb o BvMul then product else
-    if eqb o RealDiv then quotient else
+    when eqb o Add || (eqb o BvAdd || eqb o ToReal) then sum else
+    when (eqb o Sub && eqb (size ts) 1) || eqb o BvNeg then negation else
+    when eqb o Sub || eqb o BvSub then difference else
+    when eqb o Mult || eqb o BvMul then product else
+    when eqb o RealDiv then quotient else
     leaf
 
 -- a number goes to the constant, a bit-vector constant too, anything else is an atom

@@ -5,7 +5,7 @@ use Rattle.std.proofs.Math.Option.{Option, some, none}
 use Rattle.numbers.specs.Rational.{Rational, neg_q, abs_q, is_zero}
 use Rattle.terms.specs.Operator.{Equals, GreaterThan, GreaterEq}
 use Rattle.terms.specs.Term.{Term}
-use Rattle.numbers.specs.Choice.{if◌then◌else◌}
+use Rattle.numbers.specs.Choice.{when◌then◌else◌}
 use Rattle.rules.specs.Refusal.{Result, ◌>>=◌, assert, or_else}
 use Rattle.rules.specs.Refusal.Outcome.{ok, refused}
 use Rattle.rules.specs.Refusal.Refusal.{not_unit, coeff_not_found}
@@ -48,16 +48,16 @@ strengthened l o s a = elim (all_int s.entries) [ true ↦ strengthen l o s a | 
 -- the stronger of two operators
 abbrev pub join_operators : ℕ → ℕ → ℕ
 join_operators o p =
-    if eqb o GreaterThan || eqb p GreaterThan then GreaterThan else
-    if eqb o GreaterEq || eqb p GreaterEq then GreaterEq else
+    when eqb o GreaterThan || eqb p GreaterThan then GreaterThan else
+    when eqb o GreaterEq || eqb p GreaterEq then GreaterEq else
     Equals
 
 abbrev pub scalar : ℕ → Rational → Rational
-scalar o a = if eqb o Equals then a else abs_q a
+scalar o a = when eqb o Equals then a else abs_q a
 
 -- > with argument 0 is only >=
 abbrev pub weakened : ℕ → Rational → ℕ
-weakened o a = if eqb o GreaterThan && is_zero a then GreaterEq else o
+weakened o a = when eqb o GreaterThan && is_zero a then GreaterEq else o
 
 unfoldable pub process_disequality : Limits → Progress → Term → Option Rational → Result Progress
 process_disequality l p phi arg = do

@@ -16,7 +16,7 @@ use lib.Dec.{eqb, ltb}
 use lib.ListN.{length, get_or, set, take, drop, replicate, drop_of_length-le, length-drop}
 use lib.Seq.{get_or-set_same, get_or-set_other, drop-cons, drop-drop}
 use Rattle.numbers.specs.Bytes.{Bytes}
-use Rattle.numbers.specs.Choice.{if◌then◌else◌}
+use Rattle.numbers.specs.Choice.{when◌then◌else◌}
 use Rattle.terms.specs.Term.{Term, Terms}
 use Rattle.terms.specs.Term.Terms.{nil, ◌▹◌}
 use Rattle.terms.specs.Book.{tree, forest, argument_at, arguments, numbers}
@@ -50,26 +50,26 @@ module _ (b : Bytes) (d n k x : ℕ) (l : List ℕ) where
   -- whether a name that has a record has this one
   again_law :
       k < n → k < length l →
-      bind k (tree b x) (names_in b d n l) ≡ (if eqb (get_or l k 0) x then some (names_in b d n l) else none)
-  unfolding bind if◌then◌else◌
+      bind k (tree b x) (names_in b d n l) ≡ (when eqb (get_or l k 0) x then some (names_in b d n l) else none)
+  unfolding bind when◌then◌else◌
   again_law h inside = rw (lt-ltb k n h, same-records b (get_or l k d) x, get_d_inside l k d 0 inside)
 
   pub bound-again : k < n → k < length l → get_or l k 0 ≡ x → found_names b d n l ≡ bind k (tree b x) (names_in b d n l)
-  unfolding if◌then◌else◌
+  unfolding when◌then◌else◌
   bound-again h inside e =
       named_some b d n l (omega (arith, h)) ∙ sym (again_law h inside ∙ rw (eq-eqb (get_or l k 0) x e))
 
   pub bound-other : k < n → k < length l → (get_or l k 0 ≡ x → ⊥) → none ≡ bind k (tree b x) (names_in b d n l)
-  unfolding if◌then◌else◌
+  unfolding when◌then◌else◌
   bound-other h inside e = sym (again_law h inside ∙ rw (ne_eqb (get_or l k 0) x e))
 
   pub not-bound : n ≤ k → (k ≡ n → k < max_names → ⊥) → none ≡ bind k (tree b x) (names_in b d n l)
-  unfolding bind if◌then◌else◌
+  unfolding bind when◌then◌else◌
   not-bound h e = rw (le-ltb k n h) (at _ (eqb k n) (ltb k max_names) refl refl)
     where
       at :
           (m : Option Names) (s t : Bool) → eqb k n ≡ s → ltb k max_names ≡ t →
-          none ≡ (if s && t then m else none)
+          none ≡ (when s && t then m else none)
       at m true true f g = absurd (e (eqb-true k n f) (ltb-true k max_names g))
       at m true false f g = refl
       at m false t f g = refl
@@ -77,14 +77,14 @@ module _ (b : Bytes) (d n k x : ℕ) (l : List ℕ) where
   pub bound-next :
       k ≡ n → k < max_names → k < length l →
       found_names b d (k + 1) (set l k x) ≡ bind k (tree b x) (names_in b d n l)
-  unfolding bind if◌then◌else◌
+  unfolding bind when◌then◌else◌
   bound-next e h inside =
       rw (add-one, le-ltb k n (omega arith), eq-eqb k n e, lt-ltb k max_names h)
       (ap (λ (f : ℕ → Term). some (record { count = suc k; at = f })) (fun_ext (λ j. at j (eqb j k) refl)))
     where
       at :
           (j : ℕ) (t : Bool) → eqb j k ≡ t →
-          tree b (get_or (set l k x) j d) ≡ (if t then tree b x else tree b (get_or l j d))
+          tree b (get_or (set l k x) j d) ≡ (when t then tree b x else tree b (get_or l j d))
       at j true f =
           let same : j ≡ k = eqb-true j k f in
           rw (same, get_or-set_same l k x d inside)

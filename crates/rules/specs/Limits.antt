@@ -4,14 +4,16 @@ use Rattle.std.proofs.Math.Option.{Option, some, none}
 use Rattle.std.specs.Prelude.{ℕ}
 use Rattle.numbers.specs.Rational.{Rational, mul_q, div_q, add_q, limit}
 use Rattle.terms.specs.Term.{Term, Terms}
-use Rattle.terms.specs.Readers.{Bound, unbounded, at_most, bounded, as_signed_number, as_fraction, as_bitvector, as_op}
+use Rattle.terms.specs.Readers.{Bound, unbounded, at_most, bounded, as_signed_number, as_fraction, as_bitvector}
+use Rattle.terms.specs.Readers.{as_op}
 use Rattle.terms.specs.declared.term.Reading.{Reading}
 use Rattle.terms.specs.declared.term.Reading.TheVariants.{Value, NotNumber, OutOfRange}
 use Rattle.terms.specs.declared.term.BitVector.{BitVector}
 use Rattle.terms.specs.declared.term.BitVector.TheVariants.{Bits, NotBitvector}
 use Rattle.rules.specs.Refusal.{Result, ◌>>=◌, or_else}
 use Rattle.rules.specs.Refusal.Outcome.{ok, refused}
-use Rattle.rules.specs.Refusal.Refusal.{number_range, expected_any_number, expected_bitvector, expected_operation_term}
+use Rattle.rules.specs.Refusal.Refusal.{number_range, expected_any_number, expected_bitvector}
+use Rattle.rules.specs.Refusal.Refusal.{expected_operation_term}
 
 pub record Limits : Type 0 where
   pub numbers : Bound

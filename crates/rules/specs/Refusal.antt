@@ -9,7 +9,8 @@ pub data Refusal : Type 0 where
   visit_limit number_range polynomial_size : Refusal
   wrong_number_of_args wrong_number_of_premises wrong_length_of_clause wrong_length_of_premise_clause : Refusal
   term_of_wrong_form expected_any_number : Refusal
-  invalid_disequality_op too_many_args_in_disequality not_unit coeff_not_found disequality_is_not_contradiction : Refusal
+  invalid_disequality_op too_many_args_in_disequality not_unit coeff_not_found : Refusal
+  disequality_is_not_contradiction : Refusal
   not_valid_tautology_case disequality_is_not_tautology expected_equal expected_less_than expected_less_eq : Refusal
   polynomials_not_equal coeff_is_zero coeff_different_signums coeff_even invalid_operators : Refusal
   expected_bitvector expected_operation_term : Refusal

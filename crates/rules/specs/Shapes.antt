@@ -3,7 +3,7 @@
 use Rattle.std.specs.Prelude.{Bool, true, false, ◌&&◌, List, [], ◌∷◌, ℕ, suc, ◌%◌, leb, ltb, eqb, get_or, take, drop}
 use Rattle.std.proofs.Math.Option.{Option, some, none}
 use Rattle.numbers.specs.Bytes.{Bytes}
-use Rattle.numbers.specs.Choice.{if◌then◌else◌}
+use Rattle.numbers.specs.Choice.{when◌then◌else◌}
 use Rattle.terms.specs.Operator.{Equals, GreaterEq}
 use Rattle.terms.specs.Term.{Term, same, unary, binary, Terms}
 use Rattle.terms.specs.Readers.{remove_negation, operator_of, arguments_of}
@@ -84,9 +84,9 @@ max_names = 16
 -- a name that comes again stands for the same term
 unfoldable pub bind : ℕ → Term → Names → Option Names
 bind k t σ =
-    if ltb k σ.count then (if same (σ.at k) t then some σ else none) else
-    if eqb k σ.count && ltb k max_names then
-    some (record { count = suc k; at = λ j. if eqb j k then t else σ.at j }) else
+    when ltb k σ.count then (when same (σ.at k) t then some σ else none) else
+    when eqb k σ.count && ltb k max_names then
+    some (record { count = suc k; at = λ j. when eqb j k then t else σ.at j }) else
     none
 
 unfoldable pub bind_all : List ℕ → Terms → Names → Option Names

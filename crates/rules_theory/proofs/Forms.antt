@@ -8,7 +8,7 @@ use Prim.Native.Nat.{ℕ, zero, suc, ◌<◌, ◌≤◌}
 use native.Mathlib.Omega.{arith}
 use borrow.Author.Tests.{ltb-true, eqb-true, eqb-false, eq-eqb, ne_eqb}
 use lib.Dec.{ltb, eqb}
-use Rattle.numbers.specs.Choice.{if◌then◌else◌}
+use Rattle.numbers.specs.Choice.{when◌then◌else◌}
 use Rattle.terms.specs.Term.{Term, Terms, same}
 use Rattle.terms.specs.Term.Term.{integer, rational, bitvector, atom, op}
 use Rattle.terms.specs.Term.Terms.{nil, ◌▹◌}
@@ -39,7 +39,7 @@ Holds σ (e ∷ es) = Operation e.operator (terms_at σ e.parts) (σ.at e.whole)
 
 -- the next name is t
 abbrev next : ℕ → Term → Names → Names
-next k t σ = record { count = suc k; at = λ j. if eqb j k then t else σ.at j }
+next k t σ = record { count = suc k; at = λ j. when eqb j k then t else σ.at j }
 
 -- the names of σ keep their terms in τ
 record Keeps (σ τ : Names) : Type 0 where
@@ -106,7 +106,7 @@ module _ {P : Term → Type 0} (closed : Closed P) where
       }
 
   fresh : (k : ℕ) (t : Term) (σ : Names) → P t → Inside σ → k ≡ σ.count → Goes σ (next k t σ) (λ υ. υ.at k ≡ t)
-  unfolding if◌then◌else◌
+  unfolding when◌then◌else◌
   fresh k t σ p inside h =
       record {
         keeps = record { count = omega arith; at = λ j l. rw (ne_eqb j k (λ e. omega (arith, e, l, h))) };
@@ -114,18 +114,18 @@ module _ {P : Term → Type 0} (closed : Closed P) where
         holds = λ υ q. q.at k (omega arith) ∙ rw (eq-eqb k k refl);
       }
     where
-      at : (j : ℕ) (b : Bool) → eqb j k ≡ b → j < suc k → P (if b then t else σ.at j)
+      at : (j : ℕ) (b : Bool) → eqb j k ≡ b → j < suc k → P (when b then t else σ.at j)
       at j true e l = p
       at j false e l = inside j (omega (arith, h, l, eqb-false j k e))
 
   bind-found : (k : ℕ) (t : Term) (σ τ : Names) → P t → Inside σ → bind k t σ ≡ some τ → Goes σ τ (λ υ. υ.at k ≡ t)
-  unfolding bind if◌then◌else◌
+  unfolding bind when◌then◌else◌
   bind-found k t σ τ p inside =
       at (ltb k σ.count) (same (σ.at k) t) (eqb k σ.count) (ltb k max_names) refl refl refl
     where
       at :
           (a b c d : Bool) → ltb k σ.count ≡ a → same (σ.at k) t ≡ b → eqb k σ.count ≡ c →
-          (if a then (if b then some σ else none) else if c && d then some (next k t σ) else none) ≡ some τ →
+          (when a then (when b then some σ else none) else when c && d then some (next k t σ) else none) ≡ some τ →
           Goes σ τ (λ υ. υ.at k ≡ t)
       at true true c d f g h e =
           let same_names : σ ≡ τ = cc in

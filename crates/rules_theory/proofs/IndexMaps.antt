@@ -12,7 +12,7 @@ use mathlib.Core.List.{[], ◌∷◌}
 use Prim.Native.Nat.{ℕ, suc}
 use lib.IntN.{pos}
 use Rattle.numbers.specs.Rational.{Rational, whole, neg_q, is_zero}
-use Rattle.numbers.specs.Choice.{if◌then◌else◌}
+use Rattle.numbers.specs.Choice.{when◌then◌else◌}
 use Rattle.numbers.proofs.Ring.{Ring, ◌⊕◌, ◌⊗◌, neg, 𝟘, 𝟙, ◌≐◌, ◌·◌, ◌and◌, ◌from◌, solve, derive}
 use Rattle.rules.specs.Limits.{Limits}
 use Rattle.index_map.specs.IndexMap as IndexMap
@@ -117,7 +117,7 @@ module _ {K : Type 0} {keys : Keys K} (S : Values keys) where
     enter-same :
         (a : K) (p : Rational) (m : Map K) (k : K) (q c : Rational) → AllGood ((a, p) ∷ m) →
         S.at a ≡ S.at k → Stands S.numbers c (number p + number q) →
-        Totals (if is_zero c then swap_remove m else (a, c) ∷ m) (total ((a, p) ∷ m) + entry k q)
+        Totals (when is_zero c then swap_remove m else (a, c) ∷ m) (total ((a, p) ∷ m) + entry k q)
     unfolding total
     enter-same a p m k q c (g, gs) e h =
         if_either (λ r. Totals r (entry a p + total m + entry k q)) (is_zero c)

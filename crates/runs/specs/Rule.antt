@@ -26,7 +26,8 @@ rule_name r = (row r).1
 
 abbrev pub rules : List Rule
 rules =
-    assume ∷ la_rw_eq ∷ la_disequality ∷ la_totality ∷ la_tautology ∷ la_generic ∷ bounded_farkas ∷ poly_simp ∷ poly_simp_rel ∷ []
+    assume ∷ la_rw_eq ∷ la_disequality ∷ la_totality ∷ la_tautology ∷ la_generic ∷ bounded_farkas ∷ poly_simp
+    ∷ poly_simp_rel ∷ []
 
 -- the rule of a list that has a number
 unfoldable pub with_number : List Rule → ℕ → Option Rule

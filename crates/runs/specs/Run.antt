@@ -1,6 +1,7 @@
 -- A run (document 01's word): 4-byte records, a mark, a byte and a 16-bit number. S opens a step, its byte the rule;
 -- then P, the number of an earlier step, C, a Bool term, and A, a term, in that order. Refusals 6 and 7.
-use Rattle.std.specs.Prelude.{Bool, true, false, ◌&&◌, ◌||◌, not, List, [], ◌∷◌, ◌++◌, ℕ, zero, suc, ◌+◌, ◌*◌, ◌/◌, ◌%◌, eqb, leb, ltb, length}
+use Rattle.std.specs.Prelude.{Bool, true, false, ◌&&◌, ◌||◌, not, List, [], ◌∷◌, ◌++◌, ℕ, zero, suc, ◌+◌, ◌*◌, ◌/◌}
+use Rattle.std.specs.Prelude.{◌%◌, eqb, leb, ltb, length}
 use Rattle.std.proofs.Math.Option.{Option, none}
 use Rattle.numbers.specs.Bytes.{Bytes, bytes_of}
 use Rattle.terms.specs.Term.{Term, sort, same_sort, record_number}

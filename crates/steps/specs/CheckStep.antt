@@ -11,9 +11,10 @@ use Rattle.linear_arithmetic.specs.LinearArithmetic as rule
 use Rattle.process_disequality.specs.ProcessDisequality.{Progress}
 use Rattle.linear_arithmetic.specs.LinearArithmetic.{la_generic_partial}
 use Rattle.polynomial_rel.specs.PolySimpRel as rel
-use Rattle.poly_simp.specs.PolySimp as simp
+use Rattle.poly_simp.specs.PolySimp as simplification
 use Rattle.runs.specs.Rule.{Rule}
-use Rattle.runs.specs.Rule.Rule.{assume, la_rw_eq, la_disequality, la_totality, la_tautology, la_generic, bounded_farkas}
+use Rattle.runs.specs.Rule.Rule.{assume, la_rw_eq, la_disequality, la_totality, la_tautology, la_generic}
+use Rattle.runs.specs.Rule.Rule.{bounded_farkas}
 use Rattle.runs.specs.Rule.Rule.{poly_simp, poly_simp_rel}
 use Rattle.runs.specs.Run.{Step, step}
 
@@ -51,7 +52,7 @@ check_rule la_totality l premises c args n = still n (shape.la_totality c)
 check_rule la_tautology l premises c args n = moved (rule.la_tautology l c n)
 check_rule la_generic l premises c args n = traced (rule.la_generic l c args n)
 check_rule bounded_farkas l premises c args n = traced (la_generic_partial l c args n)
-check_rule poly_simp l premises c args n = moved (simp.poly_simp l c n)
+check_rule poly_simp l premises c args n = moved (simplification.poly_simp l c n)
 check_rule poly_simp_rel l premises c args n = still n (rel.poly_simp_rel l c premises)
 
 -- the clauses of the steps that a step names

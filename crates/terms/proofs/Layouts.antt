@@ -19,7 +19,7 @@ use mir.Facts.{to_z-of_z, and_yes}
 use mir.Syntax.{w64}
 use mir.Val.{SFits}
 use Rattle.numbers.specs.Bytes.{Bytes, signed}
-use Rattle.numbers.specs.Choice.{if◌then◌else◌}
+use Rattle.numbers.specs.Choice.{when◌then◌else◌}
 use Rattle.terms.specs.Book.{kind, operator, arg_count, sort_byte, field1, field2, arg_bytes, numbers, is_vector}
 use Rattle.terms.specs.Book.{is_width, all_zero, unused, all_below, count_ok, integer_ok, real_ok, vector_ok, atom_ok}
 use Rattle.terms.specs.Book.{arguments_ok, operation_ok, layout_ok}
@@ -126,13 +126,13 @@ OtherOperator o = ((Unit {0} × ((o ≡ 1) ⊎ ((o ≡ 14) ⊎ (o ≡ 17)) → �
 
 module _ (n : ℕ) where
   pub count_one : (o : ℕ) → (o ≡ 1) ⊎ ((o ≡ 14) ⊎ (o ≡ 17)) → eqb n 1 ≡ count_ok o n
-  unfolding count_ok if◌then◌else◌
+  unfolding count_ok when◌then◌else◌
   count_one o (inl e) = ap (λ (k : ℕ). count_ok k n) (sym e)
   count_one o (inr (inl e)) = ap (λ (k : ℕ). count_ok k n) (sym e)
   count_one o (inr (inr e)) = ap (λ (k : ℕ). count_ok k n) (sym e)
 
   pub count-two : (o : ℕ) → (o ≡ 16) ⊎ ((12 ≤ o) × (o < 14)) → eqb n 2 ≡ count_ok o n
-  unfolding count_ok if◌then◌else◌
+  unfolding count_ok when◌then◌else◌
   count-two o (inl e) = ap (λ (k : ℕ). count_ok k n) (sym e)
   count-two o (inr h) = go (eqb o 12) refl
     where
@@ -144,12 +144,12 @@ module _ (n : ℕ) where
           ap (λ (k : ℕ). count_ok k n) last
 
   pub count-minus : (o m : ℕ) → o ≡ 10 → m ≡ 1 → (leb n 14 && leb m n) ≡ count_ok o n
-  unfolding count_ok if◌then◌else◌
+  unfolding count_ok when◌then◌else◌
   count-minus o m e h = rw (e, h)
 
   pub count-other :
       (o m : ℕ) → OtherOperator o → (o < 12) ⊎ (14 ≤ o) → m ≡ 2 → (leb n 14 && leb m n) ≡ count_ok o n
-  unfolding count_ok if◌then◌else◌
+  unfolding count_ok when◌then◌else◌
   count-other o m p s e =
       rw (e, ne_eqb o 1 (λ h. p.0.0.1 (inl h)))
       (rw (ne_eqb o 14 (λ h. p.0.0.1 (inr (inl h))), ne_eqb o 17 (λ h. p.0.0.1 (inr (inr h))))
@@ -208,23 +208,23 @@ module _ (s w : ℕ) where
 
 abbrev pub layout_as : ℕ → ℕ → Bytes → Bool
 layout_as k i r =
-    if eqb k 1 then integer_ok r else
-    if eqb k 2 then real_ok r else
-    if eqb k 3 then vector_ok r else
-    if eqb k 4 then atom_ok r else
-    if eqb k 5 then operation_ok i r else
+    when eqb k 1 then integer_ok r else
+    when eqb k 2 then real_ok r else
+    when eqb k 3 then vector_ok r else
+    when eqb k 4 then atom_ok r else
+    when eqb k 5 then operation_ok i r else
     false
 
 -- x is the answer for the kind m, and the code has found k
 pub layout_of_kind :
     {x : Bool} (m k i : ℕ) (r : Bytes) → k ≡ kind r → k ≡ m → x ≡ layout_as m i r → x ≡ layout_ok i r
-unfolding layout_ok if◌then◌else◌
+unfolding layout_ok when◌then◌else◌
 layout_of_kind m k i r e h a = a ∙ ap (λ (j : ℕ). layout_as j i r) (sym h ∙ e)
 
 pub layout_of_none :
     (k i : ℕ) (r : Bytes) → k ≡ kind r → (k ≡ 1 → ⊥) → (k ≡ 2 → ⊥) → (k ≡ 3 → ⊥) → (k ≡ 4 → ⊥) → (k ≡ 5 → ⊥) →
     false ≡ layout_ok i r
-unfolding if◌then◌else◌
+unfolding when◌then◌else◌
 layout_of_none k i r e n1 n2 n3 n4 n5 =
     layout_of_kind k k i r e refl
     (rw (ne_eqb k 1 n1, ne_eqb k 2 n2, ne_eqb k 3 n3, ne_eqb k 4 n4, ne_eqb k 5 n5))

@@ -9,7 +9,7 @@ use lib.IntN.{nat_abs}
 use Rattle.numbers.specs.Bytes.{Bytes, signed}
 use Rattle.numbers.specs.Rational.{gcd}
 use Rattle.terms.specs.Term.{Terms}
-use Rattle.numbers.specs.Choice.{if◌then◌else◌}
+use Rattle.numbers.specs.Choice.{when◌then◌else◌}
 use Rattle.terms.specs.Term.Term.{integer, rational, bitvector, atom, op}
 use Rattle.terms.specs.Book.{kind, operator, field1, field2, integer_of, rational_of, is_number, is_width, is_vector}
 use Rattle.terms.specs.Book.{atom_sort, node, unused, integer_ok, real_ok, vector_ok, atom_ok, operation_ok, layout_ok}
@@ -27,11 +27,11 @@ pub data Laid (i : ℕ) (r : Bytes) : Type 0 where
 -- a test that passes does so on one of its two sides
 side :
     {A : Type 0} (k n : ℕ) (x y : Bool) → (k ≡ n → x ≡ true → A) → (y ≡ true → A) →
-    (if eqb k n then x else y) ≡ true → A
-unfolding if◌then◌else◌
+    (when eqb k n then x else y) ≡ true → A
+unfolding when◌then◌else◌
 side {A} k n x y f g = go (eqb k n) refl
   where
-    go : (t : Bool) → eqb k n ≡ t → (if t then x else y) ≡ true → A
+    go : (t : Bool) → eqb k n ≡ t → (when t then x else y) ≡ true → A
     go true p e = f (eqb-true k n p) e
     go false p e = g e
 
@@ -47,23 +47,23 @@ laid i r =
 
 module _ (i : ℕ) (r : Bytes) (ts : Terms) where
   pub node-integer : kind r ≡ 1 → is_number (integer_of r) ≡ true → node i r ts ≡ integer i (signed 8 (field1 r))
-  unfolding node if◌then◌else◌
+  unfolding node when◌then◌else◌
   node-integer k e = rw (k, e)
 
   pub node-rational : kind r ≡ 2 → is_number (rational_of r) ≡ true → node i r ts ≡ rational i (rational_of r)
-  unfolding node if◌then◌else◌
+  unfolding node when◌then◌else◌
   node-rational k e = rw (k, e)
 
   pub node-vector : kind r ≡ 3 → is_vector r ≡ true → node i r ts ≡ bitvector i (field1 r) (field2 r)
-  unfolding node if◌then◌else◌
+  unfolding node when◌then◌else◌
   node-vector k e = rw (k, e)
 
   pub node-atom : kind r ≡ 4 → node i r ts ≡ atom i (atom_sort r) (field1 r)
-  unfolding node if◌then◌else◌
+  unfolding node when◌then◌else◌
   node-atom k = rw k
 
   pub node-operation : kind r ≡ 5 → node i r ts ≡ op i (operator r) ts
-  unfolding node if◌then◌else◌
+  unfolding node when◌then◌else◌
   node-operation k = rw k
 
 -- ---- what the layout says of the fields

@@ -6,7 +6,7 @@ use Prim.Native.Nat.{ℕ}
 use borrow.Author.Tests.{eqb-true}
 use lib.Dec.{eqb}
 use Rattle.numbers.specs.Bytes.{Bytes, signed}
-use Rattle.numbers.specs.Choice.{if◌then◌else◌}
+use Rattle.numbers.specs.Choice.{when◌then◌else◌}
 use Rattle.terms.specs.Term.{Term, Terms, record_number}
 use Rattle.terms.specs.Term.Term.{integer, rational, bitvector, atom, op}
 use Rattle.terms.specs.Book.{record_of, kind, operator, field1, field2, rational_of, integer_of, is_number, is_vector}
@@ -19,14 +19,14 @@ pub record Node (i : ℕ) (r : Bytes) (us : Terms) (t : Term) : Type 0 where
   pub operation : (j o : ℕ) (ts : Terms) → t ≡ op j o ts → (kind r ≡ 5) × (us ≡ ts)
 
 pub node_is : (i : ℕ) (r : Bytes) (us : Terms) → Node i r us (node i r us)
-unfolding node if◌then◌else◌
+unfolding node when◌then◌else◌
 node_is i r us =
     go (eqb (kind r) 1 && is_number (integer_of r)) (eqb (kind r) 2 && is_number (rational_of r))
     (eqb (kind r) 3 && is_vector r) (eqb (kind r) 5) refl
   where
     go :
         (s t u v : Bool) → eqb (kind r) 5 ≡ v →
-        Node i r us (if s then integer i (signed 8 (field1 r)) else if t then rational i (rational_of r) else if u then bitvector i (field1 r) (field2 r) else if v then op i (operator r) us else atom i (atom_sort r) (field1 r))
+        Node i r us (when s then integer i (signed 8 (field1 r)) else when t then rational i (rational_of r) else when u then bitvector i (field1 r) (field2 r) else when v then op i (operator r) us else atom i (atom_sort r) (field1 r))
     go true t u v k = record { numbered = refl; operation = λ j o ts e. (cc, cc) }
     go false true u v k = record { numbered = refl; operation = λ j o ts e. (cc, cc) }
     go false false true v k = record { numbered = refl; operation = λ j o ts e. (cc, cc) }

@@ -12,7 +12,7 @@ use lib.IntN.{ℤ, pos}
 use Rattle.numbers.specs.Bytes.{Bytes, signed}
 use Rattle.numbers.specs.Rational.{Rational, frac, in_range}
 use Rattle.terms.specs.Term.{Term, Terms, args_of}
-use Rattle.numbers.specs.Choice.{if◌then◌else◌}
+use Rattle.numbers.specs.Choice.{when◌then◌else◌}
 use Rattle.terms.specs.Term.Term.{integer, rational, bitvector, atom, op}
 use Rattle.terms.specs.Term.Terms.{nil}
 use Rattle.terms.specs.Book.{record_of, kind, operator, field1, field2, integer_of, rational_of, is_number, is_vector}
@@ -40,11 +40,11 @@ pub data Node (i : ℕ) (r : Bytes) (ts : Terms) : Term → Type 0 where
 -- a choice by the test of a kind and of one thing more
 of_kind :
     {A : Type 0} (P : A → Type 0) (k n : ℕ) (t : Bool) {x y : A} → (k ≡ n → t ≡ true → P x) →
-    ((k ≡ n → t ≡ false) → P y) → P (if eqb k n && t then x else y)
-unfolding if◌then◌else◌
+    ((k ≡ n → t ≡ false) → P y) → P (when eqb k n && t then x else y)
+unfolding when◌then◌else◌
 of_kind P k n t {x} {y} first second = go (eqb k n) t refl refl
   where
-    go : (e u : Bool) → eqb k n ≡ e → t ≡ u → P (if e && u then x else y)
+    go : (e u : Bool) → eqb k n ≡ e → t ≡ u → P (when e && u then x else y)
     go true true p q = first (eqb-true k n p) q
     go true false p q = second (λ s. q)
     go false u p q = second (λ s. absurd (eqb-false k n p s))

@@ -2,16 +2,18 @@
 -- below a record, and refusals 2 to 5 in document 01's order. Everything is defined for all bytes. A record that is
 -- not there, or whose bytes make no constant and no operation, is an atom; an argument number that is not smaller
 -- than its record's own is not followed.
-use Rattle.std.specs.Prelude.{◌≡◌, Bool, true, false, ◌&&◌, ◌||◌, cond, List, [], ◌∷◌, ℕ, zero, suc, ◌+◌, ◌*◌, ◌-◌, ◌/◌, ◌%◌, ◌^◌, ◌<◌, min, leb, ltb, eqb, pos, nat_abs, length, get_or, set, take, drop}
+use Rattle.std.specs.Prelude.{◌≡◌, Bool, true, false, ◌&&◌, ◌||◌, cond, List, [], ◌∷◌, ℕ, zero, suc, ◌+◌, ◌*◌, ◌-◌}
+use Rattle.std.specs.Prelude.{◌/◌, ◌%◌, ◌^◌, ◌<◌, min, leb, ltb, eqb, pos, nat_abs, length, get_or, set, take, drop}
 use Rattle.std.specs.Int.Signed.{lt_z}
 use Rattle.numbers.specs.Rational.{Rational, frac, whole, gcd, in_range}
 use Rattle.numbers.specs.Bytes.{Bytes, same_bytes, le, signed}
-use Rattle.terms.specs.Format.{record_bytes, max_records, max_args, max_width, bool_sort, int_sort, real_sort, bits_sort}
+use Rattle.terms.specs.Format.{record_bytes, max_records, max_args, max_width, bool_sort, int_sort, real_sort}
+use Rattle.terms.specs.Format.{bits_sort}
 use Rattle.terms.specs.Format.{first_at, second_at, fields_end, args_at}
 use Rattle.terms.specs.Format.{integer_kind, real_kind, vector_kind, atom_kind, operation_kind}
 use Rattle.terms.specs.Operator.{Not, Sub, IntDiv, RealDiv, ToReal, BvSub, BvNeg, BvMul}
 use Rattle.terms.specs.Term.{Sort, Term, Terms, sort, sorts, sort_code, takes}
-use Rattle.numbers.specs.Choice.{if◌then◌else◌}
+use Rattle.numbers.specs.Choice.{when◌then◌else◌}
 use Rattle.terms.specs.Term.Sort.{bool, int, real, bits}
 use Rattle.terms.specs.Term.Term.{integer, rational, bitvector, atom, op}
 use Rattle.terms.specs.Term.Terms.{nil, ◌▹◌}
@@ -70,9 +72,9 @@ is_vector r = is_width (field2 r) && ltb (field1 r) (2 ^ field2 r)
 
 abbrev pub atom_sort : Bytes → Sort
 atom_sort r =
-    if eqb (sort_byte r) int_sort then int else
-    if eqb (sort_byte r) real_sort then real else
-    if eqb (sort_byte r) bits_sort then bits (field2 r) else
+    when eqb (sort_byte r) int_sort then int else
+    when eqb (sort_byte r) real_sort then real else
+    when eqb (sort_byte r) bits_sort then bits (field2 r) else
     bool
 
 -- two bytes a number
@@ -106,10 +108,10 @@ arguments i (a ∷ l) = earlier i a ∷ arguments i l
 -- record i with bytes r and arguments ts
 unfoldable pub node : ℕ → Bytes → Terms → Term
 node i r ts =
-    if eqb (kind r) integer_kind && is_number (integer_of r) then integer i (signed 8 (field1 r)) else
-    if eqb (kind r) real_kind && is_number (rational_of r) then rational i (rational_of r) else
-    if eqb (kind r) vector_kind && is_vector r then bitvector i (field1 r) (field2 r) else
-    if eqb (kind r) operation_kind then op i (operator r) ts else
+    when eqb (kind r) integer_kind && is_number (integer_of r) then integer i (signed 8 (field1 r)) else
+    when eqb (kind r) real_kind && is_number (rational_of r) then rational i (rational_of r) else
+    when eqb (kind r) vector_kind && is_vector r then bitvector i (field1 r) (field2 r) else
+    when eqb (kind r) operation_kind then op i (operator r) ts else
     atom i (atom_sort r) (field1 r)
 
 unfoldable pub forest : (ℕ → Term) → List ℕ → Terms
@@ -142,9 +144,9 @@ unused n r k = all_zero (take n (drop k r))
 -- how many arguments an operator takes
 unfoldable pub count_ok : ℕ → ℕ → Bool
 count_ok o n =
-    if eqb o Not || (eqb o ToReal || eqb o BvNeg) then eqb n 1 else
-    if eqb o IntDiv || (eqb o RealDiv || eqb o BvSub) then eqb n 2 else
-    leb n max_args && leb (if eqb o Sub then 1 else 2) n
+    when eqb o Not || (eqb o ToReal || eqb o BvNeg) then eqb n 1 else
+    when eqb o IntDiv || (eqb o RealDiv || eqb o BvSub) then eqb n 2 else
+    leb n max_args && leb (when eqb o Sub then 1 else 2) n
 
 -- each argument is an earlier record
 unfoldable pub all_below : ℕ → List ℕ → Bool
@@ -183,11 +185,11 @@ operation_ok i r = leb Not (operator r) && (leb (operator r) BvMul && arguments_
 
 unfoldable pub layout_ok : ℕ → Bytes → Bool
 layout_ok i r =
-    if eqb (kind r) integer_kind then integer_ok r else
-    if eqb (kind r) real_kind then real_ok r else
-    if eqb (kind r) vector_kind then vector_ok r else
-    if eqb (kind r) atom_kind then atom_ok r else
-    if eqb (kind r) operation_kind then operation_ok i r else
+    when eqb (kind r) integer_kind then integer_ok r else
+    when eqb (kind r) real_kind then real_ok r else
+    when eqb (kind r) vector_kind then vector_ok r else
+    when eqb (kind r) atom_kind then atom_ok r else
+    when eqb (kind r) operation_kind then operation_ok i r else
     false
 
 -- ---- refusal 4: sorts

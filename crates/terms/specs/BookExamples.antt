@@ -1,7 +1,8 @@
 -- A book of twenty records with every kind of record: its sorts, what the readers find, and values under an assignment,
 -- worked out by the checker. Then books that are refused, one for each half sentence of document 01's 'The book of
 -- terms'.
-use Rattle.std.specs.Prelude.{◌≡◌, refl, Bool, true, false, ◌&&◌, cond, List, [], ◌∷◌, ◌++◌, ℕ, zero, suc, ◌+◌, eqb, ℤ, pos, negsuc, length, replicate, set}
+use Rattle.std.specs.Prelude.{◌≡◌, refl, Bool, true, false, ◌&&◌, cond, List, [], ◌∷◌, ◌++◌, ℕ, zero, suc, ◌+◌, eqb}
+use Rattle.std.specs.Prelude.{ℤ, pos, negsuc, length, replicate, set}
 use Rattle.std.proofs.Math.Option.{some}
 use Rattle.std.proofs.Common.{zero-lt-suc}
 use Rattle.numbers.specs.Pair.{pair, eq_p}
@@ -10,12 +11,13 @@ use Rattle.numbers.specs.Rational as Rational
 use Rattle.numbers.specs.Bytes.{Bytes, le, digits, put, put_digits, signed, complement}
 use Rattle.terms.specs.Operator.{Not, And, Equals, LessThan, Add, Sub, IntDiv, RealDiv, ToReal, BvAdd, BvNeg}
 use Rattle.terms.specs.Term.{sort, sorts, sort_code, takes, gives, all, unary, binary}
-use Rattle.numbers.specs.Choice.{if◌then◌else◌}
+use Rattle.numbers.specs.Choice.{when◌then◌else◌}
 use Rattle.terms.specs.Book.{record_of, numbers, arguments, node, forest, tree_within, tree, all_zero, count_ok}
 use Rattle.terms.specs.Book.{all_below, layout_ok, stands, record_read, read_records, read_book, refusal_of}
 use Rattle.numbers.specs.Bytes.{same_bytes}
 use Rattle.terms.specs.Book.{records_read}
-use Rattle.terms.specs.Readers.{as_number, as_signed_number, quotient_of, as_unsigned_fraction, as_fraction, as_bitvector}
+use Rattle.terms.specs.Readers.{as_number, as_signed_number, quotient_of, as_unsigned_fraction, as_fraction}
+use Rattle.terms.specs.Readers.{as_bitvector}
 use Rattle.terms.specs.Readers.{remove_negation, bounded, ranged}
 use Rattle.terms.specs.Smtlib.{Assignment, as_pair, value, meaning, every, any, chain, fold_left, sum_z, product_z}
 use Rattle.terms.specs.Smtlib.{divs_even}
@@ -83,11 +85,11 @@ book =
 
 -- one name that opens all that computing with a book goes through
 unfoldable pub reads : Unit {0}
-unfolding blank integer_record real_record vector_record atom_record put_args operation_record joined put put_digits complement
-    le digits signed in_range gcd gcd_within lowest div_q neg_q is_zero is_integer record_of numbers arguments node forest
-    tree_within tree all_zero count_ok all_below layout_ok same_bytes stands record_read read_records read_book sort sorts takes
-    gives all if◌then◌else◌ unary binary as_number as_signed_number quotient_of as_unsigned_fraction as_fraction as_bitvector
-    remove_negation bounded
+unfolding blank integer_record real_record vector_record atom_record put_args operation_record joined put put_digits
+    complement le digits signed in_range gcd gcd_within lowest div_q neg_q is_zero is_integer record_of numbers
+    arguments node forest tree_within tree all_zero count_ok all_below layout_ok same_bytes stands record_read
+    read_records read_book sort sorts takes gives all when◌then◌else◌ unary binary as_number as_signed_number
+    quotient_of as_unsigned_fraction as_fraction as_bitvector remove_negation bounded
 reads = tt
 
 unfoldable sorts_of : ℕ → Bytes → ℕ → List ℕ

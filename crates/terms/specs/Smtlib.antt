@@ -1,6 +1,7 @@
 -- What a term means: document 01's 'Meaning', from SMT-LIB's theories Core, Ints, Reals and FixedSizeBitVectors.
 -- Numbers are pairs of any size, compared by cross products.
-use Rattle.std.specs.Prelude.{Bool, true, false, not, ◌&&◌, ◌||◌, cond, List, [], ◌∷◌, ℕ, ◌%◌, ◌^◌, ◌<◌, eqb, ℤ, pos, neg_ℤ, ◌+ℤ◌, ◌*ℤ◌}
+use Rattle.std.specs.Prelude.{Bool, true, false, not, ◌&&◌, ◌||◌, cond, List, [], ◌∷◌, ℕ, ◌%◌, ◌^◌, ◌<◌, eqb, ℤ, pos}
+use Rattle.std.specs.Prelude.{neg_ℤ, ◌+ℤ◌, ◌*ℤ◌}
 use Rattle.std.proofs.Math.Option.{Option, some, none}
 use Rattle.numbers.specs.Pair.{Pair, whole_p, add_p, mul_p, neg_p, div_p, eq_p, less_p, less_eq_p, ◌≈◌}
 use Rattle.numbers.specs.Rational as Rational
@@ -8,7 +9,7 @@ use Rattle.numbers.specs.Rational.{is_zero, is_integer, div_q, modulo}
 use Rattle.terms.specs.Operator.{Not, And, Or, Equals, LessThan, LessEq, GreaterThan, GreaterEq, Add, Sub, Mult}
 use Rattle.terms.specs.Operator.{IntDiv, RealDiv, ToReal, BvAdd, BvSub, BvNeg}
 use Rattle.terms.specs.Term.{Sort, Term, Terms, sort, binary}
-use Rattle.numbers.specs.Choice.{if◌then◌else◌}
+use Rattle.numbers.specs.Choice.{when◌then◌else◌}
 use Rattle.terms.specs.Term.Sort.{bool, int, real, bits}
 use Rattle.terms.specs.Term.Term.{integer, rational, bitvector, atom, op}
 use Rattle.terms.specs.Term.Terms.{nil, ◌▹◌}
@@ -199,23 +200,23 @@ opposite_z vs = neg_ℤ (as_vector (first_of vs))
 
 unfoldable pub meaning : ℕ → Meaning
 meaning o =
-    if eqb o Not then not_m else
-    if eqb o And then and_m else
-    if eqb o Or then or_m else
-    if eqb o Equals then chain_m eq_p else
-    if eqb o LessThan then chain_m less_p else
-    if eqb o LessEq then chain_m less_eq_p else
-    if eqb o GreaterThan then chain_m (λ a b. less_p b a) else
-    if eqb o GreaterEq then chain_m (λ a b. less_eq_p b a) else
-    if eqb o Add then add_m else
-    if eqb o Sub then sub_m else
-    if eqb o Mult then mul_m else
-    if eqb o IntDiv then div_m else
-    if eqb o RealDiv then real_div_m else
-    if eqb o ToReal then to_real_m else
-    if eqb o BvAdd then vector_m sum_z else
-    if eqb o BvSub then vector_m difference_z else
-    if eqb o BvNeg then vector_m opposite_z else
+    when eqb o Not then not_m else
+    when eqb o And then and_m else
+    when eqb o Or then or_m else
+    when eqb o Equals then chain_m eq_p else
+    when eqb o LessThan then chain_m less_p else
+    when eqb o LessEq then chain_m less_eq_p else
+    when eqb o GreaterThan then chain_m (λ a b. less_p b a) else
+    when eqb o GreaterEq then chain_m (λ a b. less_eq_p b a) else
+    when eqb o Add then add_m else
+    when eqb o Sub then sub_m else
+    when eqb o Mult then mul_m else
+    when eqb o IntDiv then div_m else
+    when eqb o RealDiv then real_div_m else
+    when eqb o ToReal then to_real_m else
+    when eqb o BvAdd then vector_m sum_z else
+    when eqb o BvSub then vector_m difference_z else
+    when eqb o BvNeg then vector_m opposite_z else
     vector_m product_z
 
 -- ---- terms and clauses

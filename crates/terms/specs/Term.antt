@@ -5,7 +5,7 @@ use Rattle.std.proofs.Math.Option.{Option, some, none}
 use Rattle.numbers.specs.Rational.{Rational}
 use Rattle.terms.specs.Format.{bool_sort, int_sort, real_sort, bits_code}
 use Rattle.terms.specs.Operator.{GreaterEq, Mult, IntDiv, ToReal, Equals, Or}
-use Rattle.numbers.specs.Choice.{if◌then◌else◌}
+use Rattle.numbers.specs.Choice.{when◌then◌else◌}
 
 pub data Sort : Type 0 where
   bool int real : Sort
@@ -73,20 +73,20 @@ first (s ∷ ss) = s
 -- whether an operator takes arguments of these sorts
 unfoldable pub takes : ℕ → List Sort → Bool
 takes o ss =
-    if leb o Or then all (same_sort bool) ss else
-    if eqb o Equals then all (same_sort (first ss)) ss || all is_numeric ss else
-    if leb o Mult then all is_numeric ss else
-    if eqb o IntDiv then all (same_sort int) ss else
-    if leb o ToReal then all is_numeric ss else
+    when leb o Or then all (same_sort bool) ss else
+    when eqb o Equals then all (same_sort (first ss)) ss || all is_numeric ss else
+    when leb o Mult then all is_numeric ss else
+    when eqb o IntDiv then all (same_sort int) ss else
+    when leb o ToReal then all is_numeric ss else
     is_bits (first ss) && all (same_sort (first ss)) ss
 
 -- the sort that it gives
 unfoldable pub gives : ℕ → List Sort → Sort
 gives o ss =
-    if leb o GreaterEq then bool else
-    if leb o Mult then (if all (same_sort int) ss then int else real) else
-    if eqb o IntDiv then int else
-    if leb o ToReal then real else
+    when leb o GreaterEq then bool else
+    when leb o Mult then (when all (same_sort int) ss then int else real) else
+    when eqb o IntDiv then int else
+    when leb o ToReal then real else
     first ss
 
 unfoldable mutual

@@ -5,7 +5,7 @@ use Rattle.numbers.specs.Bytes.{Bytes}
 use Rattle.terms.specs.Format.{max_width, bool_sort, int_sort, real_sort, bits_sort, bits_code}
 use Rattle.terms.specs.Format.{integer_kind, real_kind, vector_kind, operation_kind}
 use Rattle.terms.specs.Operator.{Or, Equals, GreaterEq, Mult, IntDiv, ToReal}
-use Rattle.numbers.specs.Choice.{if◌then◌else◌}
+use Rattle.numbers.specs.Choice.{when◌then◌else◌}
 use Rattle.terms.specs.Book.{kind, operator, sort_byte, field2, arg_bytes, numbers}
 use Rattle.book.specs.declared.sort.ArgSorts.{ArgSorts}
 use Rattle.book.specs.declared.sort.Sorting.{Sorting}
@@ -41,19 +41,19 @@ common l =
 
 unfoldable pub takes_by : ℕ → ArgSorts → Bool
 takes_by o c =
-    if leb o Or then eqb c.first bool_sort && c.same else
-    if eqb o Equals then c.same || c.numeric else
-    if leb o Mult then c.numeric else
-    if eqb o IntDiv then c.int else
-    if leb o ToReal then c.numeric else
+    when leb o Or then eqb c.first bool_sort && c.same else
+    when eqb o Equals then c.same || c.numeric else
+    when leb o Mult then c.numeric else
+    when eqb o IntDiv then c.int else
+    when leb o ToReal then c.numeric else
     leb bits_sort c.first && c.same
 
 unfoldable pub gives_by : ℕ → ArgSorts → ℕ
 gives_by o c =
-    if leb o GreaterEq then bool_sort else
-    if leb o Mult then (if c.int then int_sort else real_sort) else
-    if eqb o IntDiv then int_sort else
-    if leb o ToReal then real_sort else
+    when leb o GreaterEq then bool_sort else
+    when leb o Mult then (when c.int then int_sort else real_sort) else
+    when eqb o IntDiv then int_sort else
+    when leb o ToReal then real_sort else
     c.first
 
 unfoldable pub sort_rule : ℕ → ArgSorts → Sorting
@@ -65,16 +65,16 @@ width_code r = cond (leb (field2 r) max_width) (bits_code + field2 r) bits_code
 
 abbrev pub atom_code : Bytes → ℕ
 atom_code r =
-    if eqb (sort_byte r) int_sort then int_sort else
-    if eqb (sort_byte r) real_sort then real_sort else
-    if eqb (sort_byte r) bits_sort then width_code r else
+    when eqb (sort_byte r) int_sort then int_sort else
+    when eqb (sort_byte r) real_sort then real_sort else
+    when eqb (sort_byte r) bits_sort then width_code r else
     bool_sort
 
 -- record i with bytes r, where w has the sorts of the records before it
 unfoldable pub sorting : ℕ → Bytes → Bytes → Sorting
 sorting i w r =
-    if eqb (kind r) integer_kind then Of int_sort else
-    if eqb (kind r) real_kind then Of real_sort else
-    if eqb (kind r) vector_kind then Of (width_code r) else
-    if eqb (kind r) operation_kind then sort_rule (operator r) (common (arg_sorts i w (numbers (arg_bytes r)))) else
+    when eqb (kind r) integer_kind then Of int_sort else
+    when eqb (kind r) real_kind then Of real_sort else
+    when eqb (kind r) vector_kind then Of (width_code r) else
+    when eqb (kind r) operation_kind then sort_rule (operator r) (common (arg_sorts i w (numbers (arg_bytes r)))) else
     Of (atom_code r)

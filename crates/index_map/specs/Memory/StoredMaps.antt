@@ -1,7 +1,8 @@
 -- Maps in lent bytes, whatever their keys: an area has places of one size, each for the bytes of a key and a number in
 -- eight, in the order of the map; what is not used is 0. Sums (Entries) and polynomials (PolynomialArea, in the crate
 -- polynomial) are stored so, each with an encoding of its keys.
-use Rattle.std.specs.Prelude.{◌≡◌, Bool, true, false, List, [], ◌∷◌, ◌++◌, ℕ, zero, suc, ◌+◌, ◌*◌, ◌-◌, drop, replicate}
+use Rattle.std.specs.Prelude.{◌≡◌, Bool, true, false, List, [], ◌∷◌, ◌++◌, ℕ, zero, suc, ◌+◌, ◌*◌, ◌-◌, drop}
+use Rattle.std.specs.Prelude.{replicate}
 use Rattle.numbers.specs.Rational.{Rational}
 use Rattle.numbers.specs.Bytes.{Bytes, bytes_of, complement, number_at, put_number}
 use Rattle.index_map.specs.IndexMap.{Map}

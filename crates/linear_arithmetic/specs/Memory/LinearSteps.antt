@@ -38,7 +38,8 @@ visits_of r = r >>= λ p. ok p.visits
 
 -- a rule's verdict on a step's literals and arguments, after n visits
 abbrev pub verdict_by : (Limits → Clause → List Term → ℕ → Result Progress) → ℕ → Bytes → Bytes → Bytes → ℕ → Verdict
-verdict_by rule l b literals args n = verdict_of (visits_of (rule (limited l) (terms_in b literals) (terms_in b args) n))
+verdict_by rule l b literals args n =
+    verdict_of (visits_of (rule (limited l) (terms_in b literals) (terms_in b args) n))
 
 -- ---- the fold over the literals, up to the first number that is inferred: whoever elaborates takes each such number
 -- as it is found, and goes on with the literals that are left. What the fold has made, and how many literals are done

@@ -1,7 +1,7 @@
 -- Records that are noted: a bit for each of 2,048, 64 to a word.
 use Rattle.std.specs.Prelude.{◌≡◌, Bool, true, List, [], ◌∷◌, ℕ, ◌/◌, ◌%◌, ◌^◌, eqb, length, get_or, set}
 use Rattle.std.specs.Int.Bits.{bit_or}
-use Rattle.numbers.specs.Choice.{if◌then◌else◌}
+use Rattle.numbers.specs.Choice.{when◌then◌else◌}
 use Rattle.terms.specs.Term.{Term, record_number}
 use Rattle.index_map.specs.IndexMap.{Map}
 
@@ -19,7 +19,7 @@ with_note ns x = set ns (x / word_bits) (bit_or (get_or ns (x / word_bits) 0) (2
 
 -- one that is noted is left as it is
 unfoldable pub noting : List ℕ → ℕ → List ℕ
-noting ns x = if is_noted ns x then ns else with_note ns x
+noting ns x = when is_noted ns x then ns else with_note ns x
 
 -- all keys of a map are noted
 unfoldable pub KeysNoted : List ℕ → Map Term → Type 0

@@ -45,7 +45,8 @@ abbrev pub ReducedLeft : ℕ → Poly → ℕ → Bytes → Bytes → Poly → T
 ReducedLeft j p sort w w' r =
     (b : Bytes) (ms : List (Map Monomial)) → Stacked b w ms → j < length ms → PolyHas p (get_or ms j []) →
     Stacked b w' (set ms j (reduced_by sort (poly_with p (get_or ms j []))).entries)
-    × ((poly_with r (reduced_by sort (poly_with p (get_or ms j []))).entries ≡ reduced_by sort (poly_with p (get_or ms j [])))
+    × ((poly_with r (reduced_by sort (poly_with p (get_or ms j []))).entries
+    ≡ reduced_by sort (poly_with p (get_or ms j [])))
     × PolyHas r (reduced_by sort (poly_with p (get_or ms j []))).entries)
 
 -- ---- sub

@@ -2,7 +2,8 @@
 -- many atoms it has and their record numbers, and its coefficient in eight. What is not used is 0. The number of
 -- entries and the constant are carried by value. The polynomials of nested products lie one above the other: a stack of
 -- areas, and then zeros.
-use Rattle.std.specs.Prelude.{◌≡◌, true, false, List, [], ◌∷◌, ◌++◌, ℕ, suc, ◌+◌, ◌*◌, ◌-◌, ◌≤◌, ◌<◌, ltb, length, set, take, drop, replicate}
+use Rattle.std.specs.Prelude.{◌≡◌, true, false, List, [], ◌∷◌, ◌++◌, ℕ, suc, ◌+◌, ◌*◌, ◌-◌, ◌≤◌, ◌<◌, ltb, length}
+use Rattle.std.specs.Prelude.{set, take, drop, replicate}
 use Rattle.numbers.specs.Rational.{Rational, Proper, neg_q}
 use Rattle.numbers.specs.Bytes.{Bytes, bytes_of, same_bytes}
 use Rattle.terms.specs.Term.{Term, record_number}

@@ -1,6 +1,7 @@
 -- A run in lent bytes. The records of a step lie one behind the other, and so do those with one mark: a step's
 -- premises, literals and arguments are parts of the run, and so is what follows the step.
-use Rattle.std.specs.Prelude.{◌≡◌, Bool, true, false, ◌&&◌, List, ℕ, zero, suc, ◌*◌, ◌-◌, ◌<◌, ltb, length, get_or, take, drop}
+use Rattle.std.specs.Prelude.{◌≡◌, Bool, true, false, ◌&&◌, List, ℕ, zero, suc, ◌*◌, ◌-◌, ◌<◌, ltb, length, get_or}
+use Rattle.std.specs.Prelude.{take, drop}
 use Rattle.std.proofs.Math.Option.{some, none}
 use Rattle.numbers.specs.Bytes.{Bytes, le}
 use Rattle.terms.specs.Term.{sort, same_sort}
@@ -59,7 +60,8 @@ head_in part = rec (get_or part 0 0) (get_or part 1 0) (le 2 part 2)
 
 -- reading it as step n
 unfoldable pub read_in : Bytes → ℕ → Bytes → Outcome LentRefusal Step
-read_in book n part = read_step book n (head_in part) (recs (premises_in part)) (recs (clause_in part)) (recs (args_in part))
+read_in book n part =
+    read_step book n (head_in part) (recs (premises_in part)) (recs (clause_in part)) (recs (args_in part))
 
 -- what is asked of its P, C and A records
 unfoldable pub parts_ok : Bytes → ℕ → Bytes → Bool

@@ -1,6 +1,6 @@
 -- Each arm of the `match` is a case of the rule (`SortCodes`).
 use native.Mathlib.Omega.{arith}
-use Rattle.numbers.specs.Choice.{if◌then◌else◌}
+use Rattle.numbers.specs.Choice.{when◌then◌else◌}
 use Rattle.book.proofs.SortCodes.{gives-truth, gives-number, gives-integer, gives-real, gives_first}
 use Rattle.book.proofs.sort.gives.Goals as goal
 
@@ -11,11 +11,11 @@ pub returns-in-0-to-8 : goal.returns-in-0-to-8
 returns-in-0-to-8 c = rw (gives-truth c.args.o c.args.c (omega arith))
 
 pub returns-then-int : goal.returns-then-int
-unfolding if◌then◌else◌
+unfolding when◌then◌else◌
 returns-then-int c = rw (gives-number c.args.o c.args.c (omega arith) (omega arith), c.if-int.true)
 
 pub returns-else-int : goal.returns-else-int
-unfolding if◌then◌else◌
+unfolding when◌then◌else◌
 returns-else-int c = rw (gives-number c.args.o c.args.c (omega arith) (omega arith), c.if-int.false)
 
 pub returns-in-13 : goal.returns-in-13

@@ -1,21 +1,21 @@
 -- The arms of the `match` are the tests of the definition, made of the record's first byte.
 use native.Mathlib.Omega.{arith}
 use borrow.Author.Tests.{ne_eqb}
-use Rattle.numbers.specs.Choice.{if◌then◌else◌}
+use Rattle.numbers.specs.Choice.{when◌then◌else◌}
 use Rattle.book.specs.Memory.Sorting.{sorting}
 use Rattle.book.proofs.SortCodes.{operation-sorted}
 use Rattle.book.proofs.sort.sort_of.Goals as goal
 
 pub returns-in-1 : goal.returns-in-1
-unfolding sorting if◌then◌else◌
+unfolding sorting when◌then◌else◌
 returns-in-1 c = rw (← c.byte-k.ensures, c.in-1.is)
 
 pub returns-in-2 : goal.returns-in-2
-unfolding sorting if◌then◌else◌
+unfolding sorting when◌then◌else◌
 returns-in-2 c = rw (← c.byte-k.ensures, c.in-2.is)
 
 pub returns-in-3 : goal.returns-in-3
-unfolding sorting if◌then◌else◌
+unfolding sorting when◌then◌else◌
 returns-in-3 c = rw (← c.byte-k.ensures, c.in-3.is, c.width_code.ensures)
 
 pub returns-in-5 : goal.returns-in-5
@@ -24,7 +24,7 @@ returns-in-5 c =
     c.byte.ensures c.arg_bytes.ensures c.common.ensures c.sort_rule.ensures
 
 pub returns-in_default : goal.returns-in_default
-unfolding sorting if◌then◌else◌
+unfolding sorting when◌then◌else◌
 returns-in_default c =
     let k = c.byte-k.result in
     rw (← c.byte-k.ensures, ne_eqb k 1 (λ e. omega arith), ne_eqb k 2 (λ e. omega arith))
