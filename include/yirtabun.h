@@ -1,6 +1,6 @@
 /* Yirtabun: a proved checker and elaborator of Alethe's arithmetic steps, for C.
  *
- * Link target/staticlib/libyirtabun.a, which `rt staticlib yirtabun` proves and builds (x86-64, Linux). What is proved of each function is
+ * Link target/staticlib/libyirtabun.a, which tools/staticlib proves and builds (x86-64, Linux). What is proved of each function is
  * in crates/yirtabun/src/lib.rt. Every function takes any bytes, any lengths and any limit; no proof can ask the following of a caller:
  *
  * Pointers. Each points to as many bytes as its length says. Where the length is 0 the pointer may be anything, null included.
