@@ -1,8 +1,9 @@
 // The words of the command line: options and the limit.
 use marking::check::MAX_LIMIT;
 use numbers::bytes::{byte, same_bytes};
-use programs::arguments::{complain_word, number_at};
-use programs::printing::complain;
+use programs::arguments::{MAX_WORD, complain_word, number_at, read_word};
+use programs::printing::{Complaints, complain};
+use std::rt::Env;
 
 // ---- where the arguments stand
 
@@ -60,47 +61,36 @@ fn word_of(text: &[u8]) -> Word {
 }
 
 // What argument i is. One that is missing is plain.
-pub(crate) fn word_at(i: usize) -> Word {
-    let mut text = io::buffer();
-    let n = os::arg(i, &mut text);
+pub(crate) fn word_at(rt: &impl Env, i: usize) -> Word {
+    let mut text = [0u8; MAX_WORD];
+    let n = read_word(rt, i, &mut text);
     word_of(&text[..n])
 }
 
-fn is_unknown(i: usize) -> bool {
-    match word_at(i) {
-        Word::Unknown => true,
-        _ => false,
-    }
+fn is_unknown(rt: &impl Env, i: usize) -> bool {
+    matches!(word_at(rt, i), Word::Unknown)
 }
 
-fn is_plain(i: usize) -> bool {
-    match word_at(i) {
-        Word::Plain => true,
-        _ => false,
-    }
+fn is_plain(rt: &impl Env, i: usize) -> bool {
+    matches!(word_at(rt, i), Word::Plain)
 }
 
 // Whether one of the arguments before n begins as an option and is none; the first is complained of.
-pub(crate) fn has_unknown(n: usize) -> bool {
-    let mut i = FIRST;
-    while i < n {
-        if is_unknown(i) {
-            complain(b"mark: unknown option: ");
-            complain_word(i);
+pub(crate) fn has_unknown<R: Env + Complaints>(rt: &R, n: usize) -> bool {
+    for i in FIRST..n {
+        if is_unknown(rt, i) {
+            complain(rt, b"mark: unknown option: ");
+            complain_word(rt, i);
             return true;
         }
-        i += 1;
     }
     false
 }
 
 // Whether no argument from `from` to before n is an option.
-pub(crate) fn all_plain(from: usize, n: usize) -> bool {
-    let mut i = from;
-    while i < n {
-        if is_plain(i) {
-            i += 1;
-        } else {
+pub(crate) fn all_plain(rt: &impl Env, from: usize, n: usize) -> bool {
+    for i in from..n {
+        if !is_plain(rt, i) {
             return false;
         }
     }
@@ -110,11 +100,11 @@ pub(crate) fn all_plain(from: usize, n: usize) -> bool {
 // ---- the limit
 
 // The limit that argument i gives; 0, after a complaint, where it is none.
-pub(crate) fn limit_of(i: usize) -> u32 {
-    let limit = number_at(i, MAX_LIMIT);
+pub(crate) fn limit_of<R: Env + Complaints>(rt: &R, i: usize) -> u32 {
+    let limit = number_at(rt, i, MAX_LIMIT);
     if limit == 0 {
-        complain(b"mark: LIMIT is not a number from 1 to 1000000: ");
-        complain_word(i);
+        complain(rt, b"mark: LIMIT is not a number from 1 to 1000000: ");
+        complain_word(rt, i);
     }
     limit
 }

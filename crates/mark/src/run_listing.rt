@@ -3,18 +3,18 @@ use listing::refusals::print_refusal;
 use listing::steps::print_steps;
 use marking::check::{MAX_LIMIT, Opened, open};
 use programs::printing::print;
+use std::io;
+use terms::areas::WORK_BYTES;
 
 // Lists the steps of a run, or says why the book or the run is refused.
-pub(crate) fn list_run(book: &[u8], run: &[u8]) {
-    let mut work = io::large_buffer();
+pub(crate) fn list_run(rt: &impl Print, book: &[u8], run: &[u8]) -> io::Result<()> {
+    let mut work = [0u8; WORK_BYTES];
     if let Opened::Refused(c) = open(book, run, MAX_LIMIT, &mut work) {
-        print(b"refused: ");
-        print_refusal(book, run, c, 0);
-        return;
+        print(rt, b"refused: ")?;
+        return print_refusal(rt, book, run, c, 0);
     }
     if run.len() == 0 {
-        print(b"no steps: the run is empty\n");
-        return;
+        return print(rt, b"no steps: the run is empty\n");
     }
-    print_steps(book, &work, run);
+    print_steps(rt, book, &work, run)
 }
