@@ -200,14 +200,12 @@ pub fn run_fault(book: &[u8], sorts: &[u8], run: &[u8]) -> Found {
         head: 0,
         last: NO_PLACE,
     };
-    let mut i = 0;
-    while i < n {
+    for i in 0..n {
         let found = fault_at(run, sorts, terms, s, i);
         if found.fault != NO_FAULT {
             return found;
         }
         s = read_on(s, run_record(run, i), i);
-        i += 1;
     }
     if shape_wrong(run, s, n) {
         return Found {

@@ -3,9 +3,10 @@ use crate::faults::run_fault;
 use crate::format::RUN_RECORDS;
 use crate::words::{print_book_size, print_fault, print_reason, print_rule, print_run_size};
 use numbers::bytes::byte;
-use programs::printing::{print, print_bytes, print_number};
+use programs::printing::{print, print_bytes};
 use runs::prepare::prepare;
 use runs::run::step_at;
+use std::io;
 use terms::areas::INDEX_END;
 use terms::format::{BYTE_AT, MAX_RECORDS, RECORD_BYTES, RUN_RECORD_BYTES};
 use terms::reading::{BookRead, BookRefusal, book_number};
@@ -15,113 +16,116 @@ use terms::refusal::{
 
 // ---- a record
 
-fn print_record_number(n: usize, of: &[u8]) {
-    print(b"record ");
-    print_number(n as u64);
-    print(b" of the ");
-    print(of);
-    print(b": ");
+fn print_record_number(rt: &impl Print, n: usize, of: &str) -> io::Result<()> {
+    print!(rt; "record {n} of the {of}: ")
 }
 
 // As many of the bytes of record `id` as there are.
-fn print_book_bytes(book: &[u8], id: usize) {
-    print(b"its bytes: ");
+fn print_book_bytes(rt: &impl Print, book: &[u8], id: usize) -> io::Result<()> {
+    print(rt, b"its bytes: ")?;
     if id <= book.len() / RECORD_BYTES {
-        print_bytes(book, RECORD_BYTES * id, RECORD_BYTES);
+        print_bytes(rt, book, RECORD_BYTES * id, RECORD_BYTES)?;
     }
-    print(b"\n");
+    print(rt, b"\n")
 }
 
-fn print_run_bytes(run: &[u8], i: usize) {
-    print(b"its bytes: ");
+fn print_run_bytes(rt: &impl Print, run: &[u8], i: usize) -> io::Result<()> {
+    print(rt, b"its bytes: ")?;
     if i <= run.len() / RUN_RECORD_BYTES {
-        print_bytes(run, RUN_RECORD_BYTES * i, RUN_RECORD_BYTES);
+        print_bytes(rt, run, RUN_RECORD_BYTES * i, RUN_RECORD_BYTES)?;
     }
-    print(b"\n");
+    print(rt, b"\n")
 }
 
 // ---- the book
 
 // Refusal 2: the record that is not whole, or the first that is too many.
-fn print_book_length(book: &[u8]) {
+fn print_book_length(rt: &impl Print, book: &[u8]) -> io::Result<()> {
     let whole = book.len() % RECORD_BYTES == 0;
     let id = if whole {
         MAX_RECORDS
     } else {
         book.len() / RECORD_BYTES
     };
-    print_record_number(id, b"book");
-    print_book_size(whole);
-    print_book_bytes(book, id);
+    print_record_number(rt, id, "book")?;
+    print_book_size(rt, whole)?;
+    print_book_bytes(rt, book, id)
 }
 
 // Refusals 3 to 5.
-fn print_book_record(book: &[u8], id: usize, c: u8) {
-    print_record_number(id, b"book");
-    print_reason(c);
-    print_book_bytes(book, id);
+fn print_book_record(rt: &impl Print, book: &[u8], id: usize, c: u8) -> io::Result<()> {
+    print_record_number(rt, id, "book")?;
+    print_reason(rt, c)?;
+    print_book_bytes(rt, book, id)
 }
 
 // Refusals 2 to 5 of a book.
-pub fn print_book_refusal(book: &[u8], c: BookRefusal, id: usize) {
+pub fn print_book_refusal(
+    rt: &impl Print,
+    book: &[u8],
+    c: BookRefusal,
+    id: usize,
+) -> io::Result<()> {
     match c {
-        BookRefusal::BookSize => print_book_length(book),
-        _ => print_book_record(book, id, book_number(c)),
+        BookRefusal::BookSize => print_book_length(rt, book),
+        _ => print_book_record(rt, book, id, book_number(c)),
     }
 }
 
 // The book is read again, for the record that is refused.
-fn print_refused_book(book: &[u8]) {
+fn print_refused_book(rt: &impl Print, book: &[u8]) -> io::Result<()> {
     let mut work = [0u8; INDEX_END];
     match prepare(book, &mut work) {
-        BookRead::Records(_) => {}
-        BookRead::RefusedAt(c, id) => print_book_refusal(book, c, id),
+        BookRead::Records(_) => Ok(()),
+        BookRead::RefusedAt(c, id) => print_book_refusal(rt, book, c, id),
     }
 }
 
 // ---- the run
 
 // Refusal 6.
-fn print_run_length(run: &[u8]) {
+fn print_run_length(rt: &impl Print, run: &[u8]) -> io::Result<()> {
     let whole = run.len() % RUN_RECORD_BYTES == 0;
     let i = if whole {
         RUN_RECORDS
     } else {
         run.len() / RUN_RECORD_BYTES
     };
-    print_record_number(i, b"run");
-    print_run_size(whole);
-    print_run_bytes(run, i);
+    print_record_number(rt, i, "run")?;
+    print_run_size(rt, whole)?;
+    print_run_bytes(rt, run, i)
 }
 
 // Refusal 7: the run is read again over the sorts of the book, for the record that is refused.
-fn print_refused_run(book: &[u8], run: &[u8]) {
+fn print_refused_run(rt: &impl Print, book: &[u8], run: &[u8]) -> io::Result<()> {
     let mut work = [0u8; INDEX_END];
     prepare(book, &mut work);
     let found = run_fault(book, &work, run);
-    let i = found.record;
-    let fault = found.fault;
-    print_record_number(i, b"run");
-    print_fault(fault);
-    print_run_bytes(run, i);
+    print_record_number(rt, found.record, "run")?;
+    print_fault(rt, found.fault)?;
+    print_run_bytes(rt, run, found.record)
 }
 
 // Refusals 10 to 42, of the step behind the accepted ones.
-fn print_step_refusal(run: &[u8], c: u8, steps: usize) {
-    print(b"step ");
-    print_number(steps as u64);
-    print(b", ");
-    print_rule(byte(step_at(run, steps), BYTE_AT));
-    print(b": ");
-    print_reason(c);
+fn print_step_refusal(rt: &impl Print, run: &[u8], c: u8, steps: usize) -> io::Result<()> {
+    print!(rt; "step {steps}, ")?;
+    print_rule(rt, byte(step_at(run, steps), BYTE_AT))?;
+    print(rt, b": ")?;
+    print_reason(rt, c)
 }
 
-pub fn print_refusal(book: &[u8], run: &[u8], c: u8, steps: usize) {
+pub fn print_refusal(
+    rt: &impl Print,
+    book: &[u8],
+    run: &[u8],
+    c: u8,
+    steps: usize,
+) -> io::Result<()> {
     match c {
-        BOOK_SIZE..=RECORD_REPEATED => print_refused_book(book),
-        RUN_SIZE => print_run_length(run),
-        RUN_RECORD => print_refused_run(book, run),
-        WORK_AREA_OR_LIMIT | NO_ROOM => print_reason(c),
-        _ => print_step_refusal(run, c, steps),
+        BOOK_SIZE..=RECORD_REPEATED => print_refused_book(rt, book),
+        RUN_SIZE => print_run_length(rt, run),
+        RUN_RECORD => print_refused_run(rt, book, run),
+        WORK_AREA_OR_LIMIT | NO_ROOM => print_reason(rt, c),
+        _ => print_step_refusal(rt, run, c, steps),
     }
 }

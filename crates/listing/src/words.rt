@@ -1,11 +1,13 @@
 // Document 01's operators, rules and refusals in words, by their numbers there.
-use programs::printing::{print, print_number};
+use programs::printing::print;
 use programs::tables::print_words;
+use std::io;
 use terms::refusal::{BOOK_SIZE, RUN_RECORD, RUN_SIZE};
 
 // The operator's name in SMT-LIB.
-pub fn print_operator(o: u8) {
+pub fn print_operator(rt: &impl Print, o: u8) -> io::Result<()> {
     print_words(
+        rt,
         o,
         b"
 01 not
@@ -27,12 +29,13 @@ pub fn print_operator(o: u8) {
 17 bvneg
 18 bvmul
 ",
-    );
+    )
 }
 
 // The rule's name in Alethe.
-pub fn print_rule(rule: u8) {
+pub fn print_rule(rt: &impl Print, rule: u8) -> io::Result<()> {
     print_words(
+        rt,
         rule,
         b"
 00 assume
@@ -45,20 +48,20 @@ pub fn print_rule(rule: u8) {
 07 poly_simp
 08 poly_simp_rel
 ",
-    );
+    )
 }
 
 // ---- refusals
 
-fn print_refusal_number(c: u8) {
-    print_number(c as u64);
-    print(b": ");
+fn print_refusal_number(rt: &impl Print, c: u8) -> io::Result<()> {
+    print!(rt; "{c}: ")
 }
 
 // What was wrong; 2, 6 and 7 have their own words below.
-pub fn print_reason(c: u8) {
-    print_refusal_number(c);
+pub fn print_reason(rt: &impl Print, c: u8) -> io::Result<()> {
+    print_refusal_number(rt, c)?;
     print_words(
+        rt,
         c,
         b"
 01 the limit is not from 1 to 1000000
@@ -93,34 +96,35 @@ pub fn print_reason(c: u8) {
 41 a coefficient that is not a bit-vector constant
 42 a side that is not an operation
 ",
-    );
-    print(b"\n");
+    )?;
+    print(rt, b"\n")
 }
 
 // Refusal 2, where the records are whole and where not.
-pub fn print_book_size(whole: bool) {
-    print_refusal_number(BOOK_SIZE);
+pub fn print_book_size(rt: &impl Print, whole: bool) -> io::Result<()> {
+    print_refusal_number(rt, BOOK_SIZE)?;
     if whole {
-        print(b"the book has more than 2048 records\n");
+        print(rt, b"the book has more than 2048 records\n")
     } else {
-        print(b"the book is not whole records of 32 bytes\n");
+        print(rt, b"the book is not whole records of 32 bytes\n")
     }
 }
 
 // Refusal 6.
-pub fn print_run_size(whole: bool) {
-    print_refusal_number(RUN_SIZE);
+pub fn print_run_size(rt: &impl Print, whole: bool) -> io::Result<()> {
+    print_refusal_number(rt, RUN_SIZE)?;
     if whole {
-        print(b"the run has more than 4096 records\n");
+        print(rt, b"the run has more than 4096 records\n")
     } else {
-        print(b"the run is not whole records of 4 bytes\n");
+        print(rt, b"the run is not whole records of 4 bytes\n")
     }
 }
 
 // Refusal 7, by the number of its fault in `faults`.
-pub fn print_fault(fault: u8) {
-    print_refusal_number(RUN_RECORD);
+pub fn print_fault(rt: &impl Print, fault: u8) -> io::Result<()> {
+    print_refusal_number(rt, RUN_RECORD)?;
     print_words(
+        rt,
         fault,
         b"
 00 a record of the run is at fault
@@ -133,6 +137,6 @@ pub fn print_fault(fault: u8) {
 07 a C that is not Bool
 08 an assume of another shape than one C and nothing else
 ",
-    );
-    print(b"\n");
+    )?;
+    print(rt, b"\n")
 }

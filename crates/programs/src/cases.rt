@@ -1,8 +1,13 @@
 // The file `cases` that a replay reads: opened, read piece by piece, and what a case comes to.
-ghost use Rattle.std.specs.Prelude.{◌<◌};
+ghost use Rattle.std.specs.Prelude.{◌<◌, IfOk};
 
-use crate::printing::{print, print_number};
+use crate::files::read_file;
+use crate::printing::{Complaints, fail, print, print_number};
 use numbers::bytes::{byte, wide};
+use std::fs::File;
+use std::io;
+use std::io::Read;
+use std::rt::Files;
 
 #[derive(Clone, Copy)]
 pub enum Outcome {
@@ -21,21 +26,20 @@ pub fn judge(agrees: bool) -> Outcome {
 }
 
 // The file ends within a case, or a case is too long.
-pub fn broken() -> Outcome {
-    print(b"the file of cases is broken\n");
-    Outcome::End
+pub fn broken(rt: &impl Print) -> io::Result<Outcome> {
+    print(rt, b"the file of cases is broken\n")?;
+    Ok(Outcome::End)
 }
 
 // ---- pieces of memory
 
 // The bytes from a up to e; none where they are not there.
 pub fn piece(s: &[u8], a: usize, e: usize) -> &[u8] {
-    if a <= e {
-        if e <= s.len() {
-            return &s[a..e];
-        }
+    if a <= e && e <= s.len() {
+        &s[a..e]
+    } else {
+        &s[0..0]
     }
-    &s[0..0]
 }
 
 // The first n bytes of an area; all where it has fewer.
@@ -48,41 +52,44 @@ pub fn first_mut(area: &mut [u8], n: usize) -> &mut [u8] {
 
 // ---- the file
 
-// The file's descriptor; negative, after a complaint, where it cannot be opened.
-pub fn open_cases() -> i32 {
-    let fd = os::open_read(b"cases");
-    if fd < 0 {
-        os::fail(b"cases");
+// The file, for reading; none, after a complaint, where it cannot be opened.
+pub fn open_cases<R: Files + Complaints>(rt: &R) -> Option<R::File> {
+    match File::open(rt, "cases") {
+        Ok(file) => Some(file),
+        Err(error) => {
+            fail(rt, b"cases", &error);
+            None
+        }
     }
-    fd
 }
 
 // Reads n bytes to the start of a buffer; whether the file has them and the buffer holds them.
-pub fn read_piece(fd: i32, n: usize, space: &mut [u8]) -> bool {
-    io::read_full(fd, first_mut(space, n)) == n
+pub fn read_piece(file: &mut impl Read, n: usize, space: &mut [u8]) -> io::Result<bool> {
+    Ok(read_file(file, first_mut(space, n))? == n)
 }
 
 // A number of two bytes; 65535 where the file ends.
-pub fn read_count(fd: i32) -> usize
-    ensures { result < 65536 }
+pub fn read_count(file: &mut impl Read) -> io::Result<usize>
+    ensures { IfOk result (λ n. n < 65536) }
 {
     let mut size = [255u8; 2];
-    io::read_full(fd, &mut size);
-    (wide(byte(&size, 0)) + 256 * wide(byte(&size, 1))) as usize
+    read_file(file, &mut size)?;
+    Ok((wide(byte(&size, 0)) + 256 * wide(byte(&size, 1))) as usize)
 }
 
 // A record: a byte that says how many of its bytes follow.
-pub fn read_record(fd: i32, record: &mut [u8]) -> bool {
+pub fn read_record(file: &mut impl Read, record: &mut [u8]) -> io::Result<bool> {
     let mut size = [0u8; 1];
-    if read_piece(fd, 1, &mut size) {
-        return read_piece(fd, wide(byte(&size, 0)) as usize, record);
+    if read_piece(file, 1, &mut size)? {
+        return read_piece(file, wide(byte(&size, 0)) as usize, record);
     }
-    false
+    Ok(false)
 }
 
 // The last line: how many cases agree. The file is closed.
-pub fn print_total(fd: i32, agree: u64, what: &[u8]) {
-    print_number(agree);
-    print(what);
-    libc::close(fd);
+pub fn print_total<F: Drop>(rt: &impl Print, file: F, agree: u64, what: &[u8]) -> io::Result<()> {
+    print_number(rt, agree)?;
+    print(rt, what)?;
+    drop(file);
+    Ok(())
 }

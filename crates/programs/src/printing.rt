@@ -1,39 +1,70 @@
 // Bytes and numbers to standard output, and complaints to standard error.
-use libc::{STDERR_FILENO, STDOUT_FILENO};
-use numbers::number::magnitude;
+use std::fmt::InlineText;
+use std::io;
+use std::rt::Stderr;
 
-pub fn print(text: &[u8]) {
-    io::write_all(STDOUT_FILENO, text);
+// ---- standard output
+
+pub fn print(rt: &impl Print, text: &[u8]) -> io::Result<()> {
+    rt.write_all(text)
 }
 
-pub fn complain(text: &[u8]) {
-    io::write_all(STDERR_FILENO, text);
+pub fn print_number(rt: &impl Print, n: u64) -> io::Result<()> {
+    print!(rt; "{n}")
 }
 
-pub fn print_number(n: u64) {
-    io::print_decimal(STDOUT_FILENO, n);
-}
-
-pub fn print_signed(n: i64) {
-    if n < 0 {
-        print(b"-");
-    }
-    print_number(magnitude(n));
+pub fn print_signed(rt: &impl Print, n: i64) -> io::Result<()> {
+    print!(rt; "{n}")
 }
 
 // Two hexadecimal digits.
-fn print_byte(b: u8) {
-    io::print_hex(STDOUT_FILENO, b as u64, 2);
+fn print_byte(rt: &impl Print, b: u8) -> io::Result<()> {
+    print!(rt; "{b:02x}")
 }
 
 // The bytes from `at` on, n at most, in hexadecimal.
-pub fn print_bytes(s: &[u8], at: usize, n: usize) {
-    let mut k = at;
-    while k < s.len() {
-        if n <= k - at {
-            return;
-        }
-        print_byte(s[k]);
-        k += 1;
+pub fn print_bytes(rt: &impl Print, s: &[u8], at: usize, n: usize) -> io::Result<()> {
+    for b in s.iter().skip(at).take(n) {
+        print_byte(rt, *b)?;
     }
+    Ok(())
+}
+
+// ---- standard error
+
+// A runtime that lends its standard error. `Eprint` takes text alone, and a word of the command line need not be text.
+pub trait Complaints {
+    type Stream: Print + Drop;
+
+    fn stderr(&self) -> Self::Stream;
+}
+
+impl Complaints for HostRuntime {
+    type Stream = Stderr;
+
+    fn stderr(&self) -> Stderr {
+        HostRuntime::stderr(self)
+    }
+}
+
+// A complaint that cannot be written is lost: what it is about is answered all the same.
+pub fn complain(rt: &impl Complaints, text: &[u8]) {
+    let _ = rt.stderr().write_all(text);
+}
+
+// What std puts behind the system's words for an error, before its number.
+const NUMBER: &str = " (os error ";
+
+// What failed, and why in the system's words.
+pub fn fail(rt: &impl Complaints, what: &[u8], error: &io::Error) {
+    let text = InlineText::<128>::of(error);
+    let text = text.as_str();
+    let words = match text.split_once(NUMBER) {
+        Some((words, _)) => words,
+        None => text,
+    };
+    complain(rt, what);
+    complain(rt, b": ");
+    complain(rt, words.as_bytes());
+    complain(rt, b"\n");
 }

@@ -1,14 +1,18 @@
 // Replays the runs of the file `cases` (tools/run_cases.py makes it and says what it holds): each is marked,
 // elaborated, and its elaboration is marked again, in memory full of other bytes. Every answer, and every byte that is
 // left, is compared with what the file says.
+#![tactic(auto)]
+
 mod run;
 
-ghost use Rattle.std.specs.Prelude.{◌≤◌, ◌<◌, ◌^◌};
+ghost use Rattle.std.specs.Prelude.{◌≤◌};
 
 use numbers::bytes::read_u32;
 use programs::cases::{Outcome, broken, judge, open_cases, piece, print_total, read_piece};
 use programs::printing::{print, print_number};
 use run::{Case, area, is_same};
+use std::io;
+use std::io::Read;
 
 // The bytes in front of a case.
 const HEAD: usize = 48;
@@ -74,63 +78,56 @@ fn try_case(c: Case, e: Ends, pieces: &[u8]) -> Outcome {
 }
 
 // The pieces behind the head.
-fn try_pieces(fd: i32, c: Case, e: Ends) -> Outcome {
+fn try_pieces(rt: &impl Print, file: &mut impl Read, c: Case, e: Ends) -> io::Result<Outcome> {
     let mut pieces = area();
     let n = e.outtail;
-    if read_piece(fd, n, &mut pieces) {
-        return try_case(c, e, &pieces);
+    if read_piece(file, n, &mut pieces)? {
+        return Ok(try_case(c, e, &pieces));
     }
-    broken()
+    broken(rt)
 }
 
-fn try_next(fd: i32) -> Outcome {
+fn try_next(rt: &impl Print, file: &mut impl Read) -> io::Result<Outcome> {
     let mut head = [0u8; HEAD];
-    if read_piece(fd, HEAD, &mut head) {
-        return try_pieces(fd, case_of(&head), ends_of(&head));
+    if read_piece(file, HEAD, &mut head)? {
+        return try_pieces(rt, file, case_of(&head), ends_of(&head));
     }
-    broken()
+    broken(rt)
 }
 
 // ---- the file
 
-fn tell(k: u64) {
-    print(b"run ");
-    print_number(k);
-    print(b" differs\n");
+fn tell(rt: &impl Print, k: u64) -> io::Result<()> {
+    println!(rt; "run {k} differs")
 }
 
 // The n cases of a file; how many agree.
-fn try_all(fd: i32, n: u64) -> u64 {
-    let mut k = 0;
+fn try_all(rt: &impl Print, file: &mut impl Read, n: u64) -> io::Result<u64> {
     let mut good = 0;
-    while k < n {
-        match try_next(fd) {
-            Outcome::Agrees => {
-                good += 1;
-            }
-            Outcome::Differs => tell(k),
-            Outcome::End => {
-                return good;
-            }
+    for k in 0..n {
+        match try_next(rt, file)? {
+            Outcome::Agrees => good += 1,
+            Outcome::Differs => tell(rt, k)?,
+            Outcome::End => break,
         }
-        k += 1;
     }
-    good
+    Ok(good)
 }
 
 // The file begins with the number of its cases.
-fn try_file(fd: i32) {
+fn try_file<F: Read + Drop>(rt: &impl Print, mut file: F) -> io::Result<()> {
     let mut count = [0u8; 4];
-    read_piece(fd, 4, &mut count);
+    let _ = read_piece(&mut file, 4, &mut count)?;
     let n = read_u32(&count, 0) as u64;
-    print_number(try_all(fd, n));
-    print(b" of ");
-    print_total(fd, n, b" runs agree\n");
+    let good = try_all(rt, &mut file, n)?;
+    print_number(rt, good)?;
+    print(rt, b" of ")?;
+    print_total(rt, file, n, b" runs agree\n")
 }
 
-fn main() {
-    let fd = open_cases();
-    if 0 <= fd {
-        try_file(fd);
+fn main(rt: HostRuntime) -> io::Result<()> {
+    match open_cases(&rt) {
+        Some(file) => try_file(&rt, file),
+        None => Ok(()),
     }
 }

@@ -41,46 +41,25 @@ pub(crate) fn area() -> [u8; MOST]
 }
 
 fn all_zero(area: &[u8]) -> bool {
-    let mut k = 0;
-    while k < area.len() {
-        if area[k] != 0 {
-            return false;
-        }
-        k += 1;
-    }
-    true
+    area.iter().all(|b| *b == 0)
 }
 
 // Whether an area has the bytes, and zeros behind them.
 fn holds(area: &[u8], text: &[u8]) -> bool {
     let n = text.len();
-    if n <= area.len() {
-        if same_bytes(piece(area, 0, n), text) {
-            return all_zero(&area[n..]);
-        }
-    }
-    false
+    n <= area.len() && same_bytes(piece(area, 0, n), text) && all_zero(&area[n..])
 }
 
 // Whether the work area is cleared, and the out areas hold what is written.
 fn leaves(work: &[u8], outrun: &[u8], outtail: &[u8], wantrun: &[u8], wanttail: &[u8]) -> bool {
-    if all_zero(work) {
-        if holds(outrun, wantrun) {
-            return holds(outtail, wanttail);
-        }
-    }
-    false
+    all_zero(work) && holds(outrun, wantrun) && holds(outtail, wanttail)
 }
 
 // ---- the three answers
 
 // Whether so many steps are accepted, with so many visits.
 fn counts(c: Case, steps: usize, visits: u32) -> bool {
-    if steps == c.steps {
-        visits == c.visits
-    } else {
-        false
-    }
+    steps == c.steps && visits == c.visits
 }
 
 // Whether the trace makes no difference: `check` answers the same, refusal 8 aside, and clears its work area.
@@ -89,32 +68,19 @@ fn checks(book: &[u8], run: &[u8], c: Case) -> bool {
     let w = c.work;
     let work = first_mut(&mut space, w);
     let m = check(book, run, c.limit, work);
-    if all_zero(work) {
-        if counts(c, m.steps, m.visits) {
-            return same_verdict(c, m.verdict);
-        }
-    }
-    false
+    all_zero(work) && counts(c, m.steps, m.visits) && same_verdict(c, m.verdict)
 }
 
 fn same_verdict(c: Case, verdict: u8) -> bool {
-    if c.verdict == NO_ROOM as u32 {
-        true
-    } else {
-        verdict as u32 == c.verdict
-    }
+    c.verdict == NO_ROOM as u32 || verdict as u32 == c.verdict
 }
 
 // Whether the answer is the file's; `run` and `tail` are what the file says is written.
 fn answers(e: Elaborated, c: Case, run: &[u8], tail: &[u8]) -> bool {
-    if e.verdict as u32 == c.verdict {
-        if counts(c, e.steps, e.visits) {
-            if e.run == run.len() {
-                return e.tail == tail.len();
-            }
-        }
-    }
-    false
+    e.verdict as u32 == c.verdict
+        && counts(c, e.steps, e.visits)
+        && e.run == run.len()
+        && e.tail == tail.len()
 }
 
 // Whether the run is elaborated as the file says.
@@ -129,10 +95,7 @@ fn elaborates(
     wanttail: &[u8],
 ) -> bool {
     let e = elaborate(book, run, c.limit, work, outrun, outtail);
-    if answers(e, c, wantrun, wanttail) {
-        return leaves(work, outrun, outtail, wantrun, wanttail);
-    }
-    false
+    answers(e, c, wantrun, wanttail) && leaves(work, outrun, outtail, wantrun, wanttail)
 }
 
 // Whether the second marking agrees where the file says so, and nowhere else.
@@ -176,10 +139,8 @@ fn try_in(
     wantrun: &[u8],
     wanttail: &[u8],
 ) -> bool {
-    if elaborates(book, run, c, work, outrun, outtail, wantrun, wanttail) {
-        return repeats(book, run, c, work, outrun, outtail);
-    }
-    false
+    elaborates(book, run, c, work, outrun, outtail, wantrun, wanttail)
+        && repeats(book, run, c, work, outrun, outtail)
 }
 
 // The same, in areas of the lengths that the file says.
@@ -204,20 +165,10 @@ fn try_areas(book: &[u8], run: &[u8], c: Case, wantrun: &[u8], wanttail: &[u8]) 
 
 // Whether no area is longer than MOST.
 fn fits(c: Case) -> bool {
-    if c.work <= MOST {
-        if c.outrun <= MOST {
-            return c.outtail <= MOST;
-        }
-    }
-    false
+    c.work <= MOST && c.outrun <= MOST && c.outtail <= MOST
 }
 
 // Whether all of a run is as in the file.
 pub(crate) fn is_same(book: &[u8], run: &[u8], c: Case, wantrun: &[u8], wanttail: &[u8]) -> bool {
-    if fits(c) {
-        if checks(book, run, c) {
-            return try_areas(book, run, c, wantrun, wanttail);
-        }
-    }
-    false
+    fits(c) && checks(book, run, c) && try_areas(book, run, c, wantrun, wanttail)
 }

@@ -2,22 +2,23 @@
 -- that were inferred.
 use mathlib.Core.Path.{◌≡◌}
 use mathlib.Core.List.{List, [], ◌∷◌, ◌++◌}
-use Prim.Native.Nat.{ℕ, ◌+◌, ◌*◌, ◌≤◌}
+use Prim.Native.Nat.{ℕ, ◌+◌, ◌*◌, ◌-◌, ◌/◌, ◌≤◌, ◌<◌}
 use native.Mathlib.Omega.{arith}
-use borrow.Author.Rules.{Fits-under}
 use mir.Syntax.{w64}
 use mir.Val.{Fits}
 use lib.IntN.{pos}
-use lib.ListN.{length}
+use lib.ListN.{length, drop}
 use Rattle.numbers.specs.Rational.{Rational, whole}
 use Rattle.numbers.specs.Bytes.{Bytes}
-use Rattle.rules.specs.Memory.Parts.{Ready, Inside}
-use Rattle.linear_arithmetic.specs.Memory.LinearSteps.{AllNumbers}
+use Rattle.rules.specs.Memory.Parts.{Ready, Inside, numbers_in, terms_in}
+use Rattle.process_disequality.specs.Memory.ProcessSteps.{progress_of}
+use Rattle.linear_arithmetic.specs.Memory.LinearSteps.{AllNumbers, FoldedLeft, fold_read}
 use Rattle.linear_arithmetic.specs.declared.linear_arithmetic.Folded.{Folded}
 use Rattle.linear_arithmetic.specs.declared.linear_arithmetic.Folded.TheVariants as folded
 use Rattle.process_disequality.specs.declared.process_disequality.Progress as by_value
-use Rattle.linear_arithmetic.proofs.FoldedAreas.{Given}
-use Rattle.linear_arithmetic.proofs.PartialFold.{PartSoFar, part-begin, Rested, part-more, part-again}
+use Rattle.linear_arithmetic.proofs.FoldedAreas.{Given, limits_of}
+use Rattle.linear_arithmetic.proofs.PartialFold.{PartSoFar, part-begin, Rested, More, part-more, part-again}
+use Rattle.linear_arithmetic.proofs.PartialFold.{part-fits, part-less}
 
 -- so many literals are done, and k numbers were inferred from them
 pub record InferredSoFar (g : Given) (w : Bytes) (p : by_value.Progress) (done k : ℕ) : Type 0 where
@@ -32,21 +33,30 @@ pub inferred-begin :
 inferred-begin g numbers ready named small q q-is =
     record { trace = []; far = part-begin g 0 numbers ready named small q q-is; fewer = omega arith }
 
-module _ {g : Given} {w : Bytes} {p : by_value.Progress} {done k : ℕ} (so : InferredSoFar g w p done k) where
-  -- the place of the next number of the file
-  pub inferred-place : Fits w64 (8 * k)
-  inferred-place =
-      Fits-under w64 (8 * k) 65536 (omega (arith, so.far.reached.inside, so.far.small, so.fewer)) tt
+-- what is left is folded, a number is inferred, and n literals more are done
+module _
+    {g : Given} {w : Bytes} {p : by_value.Progress} {done k : ℕ} (so : InferredSoFar g w p done k)
+    {part given w' : Bytes} {r : Folded} (part_is : part ≡ drop (4 * done) g.literals)
+    (given_is : given ≡ drop (4 * done) g.args)
+    (fold : FoldedLeft g.book w w' (length (numbers_in part)) r
+    (fold_read (limits_of g) (terms_in g.book part) (terms_in g.book given) (progress_of g.book w p)))
+    (q : by_value.Progress) (a : Rational) (n : ℕ) (e : r ≡ folded.Inferred q a n) where
+  rested : Rested g w p done w' r
+  rested = record { part = part; part_is = part_is; given = given; given_is = given_is; fold = fold }
 
-  pub inferred-count : Fits w64 (k + 1)
-  inferred-count = Fits-under w64 (k + 1) 65536 (omega (arith, so.far.reached.inside, so.far.small, so.fewer)) tt
+  more : More g done n
+  more = part-more so.far rested q a n e
 
-  pub inferred-again :
-      {w' : Bytes} {r : Folded} (rested : Rested g w p done w' r) (q : by_value.Progress) (a : Rational) (n : ℕ) →
-      r ≡ folded.Inferred q a n → InferredSoFar g w' q (done + n) (k + 1)
-  inferred-again rested q a n e =
+  pub inferred-fits : Fits w64 (done + n)
+  inferred-fits = part-fits so.far n more
+
+  pub inferred-less : length g.literals / 4 - (done + n) < length g.literals / 4 - done
+  inferred-less = part-less so.far n more
+
+  pub inferred-again : InferredSoFar g w' q (done + n) (k + 1)
+  inferred-again =
       record {
         trace = so.trace ++ a ∷ [];
         far = part-again so.far rested q a n e;
-        fewer = omega (arith, (part-more so.far rested q a n e).some, so.fewer);
+        fewer = omega (arith, more.some, so.fewer);
       }

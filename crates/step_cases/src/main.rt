@@ -1,17 +1,22 @@
 // Replays the steps of the file `cases` (tools/step_cases.py makes it and says what it holds) and compares each answer
 // with the Rust's: the verdict, and of an accepted step its visits and the numbers that it infers. An accepted step of
 // v visits is tried again under the limit v, which it keeps, and under v - 1, which it does not.
+#![tactic(auto)]
+
 mod step;
 
-ghost use Rattle.std.specs.Prelude.{◌≤◌, ◌<◌};
+ghost use Rattle.std.specs.Prelude.{◌≤◌, ◌<◌, IfOk};
 
 use numbers::bytes::{byte, read_u16, wide};
 use programs::cases::{
     Outcome, broken, open_cases, piece, print_total, read_count, read_piece, read_record,
 };
-use programs::printing::{print, print_number};
 use runs::prepare::prepare;
+use std::io;
+use std::io::Read;
 use step::{Head, is_same};
+use terms::areas::WORK_BYTES;
+use terms::format::{MAX_RECORDS, RECORD_BYTES};
 use terms::reading::BookRead;
 
 // The bytes in front of a step, and the most of its records and inferred numbers.
@@ -19,38 +24,51 @@ const HEAD: usize = 7;
 
 const STEP: usize = 4096;
 
+// The largest book.
+const BOOK: usize = RECORD_BYTES * MAX_RECORDS;
+
 // ---- a step
 
 // Tells of a step that differs.
-fn judge(h: Head, same: bool) -> Outcome {
+fn judge(rt: &impl Print, h: Head, same: bool) -> io::Result<Outcome> {
     if same {
-        return Outcome::Agrees;
+        return Ok(Outcome::Agrees);
     }
-    print(b"a step of rule ");
-    print_number(h.rule as u64);
-    print(b" with verdict ");
-    print_number(h.verdict as u64);
-    print(b" differs\n");
-    Outcome::Differs
+    println!(rt;
+        "a step of rule {} with verdict {} differs",
+        h.rule, h.verdict
+    )?;
+    Ok(Outcome::Differs)
 }
 
 // The book is read anew for each step.
-fn try_step(book: &[u8], h: Head, literals: &[u8], args: &[u8], numbers: &[u8]) -> Outcome {
-    let mut work = io::large_buffer();
+fn try_step(
+    rt: &impl Print,
+    book: &[u8],
+    h: Head,
+    literals: &[u8],
+    args: &[u8],
+    numbers: &[u8],
+) -> io::Result<Outcome> {
+    let mut work = [0u8; WORK_BYTES];
     match prepare(book, &mut work) {
-        BookRead::Records(_) => judge(h, is_same(book, &mut work, h, literals, args, numbers)),
-        BookRead::RefusedAt(_, _) => broken(),
+        BookRead::Records(_) => {
+            let same = is_same(book, &mut work, h, literals, args, numbers);
+            judge(rt, h, same)
+        }
+        BookRead::RefusedAt(_, _) => broken(rt),
     }
 }
 
 // The step behind its head.
-fn try_pieces(fd: i32, book: &[u8], h: Head) -> Outcome {
+fn try_pieces(rt: &impl Print, file: &mut impl Read, book: &[u8], h: Head) -> io::Result<Outcome> {
     let mut space = [0u8; STEP];
     let a = h.literals;
     let b = h.others;
     let n = h.numbers;
-    if read_piece(fd, n, &mut space) {
+    if read_piece(file, n, &mut space)? {
         return try_step(
+            rt,
             book,
             h,
             piece(&space, 0, a),
@@ -58,7 +76,7 @@ fn try_pieces(fd: i32, book: &[u8], h: Head) -> Outcome {
             piece(&space, b, n),
         );
     }
-    broken()
+    broken(rt)
 }
 
 fn head_of(bytes: &[u8]) -> Head {
@@ -76,91 +94,80 @@ fn head_of(bytes: &[u8]) -> Head {
 }
 
 // The next step of a book.
-fn next_step(fd: i32, book: &[u8]) -> Outcome {
+fn next_step(rt: &impl Print, file: &mut impl Read, book: &[u8]) -> io::Result<Outcome> {
     let mut head = [0u8; HEAD];
-    if read_piece(fd, HEAD, &mut head) {
-        return try_pieces(fd, book, head_of(&head));
+    if read_piece(file, HEAD, &mut head)? {
+        return try_pieces(rt, file, book, head_of(&head));
     }
-    broken()
+    broken(rt)
 }
 
 // ---- a book
 
-fn read_records(fd: i32, book: &mut [u8]) -> bool {
-    let n = book.len() / 32;
-    let mut k = 0;
-    while k < n {
-        let a = 32 * k;
-        let e = a + 32;
-        if read_record(fd, &mut book[a..e]) {
-            k += 1;
-        } else {
-            return false;
+fn read_records(file: &mut impl Read, book: &mut [u8]) -> io::Result<bool> {
+    for k in 0..book.len() / RECORD_BYTES {
+        let a = RECORD_BYTES * k;
+        let e = a + RECORD_BYTES;
+        if !read_record(file, &mut book[a..e])? {
+            return Ok(false);
         }
     }
-    true
+    Ok(true)
 }
 
 // How many of a book's m steps agree.
-fn try_steps(fd: i32, book: &[u8], m: usize) -> u64
-    ensures { result ≤ m }
+fn try_steps(rt: &impl Print, file: &mut impl Read, book: &[u8], m: usize) -> io::Result<u64>
+    ensures { IfOk result (λ n. n ≤ m) }
 {
     let mut agree: u64 = 0;
-    let mut k = 0;
-    while k < m {
-        match next_step(fd, book) {
-            Outcome::Agrees => {
-                agree += 1;
-            }
+    for _ in 0..m {
+        match next_step(rt, file, book)? {
+            Outcome::Agrees => agree += 1,
             Outcome::Differs => {}
-            Outcome::End => {
-                return agree;
-            }
+            Outcome::End => break,
         }
-        k += 1;
     }
-    agree
+    Ok(agree)
 }
 
 // How many steps of the next book agree; first its records are read into `book`.
-fn try_records(fd: i32, book: &mut [u8]) -> u64
-    ensures { result < 65536 }
+fn try_records(rt: &impl Print, file: &mut impl Read, book: &mut [u8]) -> io::Result<u64>
+    ensures { IfOk result (λ n. n < 65536) }
 {
-    if read_records(fd, book) {
-        let m = read_count(fd);
-        return try_steps(fd, book, m);
+    if read_records(file, book)? {
+        let m = read_count(file)?;
+        return try_steps(rt, file, book, m);
     }
-    0
+    Ok(0)
 }
 
 // The same for a book of n records.
-fn try_book(fd: i32, n: usize) -> u64
+fn try_book(rt: &impl Print, file: &mut impl Read, n: usize) -> io::Result<u64>
     requires { n ≤ 2048 }
-    ensures { result < 65536 }
+    ensures { IfOk result (λ n. n < 65536) }
 {
-    let mut book = io::large_buffer();
-    let e = 32 * n;
-    try_records(fd, &mut book[0..e])
+    let mut book = [0u8; BOOK];
+    let e = RECORD_BYTES * n;
+    try_records(rt, file, &mut book[0..e])
 }
 
 // There are fewer than 65,536 books.
-fn try_all(fd: i32) -> u64 {
+fn try_all(rt: &impl Print, file: &mut impl Read) -> io::Result<u64> {
     let mut agree: u64 = 0;
-    let mut i: u64 = 0;
-    while i < 65536 {
-        let n = read_count(fd);
-        if 2048 < n {
-            return agree;
+    for _ in 0..65536u64 {
+        let n = read_count(file)?;
+        if MAX_RECORDS < n {
+            break;
         }
-        agree += try_book(fd, n);
-        i += 1;
+        agree += try_book(rt, file, n)?;
     }
-    agree
+    Ok(agree)
 }
 
-fn main() {
-    let fd = open_cases();
-    if 0 <= fd {
-        print_total(fd, try_all(fd), b" steps agree\n");
-    }
+fn main(rt: HostRuntime) -> io::Result<()> {
+    let Some(mut file) = open_cases(&rt) else {
+        return Ok(());
+    };
+    let agree = try_all(&rt, &mut file)?;
+    print_total(&rt, file, agree, b" steps agree\n")
 }

@@ -42,13 +42,10 @@ fn inside(book: &[u8], part: &[u8]) -> bool
     ensures { result ≡ all_below (count book.now) (numbers_in part.now) }
 {
     let n = count(book);
-    let m = part.len() / 4;
-    let mut k = 0;
-    while k < m {
+    for k in 0..part.len() / 4 {
         if n <= read_u16(part, 4 * k + 2) as usize {
             return false;
         }
-        k += 1;
     }
     true
 }
@@ -58,17 +55,12 @@ fn premises(part: &[u8]) -> usize
     ensures { result ≤ 65536 }
 {
     let m = part.len() / 4;
-    let mut k = 0;
-    while k < 65536 {
-        if m <= k {
+    for k in 0..65536 {
+        if m <= k || byte(part, 4 * k) != b'P' {
             return k;
         }
-        if byte(part, 4 * k) != b'P' {
-            return k;
-        }
-        k += 1;
     }
-    k
+    65536
 }
 
 // A step by its rule; `others` are its arguments, or of rule 8 its premises and the literals of the first.
@@ -100,7 +92,7 @@ fn check(
 
 fn same(found: Verdict, verdict: u8, visits: u32) -> bool {
     match found {
-        Verdict::Accepted(n) => if verdict == 0 { n == visits } else { false },
+        Verdict::Accepted(n) => verdict == 0 && n == visits,
         Verdict::Refused(c) => c == verdict,
     }
 }
@@ -132,10 +124,8 @@ fn keeps(book: &[u8], work: &mut [u8], rule: u8, literals: &[u8], args: &[u8], v
     requires le_visits { 1 ≤ visits }
     ensures { work.new ≡ work.old }
 {
-    if answers(book, work, rule, literals, args, visits, 0, visits) {
-        return answers(book, work, rule, literals, args, visits - 1, 10, 0);
-    }
-    false
+    answers(book, work, rule, literals, args, visits, 0, visits)
+        && answers(book, work, rule, literals, args, visits - 1, 10, 0)
 }
 
 // Whether a step gets the verdict and the visits of the file and, where it makes some visits, keeps to a limit of them.
@@ -146,16 +136,8 @@ fn agrees(book: &[u8], work: &mut [u8], h: Head, literals: &[u8], args: &[u8]) -
     let rule = h.rule;
     let verdict = h.verdict;
     let visits = h.visits;
-    if answers(book, work, rule, literals, args, LIMIT, verdict, visits) {
-        if verdict != 0 {
-            return true;
-        }
-        if visits == 0 {
-            return true;
-        }
-        return keeps(book, work, rule, literals, args, visits);
-    }
-    false
+    answers(book, work, rule, literals, args, LIMIT, verdict, visits)
+        && (verdict != 0 || visits == 0 || keeps(book, work, rule, literals, args, visits))
 }
 
 // ---- its inferred numbers
@@ -201,14 +183,7 @@ fn infers(book: &[u8], work: &mut [u8], literals: &[u8], args: &[u8], numbers: &
 
 // Only an accepted step of `la_generic` or `bounded_farkas` infers numbers.
 fn may_infer(h: Head) -> bool {
-    if h.verdict == 0 {
-        match h.rule {
-            5 | 6 => true,
-            _ => false,
-        }
-    } else {
-        false
-    }
+    h.verdict == 0 && matches!(h.rule, 5 | 6)
 }
 
 // ---- all of it
@@ -244,10 +219,7 @@ pub(crate) fn is_same(
 ) -> bool
     requires { Ready book.now work.old }
 {
-    if literals.len() <= MOST_LITERALS {
-        if inside(book, literals) {
-            return is_told(book, work, h, literals, args, numbers);
-        }
-    }
-    false
+    literals.len() <= MOST_LITERALS
+        && inside(book, literals)
+        && is_told(book, work, h, literals, args, numbers)
 }
