@@ -48,6 +48,14 @@ BY_HAND = {
 BY_HAND.update({it: it + "_lem" for it in LEMMAS})
 # An operator of the repository's own that is spelled as one of the library's, and its words.
 OWN_OPERATOR = {"if◌then◌else◌": "when◌then◌else◌", "if": "when"}
+# Names that `declared` does not see, as those of an import under another name.
+MORE = {
+    "elaboratedNumbers": "elaborated_numbers",
+    "markedNumbers": "marked_numbers",
+    "markedOf": "marked_of",
+    "outRun'": "out_run'",
+    "runRead": "run_read",
+}
 # Names that have two meanings, and the files of the one that is turned.
 ONLY_IN = {"coded": "crates/book/", "same": "crates/book/proofs/SortRules.antt"}
 # What a parameter or Rattle itself already calls so keeps its spelling.
@@ -160,6 +168,7 @@ def table(root):
         new = respelled(name, is_type, plain)
         if new != name:
             rows[name] = new
+    rows.update(MORE)
     taken = {b for a, b in rows.items() if "-" not in a}
     for a, b in rows.items():
         if "-" in a and b in taken:

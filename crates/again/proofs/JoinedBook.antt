@@ -1,5 +1,5 @@
 -- `join`: book and tail one behind the other.
---     has_room, joined_by, joined-room, joined-none       by whether there is room for them
+--     has_room, joined_by, joined-room, joined_none       by whether there is room for them
 --     end-room, end_none, area-holds       where they end
 use mathlib.Core.Path.{◌≡◌, sym, ap, ap₂, ◌∙◌}
 use mathlib.Core.Bool.{Bool, true, false}

@@ -1,9 +1,9 @@
 -- `elaborate_and_mark`: what is elaborated is marked again over book and tail, and both answers are compared.
---     within-eight, above-eight, below_one       refusals 1 to 8
---     agree-early .. agree-tail, agree-all       the comparison by its tests
---     Calls, marked-agreed, marked-none       the second marking
+--     within_eight, above_eight, below_one       refusals 1 to 8
+--     agree_early .. agree-tail, agree_all       the comparison by its tests
+--     Calls, marked-agreed, marked_none       the second marking
 --     agrees-again       both answers agree where no bounded_farkas step has surplus arguments and book and tail have room
---     both-markings       the two markings together
+--     both_markings       the two markings together
 use mathlib.Core.Path.{◌≡◌, refl, sym, ap, ◌∙◌}
 use mathlib.Core.Bool.{Bool, true, false, ◌&&◌, not, and-false}
 use mathlib.Core.List.{[]}

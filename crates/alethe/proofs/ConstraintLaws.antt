@@ -1,6 +1,6 @@
 -- Laws of the Alethe side's constraints by themselves: relations are joined in any order, the join of the words is the
 -- Rust's or >= where that is > (`Fits`); a line's factor is in lowest terms, and strengthening keeps the atoms.
---     stronger-assoc, stronger-equals       relations are joined
+--     stronger_assoc, stronger-equals       relations are joined
 --     Fits, fits-joined, joins-fit       the relation that the words give, and the Rust's
 --     lines-length       as many lines as literals and arguments
 --     factor-lowest, raised-lowest       numbers in lowest terms

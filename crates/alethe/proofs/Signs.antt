@@ -2,7 +2,7 @@
 -- pairs at 0, which respects equality, so they are tests on the quotient; each law is one of pairs.
 --     Nonneg, Positive       x ≥ 0 and x > 0
 --     nonneg-add, positive-add, nonneg-mul, positive-mul       sums and products
---     nonneg-antisymm, nonneg-of-positive, positive-of-nonneg, positive-of-not-nonneg       one and the other
+--     nonneg_antisymm, nonneg_of_positive, positive_of_nonneg, positive_of_not-nonneg       one and the other
 --     at_most, below       the order of pairs is the sign of their difference
 use mathlib.Core.Path.{◌≡◌, refl, sym, ◌∙◌, ap, subst}
 use mathlib.Core.HLevel.{Π_prop}

@@ -124,7 +124,7 @@ pub divisor_admits : Admits Departure.divisor (λ by. Accepts by Step.doubled St
 divisor_admits =
     record { accepted = doubled-accepted; refused = λ by n a. doubled-refused by n a.0 a.1 a.2 }
 
--- ---- wholeProduct: 2 · 1/2 is whole, so x >= 1/2 and x <= 1/2 stay
+-- ---- whole_product: 2 · 1/2 is whole, so x >= 1/2 and x <= 1/2 stay
 
 abbrev half : Rational
 half = Rational.frac (pos 1) (pos 2)
@@ -163,7 +163,7 @@ pub whole_product_forbids : Forbids Departure.whole_product (λ by. Accepts by S
 whole_product_forbids =
     record { accepted = halves-accepted; refused = λ by d a. halves-refused by d a.0 a.1 a.2 }
 
--- ---- argumentZero: 0 u > 0 is false, 0 u >= 0 is not
+-- ---- argument_zero: 0 u > 0 is false, 0 u >= 0 is not
 
 positive-accepted : (by : Departures) → (by Departure.argument_zero → ⊥) → Accepts by Step.positive (Step.zero ∷ [])
 unfolding alethe all_zero_in
@@ -200,7 +200,7 @@ pub positive_is_not-valid : Valid Step.positive → ⊥
 unfolding alethe value meaning chain holds
 positive_is_not-valid h = h at_ones
 
--- ---- otherSort: p = p adds nothing to 0 = 5
+-- ---- other_sort: p = p adds nothing to 0 = 5
 
 truths-accepted : (by : Departures) → by Departure.other_sort → Accepts by Step.truths Step.ones
 unfolding alethe all_zero_in

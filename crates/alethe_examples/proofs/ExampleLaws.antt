@@ -1,8 +1,8 @@
 -- What the closed examples of the Alethe side share. Of the literal (not (o a b)) between sides that have one sum
 -- each there is one constraint (`stated`), which the literal states (`states`) and no other (`states-only`). Atoms,
 -- constants and products of atoms have one sum each (`atom-only`, `constant-only`, `product-only`).
---     cancels-by       coefficients cancel where those of every atom that occurs do
---     line_of, generic-of, accepts       a line whose relation stays; a step of la_generic from its lines
+--     cancels_by       coefficients cancel where those of every atom that occurs do
+--     line_of, generic_of, accepts       a line whose relation stays; a step of la_generic from its lines
 --     written-constant       a constant is one number
 use mathlib.Core.Path.{◌≡◌, refl, ◌∙◌, ap, ap₂}
 use mathlib.Core.Bool.{Bool, true, false, ◌&&◌, ◌||◌}

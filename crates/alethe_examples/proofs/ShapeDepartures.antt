@@ -24,7 +24,7 @@ use Rattle.alethe_examples.proofs.DepartureInversions.{two-itself, left-factors}
 use Rattle.alethe_examples.proofs.PolynomialExamples.{factor-atom}
 use Rattle.alethe_examples.proofs.AletheDepartures.{Admits}
 
--- ---- otherSort: p is written out as itself
+-- ---- other_sort: p is written out as itself
 
 itself-accepted : (by : Departures) → by Departure.other_sort → PolySimp by Step.itself
 unfolding alethe
@@ -53,7 +53,7 @@ itself-refused by n h =
 pub other_sort_admits_poly-simp : Admits Departure.other_sort (λ by. PolySimp by Step.itself)
 other_sort_admits_poly-simp = record { accepted = itself-accepted; refused = itself-refused }
 
--- ---- anyBound: y is no number
+-- ---- any_bound: y is no number
 
 either_of_two-accepted : (by : Departures) → by Departure.any_bound → LaTautology by Step.either_of_two
 either_of_two-accepted by d =

@@ -1,7 +1,7 @@
 -- What a step of the Alethe side must be, from its form: inversions that refute closed steps. A line keeps the atoms
 -- that its literal states, times the argument's factor (`line-terms`); where nothing is raised it keeps the bound too
 -- (`line_kept`). An atom, a negation and the square of an atom are written out in one way.
---     no-literal, no-negation       operators that make no literal and no negation
+--     no_literal, no_negation       operators that make no literal and no negation
 --     one_line, two-lines       the lines of a clause
 --     strengthens-factor, strengthens-kept       step 4
 use mathlib.Core.Path.{◌≡◌, refl, sym, ◌∙◌, ap, ap₂}

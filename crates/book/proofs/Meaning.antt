@@ -1,4 +1,4 @@
--- The value of a well-formed term is of the term's sort (`value_of_sort`), where each div of two numbers comes out even. Every
+-- The value of a well_formed term is of the term's sort (`value_of_sort`), where each div of two numbers comes out even. Every
 -- operator gives a value of the right kind; an Int is whole since sums, differences and products of whole numbers are, and a
 -- bit-vector is taken modulo 2^width.
 use mathlib.Core.Path.{◌≡◌, refl, subst}

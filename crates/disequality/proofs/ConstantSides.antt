@@ -1,9 +1,9 @@
 -- A relation whose right side is a number: the walk of that side makes one visit and no entry, and subtracting it
 -- changes the constant alone.
 --     constant-walk       the walk of a number
---     product-out, sum-out, sum-value       what `constant_side` answers
---     none-held, none-comb       a sum of no entries
---     bounded-out, bounded-left       what `bounded` leaves in areas 1 and 2
+--     product_out, sum_out, sum-value       what `constant_side` answers
+--     none_held, none_comb       a sum of no entries
+--     bounded_out, bounded-left       what `bounded` leaves in areas 1 and 2
 use mathlib.Core.Path.{◌≡◌, refl, sym, ap, subst, ◌∙◌}
 use mathlib.Core.Bool.{true}
 use mathlib.Core.List.{[]}

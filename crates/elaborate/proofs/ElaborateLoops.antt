@@ -1,6 +1,6 @@
 -- A turn of `elaborate_steps` is a turn of the marking (CheckLoops), and writes the step that is accepted.
 --     written-stays, written_over, written-refused, written-accepted       what a turn leaves
---     Going, going-begin, going-turn, going_less, going_end       the loop
+--     Going, going_begin, going_turn, going_less, going_end       the loop
 use mathlib.Core.Path.{◌≡◌, refl, sym, ap, subst, ◌∙◌}
 use mathlib.Core.Bool.{true, false}
 use mathlib.Core.List.{List, [], ◌∷◌, ◌++◌}

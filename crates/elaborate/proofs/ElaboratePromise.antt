@@ -1,7 +1,7 @@
 -- What `elaborate` promises, from its answer and the memory that it leaves.
 --     whole-answer       what is written has whole records, so the written part of an out area is all of it
 --     promised       demand 1's known state, the room of book and tail, and demand 3 of what is answered and written
---     elaborates-left       the calls of `elaborate` together
+--     elaborates_left       the calls of `elaborate` together
 use mathlib.Core.Path.{◌≡◌, refl, sym, ap, ap₂, subst, ◌∙◌}
 use mathlib.Core.Bool.{Bool, true, false}
 use mathlib.Core.List.{[]}

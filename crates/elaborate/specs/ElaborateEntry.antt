@@ -41,8 +41,8 @@ pub record ElaborateDone (m : Memory) (limit : ℕ) (m' : Memory) (r : Elaborate
 
 -- ---- `written`
 
-pub record WrittenDone (out_run : Bytes) (bytes : ℕ) (outRun' r : Bytes) : Type 0 where
+pub record WrittenDone (out_run : Bytes) (bytes : ℕ) (out_run' r : Bytes) : Type 0 where
   -- 'the written part of the out run, given its byte count; a count above the area or not a multiple of 4 shows an
   -- empty part'
   pub answered : r ≡ written_part out_run bytes
-  pub same : outRun' ≡ out_run
+  pub same : out_run' ≡ out_run

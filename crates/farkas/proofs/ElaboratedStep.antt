@@ -1,6 +1,6 @@
 -- `elaborate_step`: the step's own records are written first, then the step is checked.
---     six-stepped       rule 6: `bounded_farkas` goes on from there, with each number that it infers
---     other-stepped       the other rules infer nothing, so what is written is the step
+--     six_stepped       rule 6: `bounded_farkas` goes on from there, with each number that it infers
+--     other_stepped       the other rules infer nothing, so what is written is the step
 use mathlib.Core.Path.{◌≡◌, sym, ap, subst, ◌∙◌}
 use mathlib.Core.Bool.{Bool, false}
 use mathlib.Core.List.{List, [], ◌∷◌, ◌++◌}

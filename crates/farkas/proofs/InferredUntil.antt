@@ -1,6 +1,6 @@
 -- The numbers that a fold over literals infers up to its end or its refusal (`inferred_until`) are those of the progress
 -- where it ends (`fold_end` of linear_arithmetic's FoldedSteps).
---     until-ended       from any progress
+--     until_ended       from any progress
 --     numbers_of, numbers-unread, numbers-ended       those of `bounded_farkas`
 use mathlib.Core.Path.{◌≡◌, refl, sym, ap, ◌∙◌}
 use mathlib.Core.List.{List, [], ◌∷◌}

@@ -2,7 +2,7 @@
 -- number that is inferred is written as it is found. So behind what stood there the numbers that the loop inferred are
 -- written.
 --     add-reals-then       one number more
---     judged-stepped, judged-leaves       what a verdict says of a step that was checked, and what is left
+--     judged_stepped, judged-leaves       what a verdict says of a step that was checked, and what is left
 --     TracedSoFar, traced-unread, traced-begin, traced-again, traced-refused, traced-done       the loop
 use mathlib.Core.Path.{◌≡◌, refl, sym, ap, ap₂, subst, ◌∙◌}
 use mathlib.Core.Bool.{Bool}

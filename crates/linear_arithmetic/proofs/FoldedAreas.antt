@@ -2,7 +2,7 @@
 -- empty between the literals (`Between`); that only area 0 changes keeps them so.
 --     progress-left, between-only       what a function leaves in area 0
 --     Given, Reached, reached-begin, reached-length, reached-only, reached-again       a loop over the literals
---     FoldedSoFar, so-far-begin, so-far-end       that of `fold_literals`
+--     FoldedSoFar, so_far-begin, so_far-end       that of `fold_literals`
 --     Taken, phi-below, step-refused, step-inferred, step-again       one turn of it
 use mathlib.Core.Path.{◌≡◌, refl, sym, ap, subst, ◌∙◌}
 use mathlib.Core.List.{List, [], ◌∷◌}

@@ -1,7 +1,7 @@
 -- The fold over the literals. What a literal does to the sum does not hang on the numbers that were inferred before
 -- (`later`). So the fold goes on from each place that it reached: `fold_end` tells where it ends, from which both
 -- `fold_literals` and the numbers that were inferred follow, and `some-goes` takes it along what `fold_some` did.
---     later, process-later, trace-given       one literal
+--     later, process_later, trace-given       one literal
 --     some_first, some-inferred, some-again       the literal at k, as `fold_literals` comes to it
 --     fold_end, end_by, end_later, fold-ended       where the fold ends
 --     Goes, some-goes       the literals that `fold_some` did

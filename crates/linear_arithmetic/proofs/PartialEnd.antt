@@ -1,8 +1,8 @@
 -- `la_generic_partial` by where its fold ends, and `la_generic` by that.
 --     partial_end, end_of, is_contradiction, last_line       where the fold ends, and the rule's last line
---     partial_of, Judged, partial-ended, partial-by, part-unread       the rule's answer
+--     partial_of, Judged, partial_ended, partial_by, part-unread       the rule's answer
 --     Ended, ended-trace       the numbers that the fold inferred, where it ends
---     generic-unequal, generic-equal       `la_generic`
+--     generic_unequal, generic_equal       `la_generic`
 use mathlib.Core.Path.{◌≡◌, refl, sym, ap, subst, ◌∙◌}
 use mathlib.Core.Bool.{Bool, true, false, ◌&&◌, not, cond}
 use mathlib.Core.List.{List, [], ◌∷◌}

@@ -1,6 +1,6 @@
 -- The loop of `la_generic_partial`: the fold goes on from each number that is inferred, until all literals are done.
---     PartSoFar, part-begin, part_length, part-few, rest-folds, part-less, part-fits       the loop
---     Rested, folded_rest, part-clear, part-refused, part-done, inferred-proper, part-more,
+--     PartSoFar, part-begin, part_length, part-few, rest_folds, part-less, part-fits       the loop
+--     Rested, folded_rest, part_clear, part-refused, part-done, inferred-proper, part-more,
 --     part-again       one turn of it
 --     refused_end, done_end       where it ends
 use mathlib.Core.Path.{◌≡◌, refl, sym, ap, subst, ◌∙◌}

@@ -1,7 +1,7 @@
 -- `la_tautology`: a literal whose disequality has no atoms and always holds (`tautology_of`), or a disjunction of two
 -- bounds.
---     tautology-refused, tautology-clear, tautology-holds, tautology-fails       the first form, in area 1
---     phi-inside, no-only-literal, two-judged, first-form       the rule by its forms
+--     tautology-refused, tautology_clear, tautology-holds, tautology_fails       the first form, in area 1
+--     phi-inside, no_only-literal, two-judged, first_form       the rule by its forms
 use mathlib.Core.Path.{◌≡◌, sym, ap, subst, ◌∙◌}
 use mathlib.Core.Bool.{Bool, true, false}
 use mathlib.Core.List.{List, [], ◌∷◌}

@@ -1,11 +1,11 @@
 -- What the steps of a rule leave of the work area: bytes that hold a map are cleared, an area is given other bytes or
 -- is emptied, and the other areas stay; and a sum by value is kept with the entries that an area holds.
 --     held-length, kept-cleared, blanked-empty       the bytes of an area
---     kept-sum, sum-entries, sum-comb, answer-has, answer-kept       a sum by value
+--     kept-sum, sum-entries, sum_comb, answer-has, answer-kept       a sum by value
 --     only-area, given-area, given-only       an area is given bytes
 --     emptied-held, emptied-only       an area is emptied of what it kept
---     two-areas, same-apart, Both, both-none, both-apart       two areas are given bytes
---     both-then, then-first, then-second, second-emptied, in-first, in-second, both_read       one after the other
+--     two-areas, same-apart, Both, both_none, both-apart       two areas are given bytes
+--     both-then, then_first, then_second, second_emptied, in_first, in_second, both_read       one after the other
 --     both_first, both-written, both-only       what this says of all bytes
 use mathlib.Core.Path.{◌≡◌, refl, sym, ap, subst, ◌∙◌}
 use mathlib.Core.List.{[]}

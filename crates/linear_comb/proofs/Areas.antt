@@ -2,8 +2,8 @@
 -- of a part at any place. What is known of the areas after several changes goes by way of `Within`: no byte outside two
 -- areas has changed; two such work areas are the same where these two areas are.
 --     stored-length, empty-held       the bytes of an area
---     area-length, with-length, area-with       an area that is given bytes
---     Within, within-with, within_none, within-turned, within-then, within-sorts       what stays outside two areas
+--     area-length, with_length, area_with       an area that is given bytes
+--     Within, within_with, within_none, within-turned, within-then, within-sorts       what stays outside two areas
 --     within_first, same-within, within-other       what is known of the areas tells the rest
 --     within-only, only-other, only-within, only_none, only_then       one area alone
 --     ready-area       before a step

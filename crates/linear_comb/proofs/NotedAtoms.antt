@@ -1,10 +1,10 @@
 -- Records that are noted, and maps of terms whose keys all are: a record that is not noted is no key, and an insertion
 -- of a term that is noted leaves them so.
 --     one_bit       a bit of 64 that is made by a shift
---     note-here, note-keeps, noted-keeps       a note is there, with all that were there before
+--     note_here, note_keeps, noted_keeps       a note is there, with all that were there before
 --     noting-known, noting-other, noting-here, noting-keeps       the same where one that is noted is left as it is
---     noted-absent       a record that is not noted is no key
---     constant-noted, entry-noted       the sums that a number or a term is added to
+--     noted_absent       a record that is not noted is no key
+--     constant_noted, entry_noted       the sums that a number or a term is added to
 use mathlib.Core.Path.{◌≡◌, refl, ap, ◌∙◌}
 use mathlib.Core.Logic.{◌≢◌}
 use mathlib.Core.Bool.{Bool, true, false}

@@ -1,6 +1,6 @@
 -- The five forms (or phi1 phi2) of la_tautology: a step that is accepted has one of them, and one of phi1 and phi2 is
 -- true in every model, since the two bounds are numbers that compare as the form says.
---     case-form       what `tautology_case` accepts
+--     case_form       what `tautology_case` accepts
 --     form-says       why it is true
 use mathlib.Core.Path.{◌≡◌, refl, sym, ◌∙◌, ap, ap₂}
 use mathlib.Core.Bool.{Bool, true, false, not, ◌||◌, or-not_self}

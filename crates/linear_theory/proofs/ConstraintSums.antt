@@ -1,8 +1,8 @@
 -- The Rust's operators beside the Alethe side's relations, and what `mul` and `add` do to the atoms of a sum and to
 -- its constant, each by itself, whatever the atoms weigh.
---     operator-is, join-operators, scalar-factor, weakened-operator, contradicts-is
+--     operator_is, join_operators_lem, scalar-factor, weakened-operator, contradicts_is
 --                operators are joined, scaled and tested as relations
---     scaled-exists       every relation has its scaled one
+--     scaled_exists       every relation has its scaled one
 --     Parts, mul-parts, add_parts       the atoms' weight and the constant
 use mathlib.Core.Path.{◌≡◌, refl, sym, ◌∙◌, ap}
 use mathlib.Core.Bool.{Bool, true, false, not, ◌||◌}

@@ -3,7 +3,7 @@
 -- coefficients is whole, so it is above a bound that is not, and above a bound it is at least one more than the
 -- bound's floor, or one divisor more.
 --     Holds       a constraint under the assignment
---     strengthened-holds, line-holds, lines-hold       step 4, one line, all lines
+--     strengthened-holds, line-holds, lines_hold       step 4, one line, all lines
 use mathlib.Core.Path.{◌≡◌, refl, sym, ◌∙◌, ap, subst}
 use mathlib.Core.Bool.{Bool, true, false}
 use mathlib.Core.List.{List, [], ◌∷◌}

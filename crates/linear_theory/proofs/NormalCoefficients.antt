@@ -1,9 +1,9 @@
 -- The map that a sum of entries adds up to (`Normal`): one entry for each atom whose coefficients do not cancel. The
 -- coefficient of a record number in the sum is what the map has there, since both are the weight 1 at that number and 0
 -- at all others. Every sum has such a map.
---     coefficient-at, coefficient-of-entry       coefficients of the sum and of the map
---     atom-of-entry, entry-of-atom       an atom for each entry, an entry for each atom that does not cancel
---     normal-weighs       under any value for the atoms that respects their record numbers both have one value
+--     coefficient_at, coefficient_of_entry       coefficients of the sum and of the map
+--     atom_of_entry, entry_of_atom       an atom for each entry, an entry for each atom that does not cancel
+--     normal_weighs       under any value for the atoms that respects their record numbers both have one value
 --     normal-insert, normal-map       an entry more is inserted; from nothing
 use mathlib.Core.Path.{◌≡◌, refl, sym, ◌∙◌, ap}
 use mathlib.Core.Bool.{false}

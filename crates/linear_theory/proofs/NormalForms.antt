@@ -2,7 +2,7 @@
 -- test on such a map says what the Alethe side says of the entries.
 --     normal-empty, normal-cancels       no entry is left exactly where all coefficients cancel
 --     normal-all_int, normal-whole, whole-normal       sorts, whole coefficients
---     normal-exists, normal-value       every sum has such a map, of the same value
+--     normal_exists, normal-value       every sum has such a map, of the same value
 --     normal-divisor, normal-multiples, normal-common       the greatest common divisor
 use mathlib.Core.Path.{◌≡◌, refl, sym, ◌∙◌, ap}
 use mathlib.Core.Bool.{Bool, true, false, ◌||◌}

@@ -3,7 +3,7 @@
 -- weakened operator says. A fact about -d is what the rules test at the end.
 --     Says, says-as       the facts
 --     says-add, says-scaled       sums and multiples
---     stands-at-zero       a fact about -d says that 0 stands in the relation to d
+--     stands_at_zero       a fact about -d says that 0 stands in the relation to d
 use mathlib.Core.Path.{◌≡◌, refl, sym, ◌∙◌, subst}
 use mathlib.Core.Bool.{Bool, true, false, not}
 use mathlib.Core.List.{[], ◌∷◌}

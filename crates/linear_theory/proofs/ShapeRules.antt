@@ -1,8 +1,8 @@
 -- la_rw_eq, la_disequality and la_totality: a step that is accepted has the rule's shape, and a term of that shape is true in every
 -- model. `<=` is total and antisymmetric, whatever the two terms are.
---     rw-eq-literal, disequality-literal, totality-literal       an accepted step has one literal
---     rw-eq-shape, disequality-shape, totality-shape       and this is its shape
---     rw-eq-valid, disequality-valid, totality-valid       why it is true
+--     rw_eq-literal, disequality-literal, totality-literal       an accepted step has one literal
+--     rw_eq-shape, disequality-shape, totality-shape       and this is its shape
+--     rw_eq-valid, disequality-valid, totality-valid       why it is true
 use mathlib.Core.Path.{◌≡◌, refl, sym, ◌∙◌, ap, ap₂}
 use mathlib.Core.Bool.{Bool, true, false, not, ◌&&◌, ◌||◌}
 use mathlib.Core.List.{[], ◌∷◌}

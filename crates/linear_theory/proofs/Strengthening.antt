@@ -2,7 +2,7 @@
 -- then whole and a multiple of the divisor g; above the bound it is above the bound's floor, so at least g more
 -- (`raised_by_one`, `raised_by_divisor`). At least the bound it is above it where the bound is not whole
 -- (`above-fraction`).
---     floor-of-whole, times-test       whole numbers, and the Rust's test on the product
+--     floor_of_whole, times-test       whole numbers, and the Rust's test on the product
 --     int-atoms       Int atoms have whole values
 use mathlib.Core.Path.{◌≡◌, refl, sym, ◌∙◌, ap, ap₂, subst}
 use mathlib.Core.Bool.{true, false}

@@ -1,6 +1,6 @@
 -- Two linear sums, the atoms of both on the left and the constants on the right: step 3 of la_generic's terms and
 -- bound, and the Rust's difference of two combinations.
---     apart-kept, apart-weighs, apart-bound       the terms and the bound
+--     apart-kept, apart_weighs, apart-bound       the terms and the bound
 --     Apart, sub-apart, neg-apart       a combination that is what two sums are apart
 --     apart-sums, apart-constant       it is the terms, gathered, and the bound
 use mathlib.Core.Path.{◌≡◌, sym, ◌∙◌, ap}

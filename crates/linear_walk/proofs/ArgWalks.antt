@@ -1,8 +1,8 @@
 -- The walk of a record's arguments, one after the other. `Walking` is the invariant of its loop: what is left to walk
 -- from argument k on, from the sum that the area's bytes hold now, is the whole walk; and all atoms in the area are
 -- noted.
---     walking-none, walking-same, walking-more, walking-refused, walking-done       along the loop
---     argument-below, argument-pre       what the walk of argument k asks
+--     walking_none, walking_same, walking_more, walking_refused, walking_done       along the loop
+--     argument-below, argument_pre       what the walk of argument k asks
 use mathlib.Core.Path.{◌≡◌, refl, ◌∙◌}
 use mathlib.Core.List.{List}
 use Prim.Native.Nat.{ℕ, ◌+◌, ◌/◌, ◌≤◌, ◌<◌}

@@ -1,8 +1,8 @@
 -- Where a term leads: from record to record, each a product of a number and the next. `Reaches` is the invariant of
 -- `descend`'s loop: whatever the sum is, the walk of the first record is the walk of the record that is reached.
 --     unvisited, visited       the walk of a term is refused, or a visit and then what its node says
---     reaches-first, reaches-next, factor-lower       along the loop
---     stopped, to-args, to-constant, to-atom, to-refusal       the place where it ends
+--     reaches_first, reaches_next, factor-lower       along the loop
+--     stopped, to_args, to_constant, to_atom, to_refusal       the place where it ends
 use mathlib.Core.Path.{◌≡◌, refl, sym, ◌∙◌}
 use Prim.Native.Nat.{ℕ, suc, ◌+◌, ◌≤◌, ◌<◌}
 use native.Mathlib.Numerals.{add-one}

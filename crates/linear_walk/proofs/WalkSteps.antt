@@ -1,10 +1,10 @@
 -- The steps of a walk. Each starts from the sum that an area's bytes hold: the area is emptied before a refusal, a
 -- number is added to the constant, a term is added as an atom; and a term is walked by the place that it leads to.
---     cleared, done, done-kept, done-is       a refusal; a step without one leaves the sum in the bytes
---     filled_at, filled-noted, filled-walks       the same where all atoms are noted
---     constant-out, constant-added, entry-out, entry-added       the leaves
---     sum-small, constant-pre, atom-inside, enter-pre, args-lower, operation-pre       what the steps at a place ask
---     at-refusal, at_constant, at-note, at-atom, at-operation       the walk of a term is what is done at its place
+--     cleared, done, done-kept, done_is       a refusal; a step without one leaves the sum in the bytes
+--     filled_at, filled_noted, filled_walks       the same where all atoms are noted
+--     constant_out, constant-added, entry_out, entry-added       the leaves
+--     sum-small, constant_pre, atom-inside, enter_pre, args-lower, operation_pre       what the steps at a place ask
+--     at_refusal, at_constant, at_note, at_atom, at_operation       the walk of a term is what is done at its place
 --     operation-args       what the walk of an operation's arguments asks
 use mathlib.Core.Path.{◌≡◌, refl, sym, ◌∙◌}
 use mathlib.Core.Bool.{true}

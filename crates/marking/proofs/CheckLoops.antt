@@ -24,7 +24,7 @@ use Rattle.runs.specs.Run.{Step, read_run, steps_of}
 use Rattle.steps.specs.CheckStep.{Accepted, counter, check_step}
 use Rattle.marking.specs.Check.{State, state, ended, answered, onward, turn, turns, marking_of, check_steps}
 use Rattle.runs.specs.Memory.StepParts.{step_in, bytes_in, StandsIn}
-use Rattle.marking.specs.Answers.{markedOf}
+use Rattle.marking.specs.Answers.{marked_of}
 use Rattle.marking.specs.Memory.Lent.{place_of, state_of, Reached, Underway}
 use Rattle.marking.specs.declared.check.State as by_value
 use Rattle.marking.specs.declared.check.Marked.{Marked}
@@ -236,7 +236,7 @@ turns_in_lem b run limit σ is = ap (turns_in b run) is ∙ go σ.verdict
 abbrev pub marked_in : by_value.State → Marked
 marked_in s = record { verdict = s.verdict; steps = s.steps; visits = s.counter.visits }
 
-marked_is : (run : Bytes) (limit : ℕ) (σ : State) → marked_in (state_of run limit σ) ≡ markedOf (marking_of σ)
+marked_is : (run : Bytes) (limit : ℕ) (σ : State) → marked_in (state_of run limit σ) ≡ marked_of (marking_of σ)
 marked_is run limit σ =
     ap (λ v. record { verdict = v; steps = length σ.steps; visits = σ.counter.visits }) (go σ.verdict)
   where
@@ -275,6 +275,6 @@ module _ {b run : Bytes} {limit : ℕ} {s : by_value.State} (way : OnTheWay b ru
       ap marking_of (sym (turns-ended (turns_left ss σ) ss σ found.1) ∙ way.end)
       ∙ ap (λ n. marking_of (turns (suc n) ss (first limit))) all
 
-  pub way-ends : s.ended ≡ true → marked_in s ≡ markedOf (check_steps (limited limit) (steps_of b run))
+  pub way-ends : s.ended ≡ true → marked_in s ≡ marked_of (check_steps (limited limit) (steps_of b run))
   way-ends e =
-      ap marked_in way.shows.is ∙ marked_is run s.counter.limit way.state ∙ ap markedOf (way-marking e)
+      ap marked_in way.shows.is ∙ marked_is run s.counter.limit way.state ∙ ap marked_of (way-marking e)

@@ -26,11 +26,11 @@ use Rattle.runs.specs.Verdict.LentRefusal.{work_area_or_limit, of_book}
 use Rattle.runs.specs.Run.{Step, read_run, steps_of}
 use Rattle.marking.specs.Check.{Marking, check_steps, nothing_marked, mark_run, mark, min_limit, max_limit, lent_ok}
 use Rattle.marking.specs.Check.{check}
-use Rattle.marking.specs.Answers.{zeros, markedOf}
+use Rattle.marking.specs.Answers.{zeros, marked_of}
 use Rattle.runs.specs.Memory.StepParts.{run_read_of, run_refusal}
 use Rattle.marking.specs.Memory.Lent.{opening, opened_of, opened_refusal, open_work, Opens}
 use Rattle.runs.specs.declared.run.RunRead.{RunRead}
-use Rattle.runs.specs.declared.run.RunRead.TheVariants as runRead
+use Rattle.runs.specs.declared.run.RunRead.TheVariants as run_read
 use Rattle.marking.specs.declared.check.Opened.{Opened}
 use Rattle.marking.specs.declared.check.Opened.TheVariants as opened
 use Rattle.marking.specs.declared.check.Marked.{Marked}
@@ -95,12 +95,12 @@ pub opens-ready :
 opens-ready {b} {w'} {r} {k} size done e = prepared b w' r k (rw size at done) e
 
 -- what reading a run answers is what opening does, where book and work area are not refused
-steps-ready : {X : Type 0} (x : Outcome LentRefusal X) → runRead.Steps ≡ run_read_of x → opened.Ready ≡ opened_of x
+steps-ready : {X : Type 0} (x : Outcome LentRefusal X) → run_read.Steps ≡ run_read_of x → opened.Ready ≡ opened_of x
 steps-ready (ok a) e = refl
 steps-ready (refused r) e = cc
 
 run-stops :
-    {X : Type 0} (x : Outcome LentRefusal X) {c : ℕ} → runRead.Refused c ≡ run_read_of x →
+    {X : Type 0} (x : Outcome LentRefusal X) {c : ℕ} → run_read.Refused c ≡ run_read_of x →
     opened.Refused c ≡ opened_of x
 run-stops (ok a) e = cc
 run-stops (refused r) e = cc
@@ -140,7 +140,7 @@ module _ (b run : Bytes) (limit : ℕ) (w : Bytes) where
         }
 
     module _ {k : ℕ} (e : r ≡ Records k) {x : RunRead} (read : x ≡ run_read_of (read_run b run)) where
-      pub opens-steps : length w ≡ work_bytes → x ≡ runRead.Steps → Opens b run limit w w' opened.Ready
+      pub opens-steps : length w ≡ work_bytes → x ≡ run_read.Steps → Opens b run limit w w' opened.Ready
       opens-steps size steps =
           record {
             answered = steps-ready (read_run b run) (sym steps ∙ read) ∙ sym (ap opened_of (by_book e));
@@ -149,7 +149,7 @@ module _ (b run : Bytes) (limit : ℕ) (w : Bytes) where
           }
 
       pub opens_stopped :
-          {c n : ℕ} → x ≡ runRead.Refused c → n ≡ run_refusal x → Opens b run limit w w' (opened.Refused n)
+          {c n : ℕ} → x ≡ run_read.Refused c → n ≡ run_refusal x → Opens b run limit w w' (opened.Refused n)
       opens_stopped stops number_is =
           record {
             answered =
@@ -191,11 +191,11 @@ module _ (b run : Bytes) (limit n : ℕ) where
           go (refused q) e =
               record { reason = q; is = refl; code = number_is ∙ ap opened_refusal stops ∙ ap opened_refusal e }
 
-      pub refused-marking : record { verdict = v; steps = 0; visits = 0 } ≡ markedOf (check b run limit n)
+      pub refused-marking : record { verdict = v; steps = 0; visits = 0 } ≡ marked_of (check b run limit n)
       refused-marking =
           let refusal = refused_is in
           ap (λ c. record { verdict = c; steps = 0; visits = 0 }) refusal.code
-          ∙ ap markedOf (sym refusal.is)
+          ∙ ap marked_of (sym refusal.is)
 
     module _ (ready : r ≡ opened.Ready) where
       opened_is : Opening
@@ -225,5 +225,5 @@ module _ (b run : Bytes) (limit n : ℕ) where
       pub opened-marked : check b run limit n ≡ steps_marked
       opened-marked = opened_is.marked
 
-      pub opened-marking : {a : Marked} → a ≡ markedOf steps_marked → a ≡ markedOf (check b run limit n)
-      opened-marking h = h ∙ sym (ap markedOf opened-marked)
+      pub opened-marking : {a : Marked} → a ≡ marked_of steps_marked → a ≡ marked_of (check b run limit n)
+      opened-marking h = h ∙ sym (ap marked_of opened-marked)

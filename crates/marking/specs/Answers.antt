@@ -13,5 +13,5 @@ zeros b = replicate (length b) 0
 unfoldable pub area : ℕ → Bytes → Bytes
 area n b = b ++ replicate (n - length b) 0
 
-abbrev pub markedOf : Marking → Marked
-markedOf m = record { verdict = verdict_number m.verdict; steps = length m.steps; visits = m.visits }
+abbrev pub marked_of : Marking → Marked
+marked_of m = record { verdict = verdict_number m.verdict; steps = length m.steps; visits = m.visits }

@@ -9,7 +9,7 @@ ghost use Rattle.rules.specs.Memory.Parts.{Ready};
 ghost use Rattle.runs.specs.Run.{read_run, steps_of};
 ghost use Rattle.steps.specs.CheckStep.{counter};
 ghost use Rattle.marking.specs.Check.{state, check_steps, check};
-ghost use Rattle.marking.specs.Answers.{markedOf};
+ghost use Rattle.marking.specs.Answers.{marked_of};
 ghost use Rattle.marking.specs.CheckEntry.{CheckDone};
 ghost use Rattle.marking.specs.Memory.Lent.{opened_refusal, state_of, Underway, Turns};
 ghost use Rattle.marking.specs.Memory.Lent.{open_work, Opens};
@@ -146,7 +146,7 @@ pub fn turn(book: &[u8], run: &[u8], work: &mut [u8], s: State) -> State
 // Turns up to the end.
 fn check_steps(book: &[u8], run: &[u8], limit: u32, work: &mut [u8]) -> Marked
     requires { Ready book.now work.old × (read_run book.now run.now ≡ ok (steps_of book.now run.now)) }
-    ensures value { result ≡ markedOf (check_steps (limited limit) (steps_of book.now run.now)) }
+    ensures value { result ≡ marked_of (check_steps (limited limit) (steps_of book.now run.now)) }
     ensures work_unchanged { work.new ≡ work.old }
 {
     let mut s = start(limit);
@@ -199,7 +199,7 @@ pub fn open(book: &[u8], run: &[u8], limit: u32, work: &mut [u8]) -> Opened
 
 // All of `check` but for the clearing of the work area.
 fn check_run(book: &[u8], run: &[u8], limit: u32, work: &mut [u8]) -> Marked
-    ensures value { result ≡ markedOf (check book.now run.now limit (length work.old)) }
+    ensures value { result ≡ marked_of (check book.now run.now limit (length work.old)) }
     ensures work_after { work.new ≡ open_work book.now limit work.old }
 {
     let answer = open(book, run, limit, work);

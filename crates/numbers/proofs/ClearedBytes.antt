@@ -1,5 +1,5 @@
 -- Zeros from a byte on: the loop of `clear_from`.
---     ClearedTo, cleared-none, cleared_more, cleared-all       how far the loop is
+--     ClearedTo, cleared_none, cleared_more, cleared_all       how far the loop is
 --     cleared-zeros       all of an area
 use mathlib.Core.Path.{◌≡◌, refl, sym, ap, ◌∙◌}
 use mathlib.Core.List.{◌++◌, append-nil}

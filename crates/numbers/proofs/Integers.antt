@@ -1,8 +1,8 @@
 -- The integers as a commutative ring, the solver at them, and sizes.
 --     solveℤ ρ (λ a b. l ≐ r) tt, deriveℤ ρ (λ a b. l ≐ r from ..) tt h ..       `solve` and `derive` of `Ring` at ℤring
---     *ℤ-assoc, *ℤ-distr, *ℤ-idr       the laws that `lib.IntN` lacks, and ℤring, the ring
+--     *ℤ_assoc, *ℤ_distr, *ℤ_idr       the laws that `lib.IntN` lacks, and ℤring, the ring
 --     nat_abs_negℤ, nat_abs_*ℤ, nat_abs_+ℤ_le, eq-zero_of_nat_abs-eq-zero       the size of a number
---     *ℤ-right-cancel, eq_of_sub_eq_zero       a factor that is not 0 is cancelled; a difference that is 0
+--     *ℤ_right_cancel, eq_of_sub_eq_zero       a factor that is not 0 is cancelled; a difference that is 0
 use mathlib.Core.Path.{◌≡◌, refl, sym, ◌∙◌, ap}
 use mathlib.Core.Bool.{Bool, true, false, cond}
 use mathlib.Core.List.{List, [], ◌∷◌}

@@ -5,7 +5,7 @@
 --     machine m         what the next operation, a call or the `returns` has of it: `back m tt : machine m ≡ exact m`
 --     good m            whether the bounds keep every step below 2 ^ 63: it computes, so that `tt` proves it
 --     negated, flipped  -m and -1 - m, with what the machine has of them
---     at-negative, at-natural       a test of the sign as a case distinction
+--     at_negative, at_natural       a test of the sign as a case distinction
 --     eqb-of_z           two numbers are equal where their bits are
 use mathlib.Core.Path.{◌≡◌, refl, sym, ◌∙◌, ap, ap₂, subst}
 use mathlib.Core.Bool.{Bool, true, false, ◌&&◌}

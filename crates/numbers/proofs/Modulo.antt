@@ -1,10 +1,10 @@
 -- Arithmetic modulo m, for every m, and an odd factor modulo every power of 2. Two numbers are congruent where they differ by a multiple of m;
 -- the floor of z/m and `modulo z m` of specs/Rational are a quotient and remainder, so congruent numbers are those with one remainder.
---     cong-refl, cong-sym, cong-trans, cong-of-eq       congruence is an equivalence
---     cong-add, cong-neg, cong-sub, cong-mul       and goes with sums, differences and products
---     floor-modulo, modulo-lt, modulo-cong       z is (floor of z/m) m + modulo z m, and the remainder is below m
---     eq-of-cong-of-lt, modulo-eq-of-cong, cong-of-modulo-eq       equal remainders and congruence are the same
---     odd-cancel-zero, odd-cancel       an odd factor is cancelled modulo 2 ^ w
+--     cong_refl, cong_sym, cong_trans, cong_of_eq       congruence is an equivalence
+--     cong_add, cong_neg, cong_sub, cong_mul       and goes with sums, differences and products
+--     floor-modulo, modulo_lt, modulo_cong       z is (floor of z/m) m + modulo z m, and the remainder is below m
+--     eq_of_cong_of_lt, modulo-eq_of_cong, cong_of_modulo-eq       equal remainders and congruence are the same
+--     odd_cancel_zero, odd_cancel       an odd factor is cancelled modulo 2 ^ w
 use mathlib.Core.Path.{◌≡◌, sym, ◌∙◌, ap, subst}
 use mathlib.Core.List.{[], ◌∷◌}
 use Prim.Native.Nat.{ℕ, zero, suc, ◌+◌, ◌-◌, ◌*◌, ◌/◌, ◌%◌, ◌^◌, ◌<◌}

@@ -1,7 +1,7 @@
 -- The order of the integers. One idea carries every law: a ≤ b says that b - a is not negative, and a < b that b - (a + 1) is not. Such numbers
 -- have sums and products that are not negative, so a law is a sum or product of what is given and an identity (`le_of_sub-eq`, `lt_of_sub-eq`).
---     le_refl, le_trans, lt_of_lt_of_le, lt_of_le_of_lt, lt_irrefl, le_of_lt, le_antisymm, le-or-lt       the order itself
---     add-le-add, add_lt_add_of_lt_of_le, neg-le-neg, mul-le-mul-of-nonneg, mul-lt-mul-of-pos, mul-pos       with sums and products
+--     le_refl, le_trans, lt_of_lt_of_le, lt_of_le_of_lt, lt_irrefl, le_of_lt, le_antisymm, le_or_lt       the order itself
+--     add-le-add, add_lt_add_of_lt_of_le, neg-le-neg, mul-le-mul_of_nonneg, mul_lt_mul_of_pos, mul-pos       with sums and products
 --     le_of_mul_le_mul_right, lt_of_mul_lt_mul_right       a factor is cancelled
 use mathlib.Core.Path.{◌≡◌, refl, sym, ◌∙◌, ap, subst, subst₂}
 use mathlib.Core.Logic.{◌⊎◌, inl, inr, ⊎_elim}

@@ -1,8 +1,8 @@
 -- Laws of specs/Pair: a whole number over a positive one. Equality by cross products is an equivalence; the operations and
 -- the order respect it; the order is total, and goes with sums, with negation, and with products by numbers that are not
 -- negative.
---     ≈-trans, add-resp, mul-resp, neg-resp, mul-inv       equality, and the operations on equal pairs
---     ≤P-trans, ≤P-antisymm, ≤P-or-<P, ≤P-resp, <P-resp       the order
+--     ≈_trans, add_resp, mul_resp, neg_resp, mul_inv       equality, and the operations on equal pairs
+--     ≤P_trans, ≤P_antisymm, ≤P_or_<P, ≤P_resp, <P_resp       the order
 --     add-le-add_p, add_lt_add_p, neg-le-neg_p, mul-le-mul_p, mul_lt_mul_p       the order with the operations
 -- Each order is proved by its difference: a ≤ b where b - a, or a positive multiple of it, is a sum of products of numbers
 -- that are not negative. That the two are equal is one identity.

@@ -1,10 +1,10 @@
 -- The rational numbers: the pairs of specs/Pair up to equal cross products, as the library's quotient.
 -- Pairs of one value are EQUAL here, so that values are rewritten and solved for. Each law of the ring is
 -- an identity of whole numbers at pairs.
---     ℚ, mk, ℚ-set       the numbers, the number of a pair; equations between them are propositions
+--     ℚ, mk, ℚSet       the numbers, the number of a pair; equations between them are propositions
 --     sum, product, opposite, ι, ℚring       the operations, and the ring that `solve` and `derive` take
 --     mk-add, mk-mul, mk-neg, mk-whole       an operation on pairs is the operation on their numbers
---     mk-eq, ≈-of-mk-eq       a ≈ b and mk a ≡ mk b are the same
+--     mk-eq, ≈_of_mk-eq       a ≈ b and mk a ≡ mk b are the same
 use mathlib.Core.Path.{◌≡◌, refl, sym, ◌∙◌, ap}
 use mathlib.Core.Bool.{Bool, Bool-set}
 use mathlib.Core.List.{[], ◌∷◌}

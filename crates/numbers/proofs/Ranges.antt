@@ -1,9 +1,9 @@
 -- What the tests of a number's range say, the answers that the contracts ask for, and the parts of numbers in range as
 -- the machine has them.
---     inRange-of-sizes, sizes_of_in_range, large-num, large-den       the test and the sizes of the parts
---     checked-is, value-of-checked, out-of-checked       the answer and the test
+--     in_range_of_sizes, sizes_of_in_range, large-num, large-den       the test and the sizes of the parts
+--     checked_is, value_of_checked, out_of_checked       the answer and the test
 --     makes, gives, gives_same       `Makes` and `Gives` from an equation
---     checked-of-proper, proper-neg, proper-abs, proper-floor       what is always in range
+--     checked_of_proper, proper-neg, proper_abs, proper-floor       what is always in range
 --     num, den, nums, dens, left_cross, right_cross       parts and their products as expressions of `Machine`
 use mathlib.Core.Path.{◌≡◌, refl, sym, ◌∙◌, ap, ap₂, subst}
 use mathlib.Core.Bool.{Bool, true, false, cond}

@@ -1,8 +1,8 @@
 -- A law for each operation of specs/Rational on numbers in lowest terms: its value, as a pair, is the operation on the
 -- values, and its result is in lowest terms.
 --     add-value, mul-value, div_value, neg_value, whole-value       the values
---     add-lowest, mul-lowest, div-lowest, neg-lowest, abs-lowest, floor-lowest       lowest terms
---     abs-of-nonneg, abs-of-neg       the absolute value
+--     add-lowest, mul-lowest, div-lowest, neg-lowest, abs_lowest, floor-lowest       lowest terms
+--     abs_of_nonneg, abs_of_neg       the absolute value
 --     less-value, less_eq-value, is_zero-value, is_positive-value, is_integer-value, eq_q-eq       the tests
 -- The floor is in proofs/Floor.
 use mathlib.Core.Path.{◌≡◌, refl, sym, ◌∙◌, ap, ap₂, subst, subst₂}

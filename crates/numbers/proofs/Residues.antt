@@ -1,7 +1,7 @@
 -- The whole numbers modulo m as a ring, for every m: the quotient of ℤ by congruence (`residues`). A number
 -- and its remainder are one residue, and residues are equal exactly where the numbers are congruent.
 --     residue, residue-add, residue-mul, residue-neg       of a number, a sum, a product and an opposite
---     residue-eq, cong-of-residue-eq       equal residues and congruence are the same
+--     residue-eq, cong_of_residue-eq       equal residues and congruence are the same
 --     residue-modulo       modulo z m has the residue of z
 use mathlib.Core.Path.{◌≡◌, refl, sym, ap}
 use mathlib.Core.Quot.{sound, lift}

@@ -1,6 +1,6 @@
 -- Rational numbers of any size, and each operation that the Rust makes of them: rug's `Rational`, and its `Integer`
 -- where a gcd is taken. A number is in lowest terms with a denominator of at least 1 (`Lowest`); each operation is
--- worked out on the parts and put in lowest terms. Document 01's range is a test by itself (`inRange`, `checked`).
+-- worked out on the parts and put in lowest terms. Document 01's range is a test by itself (`in_range`, `checked`).
 use Rattle.std.specs.Prelude.{◌≡◌, refl, Bool, true, false, ◌&&◌, cond, ℕ, zero, suc, ◌-◌, ◌/◌, ◌%◌, ◌≤◌, leb, ℤ, pos}
 use Rattle.std.specs.Prelude.{negsuc, neg_ℤ, nat_abs, ◌+ℤ◌, ◌*ℤ◌, ◌<ℤ◌}
 use Rattle.std.proofs.Common.{zero-lt-suc}

@@ -1,6 +1,6 @@
 -- The two pieces of an inferred number: an A record behind the run, and a constant behind those of the tail.
---     arg-longer, arg-full, arg-written, arg-unwritten       an A record
---     constant-room, constant-longer, constant-full, constant-written, constant-unwritten       a constant
+--     arg-longer, arg-full, arg-written, arg_unwritten       an A record
+--     constant-room, constant-longer, constant-full, constant-written, constant_unwritten       a constant
 use mathlib.Core.Path.{◌≡◌, refl, sym, ap, ap₂, subst, ◌∙◌}
 use mathlib.Core.Bool.{Bool, true, false, ◌&&◌}
 use mathlib.Core.List.{List, [], ◌∷◌, ◌++◌, append_assoc, append-nil}

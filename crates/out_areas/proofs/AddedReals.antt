@@ -1,6 +1,6 @@
 -- An inferred number as an argument: what is written behind the run and the tail.
 --     inside-tail, tail-stored, front-places       the tail that is written, as the front of its area
---     real-full, real-in-book, real-in-tail, real-added       `add_real`: where the areas are full, and by where the constant stands
+--     real-full, real_in_book, real_in_tail, real-added       `add_real`: where the areas are full, and by where the constant stands
 use mathlib.Core.Path.{◌≡◌, refl, sym, ap, ap₂, subst, ◌∙◌}
 use mathlib.Core.Bool.{Bool, true, false}
 use mathlib.Core.List.{List, [], ◌∷◌, ◌++◌}

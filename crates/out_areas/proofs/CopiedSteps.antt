@@ -2,7 +2,7 @@
 --     head-back       its S record, since reading tests the mark and the number
 --     row_back       a row of records, each with its mark and the byte 0, is its numbers as they are written
 --     copied, length-copied       the bytes of a step are its S record and its rows; only the rule differs
---     rule-six, rule-other       the function `elaborated_rule`
+--     rule_six, rule-other       the function `elaborated_rule`
 --     add_nothing, add-full, add-copied       the function `add_step`
 use mathlib.Core.Path.{◌≡◌, refl, sym, ap, ap₂, ◌∙◌}
 use mathlib.Core.Bool.{Bool, true, false, ◌&&◌}

@@ -1,8 +1,8 @@
 -- Real constants, as elaboration looks for them in the book and in a tail.
 --     is_real, other-kind, no_number       the function `is_real_lem`
---     Searched, searched-none .. searched-end       the loop of `find_real`
+--     Searched, searched_none .. searched_end       the loop of `find_real`
 --     found-real       the record that is found is the constant, and is among those that were searched
---     Placed, placed-none .. placed_end       the loop of `place_in`
+--     Placed, placed_none .. placed_end       the loop of `place_in`
 use mathlib.Core.Path.{◌≡◌, refl, sym, ap, subst, ◌∙◌}
 use mathlib.Core.Bool.{Bool, true, false}
 use mathlib.Core.List.{List, [], ◌∷◌, ◌++◌}

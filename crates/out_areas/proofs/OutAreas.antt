@@ -1,10 +1,10 @@
 -- The out areas while a run is elaborated.
 --     fronts-same, fronts-then, grows_same, grows_then, backs-same, backs-then, writes_then       one write after another
 --     holds-back       a refused step is taken back by the counts
---     none-fits, holds-none       before the first step
+--     none_fits, holds_none       before the first step
 --     holds-stored, stored-holds, holds-unfit, unfit-holds       `Holds` where the areas are not full, and where they are
 --     both-le, both-fits, not-both, goes_first, goes-not       the code's test
---     Fit, fit_of, fits-of, unfit, unfit-longer       `fits` as inequalities; what is longer than what does not fit does not fit
+--     Fit, fit_of, fits_of, unfit, unfit-longer       `fits` as inequalities; what is longer than what does not fit does not fit
 use mathlib.Core.Path.{◌≡◌, refl, sym, ap, ap₂, subst, ◌∙◌}
 use mathlib.Core.Bool.{Bool, true, false, ◌&&◌}
 use mathlib.Core.List.{[]}

@@ -1,9 +1,9 @@
 -- One piece that is written to the out areas, and the functions that write one.
---     more-full, more-fits, more-unfit, more-runs       a piece by whether the areas take it
+--     more-full, more-fits, more-unfit, more_runs       a piece by whether the areas take it
 --     writes_as, writes-full       another name of what is written; nothing more is written where the areas are full
 --     recounted, lies_more, lies-full       what lies in the areas after a piece
 --     put-length, put_front, put-before, put-behind       bytes put into an area
---     writes-run, unwritten-run       bytes behind those of the run, where there is room for them and where there is none
+--     writes-run, unwritten_run       bytes behind those of the run, where there is room for them and where there is none
 use mathlib.Core.Path.{◌≡◌, refl, sym, ap, ap₂, subst, ◌∙◌}
 use mathlib.Core.Bool.{Bool, true, false}
 use mathlib.Core.List.{◌++◌}

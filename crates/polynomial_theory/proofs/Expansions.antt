@@ -2,7 +2,7 @@
 -- good coefficients and atoms that fit. By induction over the rules of `Expands`; each constructor is one of the
 -- operators of the reading.
 --     amount, Comes       the value of a list of products; it has a value and good coefficients
---     comes-append, comes-scale, comes-multiply       sums, multiples and products of lists
+--     comes_append, comes-scale, comes-multiply       sums, multiples and products of lists
 use mathlib.Core.Path.{◌≡◌, refl, sym, ◌∙◌, ap, ap₂}
 use mathlib.Core.List.{List, [], ◌∷◌, ◌++◌}
 use mathlib.Core.Option.{some}

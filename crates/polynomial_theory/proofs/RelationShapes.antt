@@ -1,6 +1,6 @@
 -- What the readers of poly_simp_rel find: the premise (= (o c1 dx) (o c2 dy)) with the differences dx and dy, odd
 -- bit-vector constants, and the sides of the conclusion, which are those of the differences.
---     or-next       what is answered, or else what comes next
+--     or_next       what is answered, or else what comes next
 --     operands-found, odd-found, operation-found, equated-found, scaled-found       what each reader finds
 --     vector-parts, number-parts       the differences
 --     sides-equal       what `assert_sides` asserts

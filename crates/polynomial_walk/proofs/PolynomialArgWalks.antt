@@ -1,8 +1,8 @@
 -- The walk of a record's arguments into the polynomial in the lowest area of a stack, one after the other. `Walking` is
 -- the invariant of its loop: whichever polynomial stood there before, what is left to walk from argument k on, from the
 -- one that stands there at the turn, is the whole walk.
---     walking-none, walking-more, walking-refused, walking-done       along the loop
---     argument-below, argument-pre       what the walk of argument k asks
+--     walking_none, walking_more, walking_refused, walking_done       along the loop
+--     argument-below, argument_pre       what the walk of argument k asks
 use mathlib.Core.Path.{◌≡◌, refl, ◌∙◌}
 use mathlib.Core.List.{[], ◌∷◌}
 use Prim.Native.Nat.{ℕ, ◌+◌, ◌/◌, ◌≤◌, ◌<◌}

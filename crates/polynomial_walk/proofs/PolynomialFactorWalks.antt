@@ -1,8 +1,8 @@
 -- The first factor of a product, which is walked in the lowest area of an empty stack, and the answers of the product
 -- of a record's arguments.
 --     rest_of, rest-length, left-rest, rest_below       the arguments behind the first, as the part that is lent
---     empty_poly, none-held, none_has, none-pre, none-fills       a walk from nothing
---     no-factors, first_below, first-pre, first-refused, others-pre, first_made       the first factor
+--     empty_poly, none_held, none_has, none_pre, none_fills       a walk from nothing
+--     no_factors, first_below, first_pre, first_refused, others_pre, first_made       the first factor
 use mathlib.Core.Path.{◌≡◌, refl, ◌∙◌, ap}
 use mathlib.Core.Bool.{true}
 use mathlib.Core.List.{List, [], ◌∷◌}

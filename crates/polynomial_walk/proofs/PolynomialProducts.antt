@@ -1,6 +1,6 @@
 -- The factors of a product behind the first: each is walked above the product so far, and the two are multiplied.
 -- What is left behind it is the product's rest, from the product that stands there then.
---     factor-below, factor-pre, factor-clear, mul-pre, left-pre       what the steps ask
+--     factor-below, factor_pre, factor_clear, mul_pre, left_pre       what the steps ask
 --     factors-done, factor-refused, product-refused, multiplied       the answers
 use mathlib.Core.Path.{◌≡◌, ◌∙◌, ap}
 use mathlib.Core.List.{[], ◌∷◌}

@@ -1,9 +1,9 @@
 -- What is added to a polynomial in the lowest area of a stack: a number to its constant, an atom to its entries, a product
 -- from the area above times a number. A refusal has emptied the area before.
---     refuses-same, refuses-empty, refused-by    the area is emptied and the answer is a refusal
---     constant-out, constant-added               the sum of the constants, by whether it is in range
---     atom-key, atom-out, atom-added             the monomial of one atom is entered
---     scaled-out, scaled-outside, scaled-added   the product's entries are entered, then its constant is added
+--     refuses-same, refuses-empty, refused_by    the area is emptied and the answer is a refusal
+--     constant_out, constant-added               the sum of the constants, by whether it is in range
+--     atom-key, atom_out, atom-added             the monomial of one atom is entered
+--     scaled_out, scaled-outside, scaled-added   the product's entries are entered, then its constant is added
 use mathlib.Core.Path.{◌≡◌, refl, sym, ◌∙◌, ap, subst}
 use mathlib.Core.List.{List, [], ◌∷◌}
 use Prim.Native.Nat.{ℕ, ◌≤◌, ◌<◌}

@@ -1,11 +1,11 @@
 -- The walk of a term into the polynomial in the lowest area of a stack. A term is visited, and then walked by its
 -- node; a product's factors are walked in the bytes above it.
 --     lent_above, back_above       those bytes as they are lent, and the stack when they are back
---     lowest-small, clear-pre, constant-pre, atom-pre, args-pre, quotient-lower, quotient-pre, factors-pre, scaled-pre
+--     lowest-small, clear_pre, constant_pre, atom_pre, args_pre, quotient-lower, quotient_pre, factors_pre, scaled_pre
 --         what the steps at a node ask
---     unvisited, at-node, at-args, at-refusal
+--     unvisited, at_node, at_args, at_refusal
 --         the walk of a term is what is done at its node
---     too-deep, factors-refused, factors-made
+--     too_deep, factors-refused, factors-made
 --         the answers of a product
 use mathlib.Core.Path.{◌≡◌, sym, ◌∙◌, ap, subst}
 use mathlib.Core.List.{List, [], ◌∷◌, ◌++◌, append-nil}

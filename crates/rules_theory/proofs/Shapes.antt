@@ -3,9 +3,9 @@
 -- by record number are equal.
 --     unary-found, binary-found, negated-found       the options
 --     unary_err-found, binary_err-found, asserted       along a rule's steps
---     one-literal       a clause that is answered for has one literal
+--     one_literal       a clause that is answered for has one literal
 --     equal-yields       terms that are the same are equal
---     operation-of, is-itself       a shape names the operator and the arguments
+--     operation_of_lem, is_itself       a shape names the operator and the arguments
 --     arguments-formed       the arguments of a well-formed operation are well formed
 use mathlib.Core.Path.{◌≡◌, refl, sym, ap, subst}
 use mathlib.Core.Bool.{Bool, true, false}

@@ -1,9 +1,9 @@
 -- Without limits no operation on numbers and maps is refused: a definition that is made of them answers wherever its
 -- own tests pass. `Answers` is `Yields` of a result that is no refusal, and goes along a definition's steps in the same
 -- way.
---     answer-of, answer-is, free_of       from an answer and to one
+--     answer_of, answer_is, free_of       from an answer and to one
 --     answers-then, freely, answered-as, answered, answered-each       along `>>=`; with what is yielded
---     assert-free, either-free, option-free       along a case
+--     assert-free, either-free, option_free       along a case
 --     ranged-free, times-free, plus-free       numbers, as equations
 --     insert-free, add_free, sub-free, scale_all-free       maps, whatever their keys
 --     visit-free, add_entry-free, add_constant-free       the steps of a walk

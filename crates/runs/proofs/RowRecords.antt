@@ -3,7 +3,7 @@
 --     Elsewhere, parted       a row is parted from what follows it, where that has another mark in front
 --     all_right, right-numbers       the tests of refusal 7 pass, and what they say of the row's numbers
 --     numbers-back, terms-back       the row's content comes back
---     every-term, in-book, literal       what the tests say of the terms of a row that is read
+--     every-term, in_book, literal       what the tests say of the terms of a row that is read
 use mathlib.Core.Path.{◌≡◌, refl, sym, ◌∙◌, ap, subst}
 use mathlib.Core.Bool.{Bool, true, false, ◌&&◌}
 use mathlib.Core.List.{List, [], ◌∷◌, ◌++◌}

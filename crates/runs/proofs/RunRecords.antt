@@ -1,11 +1,11 @@
 -- The records of a part of a run, and the parts of a step.
---     length-recs, recs-drop, recs-take, rec_at, recs-cons, head-is       the records by place and from a place on
+--     length-recs, recs-drop, recs-take, rec_at, recs_cons, head_is       the records by place and from a place on
 --     leading-has, leading-stops, leading-take, after-drop       the records in front with one mark
 --     recs-leading, recs-after, cut       the records of the part in front, and of the part that follows
---     numbers_of, terms-of       the numbers in a part's records, and the terms that they name
+--     numbers_of, terms_of_lem       the numbers in a part's records, and the terms that they name
 --     rows_in, own_bytes, length-own, step-taken       the bytes of a step
 --     next-drop, bytes-within, bytes-least, next-shorter, whole-next       where the next step starts
---     part_from, Begins, begins-first, begins-behind, begins-next, begins-less       going through a run step by step
+--     part_from, Begins, begins_first, begins-behind, begins-next, begins-less       going through a run step by step
 --     Passed, passed-next       where each step that is passed has some bytes
 use mathlib.Core.Path.{◌≡◌, refl, sym, ap, ◌∙◌}
 use mathlib.Core.Bool.{Bool, true, false}

@@ -1,6 +1,6 @@
 -- The steps of a run that was read, where they stand in its bytes. Reading goes by records; at each step what is left
 -- to read is what the bytes from that step on hold (`reads_from`).
---     stands, step-now, no_more       going through the bytes is going through the steps
+--     stands, step_now, no_more       going through the bytes is going through the steps
 --     Tested, stands-tested       what reading tested of a step
 --     stands-steps .. stands-named       what that says of its parts
 use mathlib.Core.Path.{◌≡◌, refl, sym, ap, ◌∙◌}

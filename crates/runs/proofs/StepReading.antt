@@ -1,11 +1,11 @@
 -- Reading a run: what the functions of the code that read steps answer is what the definitions say.
---     Right, right-begin .. right-on       walking over records, each of which must be right
---     literal-code, no-literal       a Bool term, by the code of its sort
+--     Right, right-begin .. right_on       walking over records, each of which must be right
+--     literal-code, no_literal       a Bool term, by the code of its sort
 --     other-rule, shape-counts       the shape of a step, by how many records it has of each mark
 --     step-tests, not-read       a step is read if all tests hold; otherwise it is refusal 7
 --     read_part, part-done .. part-wrong       the steps of a part are its first step and those of what follows
 --     not-whole, too_long       refusal 6
---     ReadSoFar, read-begin .. read-on       so many steps are read, and the others are left
+--     ReadSoFar, read-begin .. read_on       so many steps are read, and the others are left
 use mathlib.Core.Path.{◌≡◌, refl, sym, ap, ◌∙◌, subst}
 use mathlib.Core.Bool.{Bool, true, false, ◌&&◌, and_assoc}
 use mathlib.Core.List.{List, [], ◌∷◌}
@@ -34,7 +34,7 @@ use Rattle.runs.specs.Memory.StepParts.{after_in, premises_in, clause_in, args_i
 use Rattle.runs.specs.Memory.StepParts.{read_in, parts_in, rule_in, is_ok, run_read_of}
 use Rattle.runs.specs.declared.run.StepParts.{StepParts}
 use Rattle.runs.specs.declared.run.RunRead.{RunRead}
-use Rattle.runs.specs.declared.run.RunRead.TheVariants as runRead
+use Rattle.runs.specs.declared.run.RunRead.TheVariants as run_read
 use Rattle.rules.specs.Memory.Parts.{is_some}
 use Rattle.runs.proofs.Rules.{rule-number}
 use Rattle.runs.proofs.StepRules.{head-rule, rule_is}
@@ -298,7 +298,7 @@ module _ (b : Bytes) where
         go (ok s) e (refused r) = refl
         go (refused r) e y = never e
 
-    pub part-wrong : 4 ≤ length part → is_ok (read_in b n part) ≡ false → run_read_of (read_part n part) ≡ runRead.Refused 7
+    pub part-wrong : 4 ≤ length part → is_ok (read_in b n part) ≡ false → run_read_of (read_part n part) ≡ run_read.Refused 7
     unfolding ◌>>=◌
     part-wrong h e =
         ap run_read_of (part_first h)
@@ -310,14 +310,14 @@ module _ (b run : Bytes) where
   abbrev Answers : RunRead → Type 0
   Answers r = r ≡ run_read_of (read_run b run)
 
-  size-wrong : (eqb (length run % 4) 0 && leb (length run / 4) max_run_records) ≡ false → Answers (runRead.Refused 6)
+  size-wrong : (eqb (length run % 4) 0 && leb (length run / 4) max_run_records) ≡ false → Answers (run_read.Refused 6)
   unfolding read_run assert ◌>>=◌
   size-wrong e = rw e
 
-  pub not-whole : (length run % 4 ≡ 0 → ⊥) → Answers (runRead.Refused 6)
+  pub not-whole : (length run % 4 ≡ 0 → ⊥) → Answers (run_read.Refused 6)
   not-whole h = size-wrong (rw (ne_eqb _ _ h))
 
-  pub too_long : length run % 4 ≡ 0 → max_run_bytes < length run → Answers (runRead.Refused 6)
+  pub too_long : length run % 4 ≡ 0 → max_run_bytes < length run → Answers (run_read.Refused 6)
   too_long h g = size-wrong (rw (eq-eqb _ _ h) (lt-leb (length run / 4) max_run_records (omega (arith, h, g))))
 
   -- n steps are read, none of them empty
@@ -338,7 +338,7 @@ module _ (b run : Bytes) where
       }
 
   module _ (left : Bytes) (n : ℕ) (so : ReadSoFar left n) where
-    pub read-end : length left ≤ 0 → Answers runRead.Steps
+    pub read-end : length left ≤ 0 → Answers run_read.Steps
     read-end h = sym (so.rest ∙ ap run_read_of (part-done b n left (omega (arith, h))))
 
     -- another step is there
@@ -348,7 +348,7 @@ module _ (b run : Bytes) where
 
       -- x is whether it can be read
       module _ {x : Bool} (x-is : x ≡ is_ok (read_in b n left)) where
-        pub read-wrong : x ≡ false → Answers (runRead.Refused 7)
+        pub read-wrong : x ≡ false → Answers (run_read.Refused 7)
         read-wrong e = sym (so.rest ∙ part-wrong b n left a_record (sym x-is ∙ e))
 
         -- p has its parts

@@ -1,7 +1,7 @@
 -- The rule of a step, by the byte of its S record.
 --     some-rule       the bytes that are rules
 --     head-tests, head-rule       the tests of an S record, and its rule
---     rule-is       the rule of a part that starts with it
+--     rule_is       the rule of a part that starts with it
 use mathlib.Core.Path.{◌≡◌, refl, sym, ap, ◌∙◌}
 use mathlib.Core.Bool.{Bool, true, false, ◌&&◌}
 use mathlib.Core.List.{List, [], ◌∷◌}

@@ -25,7 +25,7 @@ use Rattle.rules.proofs.Yields.Yields.{gives, refuses}
 use Rattle.runs.specs.Verdict.{LentRefusal}
 use Rattle.runs.specs.Run.{Step, Rec, read_steps, read_run}
 use Rattle.marking.specs.Check.{Marking, mark_run, mark, lent_ok, check}
-use Rattle.marking.specs.Answers.{markedOf}
+use Rattle.marking.specs.Answers.{marked_of}
 use Rattle.marking.specs.declared.check.Marked.{Marked}
 use Rattle.marking.proofs.Turns.{Marks, ends, stops, goes_on, marks, check_steps_from, mark_book}
 use Rattle.elaborate.specs.Elaborate.{add_steps, Answer, elaborated, elaborate}
@@ -117,7 +117,7 @@ module _ (book : Bytes) (out_run out_tail : ℕ) where
 -- ---- what the code casts
 
 pub marked-fits :
-    (book run : Bytes) (limit work : ℕ) {r : Marked} → r ≡ markedOf (check book run limit work) → Fits w32 r.steps
+    (book run : Bytes) (limit work : ℕ) {r : Marked} → r ≡ marked_of (check book run limit work) → Fits w32 r.steps
 marked-fits book run limit work e =
     omega (arith, ap (λ (x : Marked). x.steps) e, accepted-few book run limit work)
 

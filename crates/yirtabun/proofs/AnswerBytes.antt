@@ -1,5 +1,5 @@
 -- The bytes of an answer in the slice that a caller lends.
---     padded-byte, padded-long       a text with zeros behind it: its bytes, and that it fills the slice
+--     padded_byte, padded_long       a text with zeros behind it: its bytes, and that it fills the slice
 --     copied-shown       the bytes of a text copied one by one into a slice, zeros behind them: `shown`
 --     marked-bytes, elaborated-bytes       the numbers of an answer put into an array of zeros: `number_bytes`
 --     of_marked, of_elaborated       the bytes of the code's answers

@@ -19,19 +19,19 @@ unfoldable pub shown : ℕ → Bytes → Bytes
 shown n b = take n (area n b)
 
 -- verdict, accepted steps, visits
-abbrev pub markedNumbers : Marking → List ℕ
-markedNumbers m = verdict_number m.verdict ∷ length m.steps ∷ m.visits ∷ []
+abbrev pub marked_numbers : Marking → List ℕ
+marked_numbers m = verdict_number m.verdict ∷ length m.steps ∷ m.visits ∷ []
 
 -- and the bytes written to each out area
-abbrev pub elaboratedNumbers : Answer → List ℕ
-elaboratedNumbers a = verdict_number a.verdict ∷ a.steps ∷ a.visits ∷ length a.run ∷ length a.tail ∷ []
+abbrev pub elaborated_numbers : Answer → List ℕ
+elaborated_numbers a = verdict_number a.verdict ∷ a.steps ∷ a.visits ∷ length a.run ∷ length a.tail ∷ []
 
 -- ---- what the exported functions promise
 
 pub record CheckShown
     (book run : Bytes) (limit : ℕ) (work answer book' run' work' answer' : Bytes) (r : ℕ) : Type 0 where
   pub verdict : r ≡ verdict_number (check book run limit (length work)).verdict
-  pub numbers : answer' ≡ shown (length answer) (number_bytes (markedNumbers (check book run limit (length work))))
+  pub numbers : answer' ≡ shown (length answer) (number_bytes (marked_numbers (check book run limit (length work))))
   -- 'book and run unchanged'
   pub same_book : book' ≡ book
   pub same_run : run' ≡ run
@@ -42,10 +42,10 @@ pub record CheckShown
 pub record ElaborateShown
     (m : Memory) (limit : ℕ) (answer : Bytes) (m' : Memory) (answer' : Bytes) (r : ℕ) : Type 0 where
   pub verdict : r ≡ verdict_number (answer_to m limit).verdict
-  pub numbers : answer' ≡ shown (length answer) (number_bytes (elaboratedNumbers (answer_to m limit)))
+  pub numbers : answer' ≡ shown (length answer) (number_bytes (elaborated_numbers (answer_to m limit)))
   -- the promise of `elaborate`: every lent byte, demand 1's known state, and demand 3
   pub done : ElaborateDone m limit m' (elaborated_of (answer_to m limit))
 
-pub record WrittenShown (out_run : Bytes) (bytes : ℕ) (outRun' : Bytes) (r : ℕ) : Type 0 where
+pub record WrittenShown (out_run : Bytes) (bytes : ℕ) (out_run' : Bytes) (r : ℕ) : Type 0 where
   pub count : r ≡ length (written_part out_run bytes)
-  pub same : outRun' ≡ out_run
+  pub same : out_run' ≡ out_run

@@ -18,7 +18,7 @@ use Rattle.runs.specs.Run.{Step, step, Rec, rec, P, C, A, recs, leading, all_rig
 use Rattle.runs.specs.Run.{read_run}
 use Rattle.runs.specs.declared.run.StepParts.{StepParts}
 use Rattle.runs.specs.declared.run.RunRead.{RunRead}
-use Rattle.runs.specs.declared.run.RunRead.TheVariants as runRead
+use Rattle.runs.specs.declared.run.RunRead.TheVariants as run_read
 
 -- the records in front that have a mark, and what follows them
 unfoldable pub leading_in : ℕ → Bytes → Bytes
@@ -87,13 +87,13 @@ is_ok (refused r) = false
 
 -- what reading it answers
 abbrev pub run_read_of : {X : Type 0} → Outcome LentRefusal X → RunRead
-run_read_of (ok x) = runRead.Steps
-run_read_of (refused r) = runRead.Refused (lent_number r)
+run_read_of (ok x) = run_read.Steps
+run_read_of (refused r) = run_read.Refused (lent_number r)
 
 -- document 01's number of the refusal
 abbrev pub run_refusal : RunRead → ℕ
-run_refusal runRead.Steps = 0
-run_refusal (runRead.Refused c) = c
+run_refusal run_read.Steps = 0
+run_refusal (run_read.Refused c) = c
 
 -- from step k on
 unfoldable pub step_from : ℕ → Bytes → Bytes

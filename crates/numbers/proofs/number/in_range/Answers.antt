@@ -1,4 +1,4 @@
--- The two tests are those of `inRange`, of one part after the other.
+-- The two tests are those of `in_range`, of one part after the other.
 use mathlib.Core.Path.{◌≡◌, ◌∙◌, ap, ap₂}
 use native.Mathlib.Omega.{arith}
 use lib.IntN.{ℤ, nat_abs}
