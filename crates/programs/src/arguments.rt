@@ -1,4 +1,5 @@
 // The words of the command line: as they were given, as numbers and as paths.
+ghost use Rattle.std.specs.Prelude.{◌≤◌};
 ghost use Rattle.std.specs.Counts.{IsPrefixLen};
 
 use crate::printing::{Complaints, complain, print};
@@ -44,7 +45,9 @@ pub fn print_word<R: Env + Print>(rt: &R, i: usize) -> io::Result<()> {
 // ---- numbers
 
 // A decimal number of at most `most`; 0 where the text is no such number.
-fn decimal(text: &[u8], most: u32) -> u32 {
+fn decimal(text: &[u8], most: u32) -> u32
+    ensures { result ≤ most }
+{
     let mut value: u64 = 0;
     for d in text {
         if !d.is_ascii_digit() {
@@ -59,7 +62,9 @@ fn decimal(text: &[u8], most: u32) -> u32 {
 }
 
 // The number from 1 to `most` that argument i is; 0 where it is none.
-pub fn number_at(rt: &impl Env, i: usize, most: u32) -> u32 {
+pub fn number_at(rt: &impl Env, i: usize, most: u32) -> u32
+    ensures { result ≤ most }
+{
     let mut text = [0u8; MAX_WORD];
     let n = read_word(rt, i, &mut text);
     decimal(&text[..n], most)

@@ -1,5 +1,6 @@
 // The file `cases` that a replay reads: opened, read piece by piece, and what a case comes to.
-ghost use Rattle.std.specs.Prelude.{◌<◌, IfOk};
+ghost use Rattle.std.specs.Prelude.{◌≡◌, ◌<◌, ◌≤◌, length, take, IfOk, IsTrue};
+ghost use Rattle.programs.specs.Cases.{judged, piece_of};
 
 use crate::files::read_file;
 use crate::printing::{Complaints, fail, print, print_number};
@@ -17,7 +18,9 @@ pub enum Outcome {
     End,
 }
 
-pub fn judge(agrees: bool) -> Outcome {
+pub fn judge(agrees: bool) -> Outcome
+    ensures { result ≡ judged agrees }
+{
     if agrees {
         Outcome::Agrees
     } else {
@@ -34,7 +37,9 @@ pub fn broken(rt: &impl Print) -> io::Result<Outcome> {
 // ---- pieces of memory
 
 // The bytes from a up to e; none where they are not there.
-pub fn piece(s: &[u8], a: usize, e: usize) -> &[u8] {
+pub fn piece(s: &[u8], a: usize, e: usize) -> &[u8]
+    ensures { result.now ≡ piece_of s.now a e }
+{
     if a <= e && e <= s.len() {
         &s[a..e]
     } else {
@@ -43,7 +48,9 @@ pub fn piece(s: &[u8], a: usize, e: usize) -> &[u8] {
 }
 
 // The first n bytes of an area; all where it has fewer.
-pub fn first_mut(area: &mut [u8], n: usize) -> &mut [u8] {
+pub fn first_mut(area: &mut [u8], n: usize) -> &mut [u8]
+    ensures { result.now ≡ take n area.old }
+{
     if n <= area.len() {
         return &mut area[..n];
     }
@@ -64,7 +71,9 @@ pub fn open_cases<R: Files + Complaints>(rt: &R) -> Option<R::File> {
 }
 
 // Reads n bytes to the start of a buffer; whether the file has them and the buffer holds them.
-pub fn read_piece(file: &mut impl Read, n: usize, space: &mut [u8]) -> io::Result<bool> {
+pub fn read_piece(file: &mut impl Read, n: usize, space: &mut [u8]) -> io::Result<bool>
+    ensures { IfOk result (λ found. IsTrue found → n ≤ length space.new) }
+{
     Ok(read_file(file, first_mut(space, n))? == n)
 }
 
