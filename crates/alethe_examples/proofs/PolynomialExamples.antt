@@ -12,7 +12,7 @@ use Rattle.numbers.specs.Rational.{Rational, add_q, modulo}
 use Rattle.terms.specs.Operator.{LessEq, Mult}
 use Rattle.terms.specs.Term.{Sort, Term}
 use Rattle.terms.specs.Term.Sort.{int, bits}
-use Rattle.rules.specs.Refusal.Outcome.{refused}
+use Rattle.std.specs.Prelude.{Err}
 use Rattle.rules.specs.Refusal.Refusal.{polynomials_not_equal}
 use Rattle.rules.specs.Limits.{the_rust}
 use Rattle.poly_simp.specs.PolySimp.{poly_simp}
@@ -105,7 +105,7 @@ vanishing-accepted =
       same = SamePolynomial.vectors 8 refl refl sum-vanishes;
     }
 
-vanishing-refused_by_the_Rust : poly_simp the_rust (Step.vanishing ∷ []) 0 ≡ refused polynomials_not_equal
+vanishing-refused_by_the_Rust : poly_simp the_rust (Step.vanishing ∷ []) 0 ≡ Err polynomials_not_equal
 unfolding rules
 vanishing-refused_by_the_Rust = refl
 

@@ -11,15 +11,14 @@ use borrow.Author.Tests.{leb-true}
 use lib.Dec.{leb, eqb}
 use lib.ListN.{length}
 use Rattle.numbers.specs.Bytes.{Bytes}
-use Rattle.terms.specs.Book.{count, size_ok, record_of, tree, layout_ok, sort_ok, stands, record_read, read_records, read_book}
+use Rattle.terms.specs.Book.{BookRead, refused_at, count, size_ok, record_of, tree, layout_ok, sort_ok, stands, record_read, read_records, read_book}
 use Rattle.terms.specs.Format.{max_records}
 use Rattle.terms.specs.declared.reading.BookRefusal.{BookRefusal}
 use Rattle.terms.specs.declared.reading.BookRefusal.TheVariants.{BookSize}
-use Rattle.terms.specs.declared.reading.BookRead.TheVariants.{Records, RefusedAt}
-use Rattle.terms.specs.declared.reading.RecordRead.{RecordRead}
-use Rattle.terms.specs.declared.reading.RecordRead.TheVariants.{Sorted, Refused}
 use Rattle.numbers.proofs.Truths.{both}
 use Rattle.book.proofs.BookReading.{record_sorted}
+use Rattle.std.specs.Prelude.{Ok, Err}
+use Rattle.terms.specs.Book.{RecordRead}
 
 -- record i passed the tests of a record
 pub record Accepted (b : Bytes) (i : ℕ) : Type 0 where
@@ -27,12 +26,12 @@ pub record Accepted (b : Bytes) (i : ℕ) : Type 0 where
   pub sorted : sort_ok (tree b i) ≡ true
   pub new : stands i b (record_of b i) ≡ false
 
-record_accepted : (b : Bytes) (i s : ℕ) → record_read b i ≡ Sorted s → Accepted b i
+record_accepted : (b : Bytes) (i s : ℕ) → record_read b i ≡ Ok s → Accepted b i
 record_accepted b i s e =
     let p = record_sorted b i s e in
     record { layout = p.0; sorted = p.1; new = p.2 }
 
-not-refused : {A : Type 0} {c : BookRefusal} {i m : ℕ} → RefusedAt c i ≡ Records m → A
+not-refused : {A : Type 0} {c : BookRefusal} {i m : ℕ} → refused_at c i ≡ Ok m → A
 not-refused e = let z : ◌≡◌ {A = ℕ} 0 1 = cc in absurd (omega arith)
 
 -- the records from i on, n of them
@@ -40,7 +39,7 @@ record Read (n : ℕ) (b : Bytes) (i m : ℕ) : Type 0 where
   all : m ≡ i + n
   each : (j : ℕ) → i ≤ j → j < m → Accepted b j
 
-records-read : (n : ℕ) (b : Bytes) (i m : ℕ) → read_records n b i ≡ Records m → Read n b i m
+records-read : (n : ℕ) (b : Bytes) (i m : ℕ) → read_records n b i ≡ Ok m → Read n b i m
 unfolding read_records
 records-read zero b i m e =
     let h : i ≡ m = cc in
@@ -49,9 +48,9 @@ records-read (suc n) b i m e = go (record_read b i) refl e (records-read n b (i 
   where
     go :
         (r : RecordRead) → record_read b i ≡ r →
-        elim r [ Sorted s ↦ read_records n b (i + 1) | Refused c ↦ RefusedAt c i ] ≡ Records m →
-        (read_records n b (i + 1) ≡ Records m → Read n b (i + 1) m) → Read (suc n) b i m
-    go (Sorted s) p e rest =
+        ◌≡◌ {A = BookRead} (elim r [ Ok s ↦ read_records n b (i + 1) | Err c ↦ refused_at c i ]) (Ok m) →
+        (read_records n b (i + 1) ≡ Ok m → Read n b (i + 1) m) → Read (suc n) b i m
+    go (Ok s) p e rest =
         record {
           all = omega (arith, (rest e).all);
           each =
@@ -61,18 +60,18 @@ records-read (suc n) b i m e = go (record_read b i) refl e (records-read n b (i 
               (λ q. (rest e).each j (omega arith) k)
               (eq-or-lt_of_le l);
         }
-    go (Refused c) p e rest = not-refused e
+    go (Err c) p e rest = not-refused e
 
 -- ---- the book
 
-module _ (b : Bytes) (n : ℕ) (e : read_book b ≡ Records n) where
+module _ (b : Bytes) (n : ℕ) (e : read_book b ≡ Ok n) where
   read : (size_ok b ≡ true) × Read (length b / 32) b 0 n
   unfolding read_book
   read = go (size_ok b) refl e
     where
       go :
           (t : Bool) → size_ok b ≡ t →
-          elim t [ true ↦ read_records (length b / 32) b 0 | false ↦ RefusedAt BookSize 0 ] ≡ Records n →
+          ◌≡◌ {A = BookRead} (elim t [ true ↦ read_records (length b / 32) b 0 | false ↦ refused_at BookSize 0 ]) (Ok n) →
           (size_ok b ≡ true) × Read (length b / 32) b 0 n
       go true p e = (p, records-read (length b / 32) b 0 n e)
       go false p e = not-refused e

@@ -12,17 +12,14 @@ use lib.ListN.{length, get_or, set, length-set}
 use lib.Seq.{get_or-set_same, get_or-set_other}
 use Rattle.numbers.specs.Bytes.{Bytes}
 use Rattle.terms.specs.Term.{sort, sort_code}
-use Rattle.terms.specs.Book.{record_of, tree, layout_ok, sort_ok, stands, record_read, read_records, read_book}
+use Rattle.terms.specs.Book.{refused_at, record_of, tree, layout_ok, sort_ok, stands, record_read, read_records, read_book}
 use Rattle.terms.specs.Book.{put_sorts, SortsBelow}
 use Rattle.book.specs.Memory.Sorting.{sorting}
-use Rattle.book.specs.declared.sort.Sorting.{Sorting}
-use Rattle.book.specs.declared.sort.Sorting.TheVariants.{Of, Broken}
 use Rattle.terms.specs.declared.reading.BookRefusal.{BookRefusal}
 use Rattle.terms.specs.declared.reading.BookRefusal.TheVariants.{BookSize, RecordLayout, SortBroken, RecordRepeated}
-use Rattle.terms.specs.declared.reading.BookRead.TheVariants.{Records, RefusedAt}
-use Rattle.terms.specs.declared.reading.RecordRead.{RecordRead}
-use Rattle.terms.specs.declared.reading.RecordRead.TheVariants.{Sorted, Refused}
 use Rattle.book.proofs.RecordSorts.{verdict, sorting-tree}
+use Rattle.std.specs.Prelude.{Option, Some, None, Ok, Err}
+use Rattle.terms.specs.Book.{RecordRead}
 
 -- ---- a record
 
@@ -30,11 +27,11 @@ use Rattle.book.proofs.RecordSorts.{verdict, sorting-tree}
 found : Bool → Bool → Bool → ℕ → RecordRead
 found l s e n =
     elim l [
-      | false ↦ Refused RecordLayout
+      | false ↦ Err RecordLayout
       | true ↦
           elim s [
-            | false ↦ Refused SortBroken
-            | true ↦ elim e [ true ↦ Refused RecordRepeated | false ↦ Sorted n ]
+            | false ↦ Err SortBroken
+            | true ↦ elim e [ true ↦ Err RecordRepeated | false ↦ Ok n ]
           ]
     ]
 
@@ -45,14 +42,14 @@ record_found :
 unfolding record_read found
 record_found b i = refl
 
-found-equal : (e : Bool) (n : ℕ) → cond e (Refused RecordRepeated) (Sorted n) ≡ found true true e n
+found-equal : (e : Bool) (n : ℕ) → cond e (Err RecordRepeated) (Ok n) ≡ found true true e n
 unfolding found
 found-equal true n = refl
 found-equal false n = refl
 
 -- a record that has a sort passed the three tests
 found-sorted :
-    (l s e : Bool) (m n : ℕ) → found l s e m ≡ Sorted n → (l ≡ true) × (s ≡ true) × (e ≡ false) × (n ≡ m)
+    (l s e : Bool) (m n : ℕ) → found l s e m ≡ Ok n → (l ≡ true) × (s ≡ true) × (e ≡ false) × (n ≡ m)
 unfolding found
 found-sorted false s e m n h = (cc, cc, cc, cc)
 found-sorted true false e m n h = (refl, cc, cc, cc)
@@ -60,39 +57,39 @@ found-sorted true true true m n h = (refl, refl, cc, cc)
 found-sorted true true false m n h = (refl, refl, refl, cc)
 
 pub record_sorted :
-    (b : Bytes) (i n : ℕ) → record_read b i ≡ Sorted n →
+    (b : Bytes) (i n : ℕ) → record_read b i ≡ Ok n →
     (layout_ok i (record_of b i) ≡ true) × (sort_ok (tree b i) ≡ true) × (stands i b (record_of b i) ≡ false)
     × (n ≡ sort_code (sort (tree b i)))
 record_sorted b i n h = found-sorted _ _ _ _ n (sym (record_found b i) ∙ h)
 
-told : (t : Bool) (m n : ℕ) → Of n ≡ cond t (Of m) Broken → (t ≡ true) × (n ≡ m)
+told : (t : Bool) (m n : ℕ) → Some n ≡ cond t (Some m) None → (t ≡ true) × (n ≡ m)
 told true m n h = (refl, cc)
 told false m n h = (cc, cc)
 
-broken : (t : Bool) (m : ℕ) → Broken ≡ cond t (Of m) Broken → t ≡ false
+broken : (t : Bool) (m : ℕ) → None ≡ cond t (Some m) None → t ≡ false
 broken true m h = cc
 broken false m h = refl
 
 -- what the code knows of record i once it has looked at the layout and has the sort s
-pub record Judged (b : Bytes) (i : ℕ) (s : Sorting) : Type 0 where
+pub record Judged (b : Bytes) (i : ℕ) (s : Option ℕ) : Type 0 where
   pub layout : layout_ok i (record_of b i) ≡ true
   pub sorts : s ≡ verdict (tree b i)
 
 -- r has the record's bytes, and l says whether its layout is right
 module _ (b : Bytes) (i : ℕ) (r : Bytes) (is : r ≡ record_of b i) (l : Bool) (layout : l ≡ layout_ok i r) where
-  pub judged : (w : Bytes) → SortsBelow i b w → l ≡ true → (s : Sorting) → s ≡ sorting i w r → Judged b i s
+  pub judged : (w : Bytes) → SortsBelow i b w → l ≡ true → (s : Option ℕ) → s ≡ sorting i w r → Judged b i s
   judged w below ok s sorts =
       let right : layout_ok i (record_of b i) ≡ true = cc in
       record { layout = right; sorts = sorts ∙ ap (sorting i w) is ∙ sorting-tree b i w below right }
 
-  pub refused-layout : l ≡ false → Refused RecordLayout ≡ record_read b i
+  pub refused-layout : l ≡ false → Err RecordLayout ≡ record_read b i
   unfolding found
   refused-layout bad =
       let wrong : layout_ok i (record_of b i) ≡ false = cc in
       rw (record_found b i, wrong)
 
-module _ (b : Bytes) (i : ℕ) (s : Sorting) (judge : Judged b i s) where
-  pub refused-sort : s ≡ Broken → Refused SortBroken ≡ record_read b i
+module _ (b : Bytes) (i : ℕ) (s : Option ℕ) (judge : Judged b i s) where
+  pub refused-sort : s ≡ None → Err SortBroken ≡ record_read b i
   unfolding found
   refused-sort h =
       let wrong : sort_ok (tree b i) ≡ false = broken _ _ (sym h ∙ judge.sorts) in
@@ -100,8 +97,8 @@ module _ (b : Bytes) (i : ℕ) (s : Sorting) (judge : Judged b i s) where
 
   -- e says whether an equal record stands before
   pub sorted-once :
-      (n : ℕ) → s ≡ Of n → (e : Bool) → e ≡ stands i b (record_of b i) → (t : Bool) → e ≡ t →
-      cond t (Refused RecordRepeated) (Sorted n) ≡ record_read b i
+      (n : ℕ) → s ≡ Some n → (e : Bool) → e ≡ stands i b (record_of b i) → (t : Bool) → e ≡ t →
+      cond t (Err RecordRepeated) (Ok n) ≡ record_read b i
   sorted-once n of e standing t h =
       let known = told (sort_ok (tree b i)) (sort_code (sort (tree b i))) n (sym of ∙ judge.sorts) in
       let stood : stands i b (record_of b i) ≡ t = cc in
@@ -126,7 +123,7 @@ below_next P i below here j h = go (eqb j i) refl
     go false e = let other : j ≢ i = eqb-false j i e in below j (omega arith)
 
 sorts-below-more :
-    (b w : Bytes) (i n : ℕ) → i < length w → SortsBelow i b w → record_read b i ≡ Sorted n →
+    (b w : Bytes) (i n : ℕ) → i < length w → SortsBelow i b w → record_read b i ≡ Ok n →
     SortsBelow (i + 1) b (set w i n)
 sorts-below-more b w i n h below e =
     let known = record_sorted b i n e in
@@ -141,12 +138,12 @@ sorts-below-more b w i n h below e =
 -- ---- the book
 
 read_more :
-    (b : Bytes) (m i n : ℕ) → record_read b i ≡ Sorted n → read_records (suc m) b i ≡ read_records m b (i + 1)
+    (b : Bytes) (m i n : ℕ) → record_read b i ≡ Ok n → read_records (suc m) b i ≡ read_records m b (i + 1)
 unfolding read_records
 read_more b m i n e = rw (e, read_records)
 
 read-refused :
-    (b : Bytes) (m i : ℕ) (k : BookRefusal) → record_read b i ≡ Refused k → read_records (suc m) b i ≡ RefusedAt k i
+    (b : Bytes) (m i : ℕ) (k : BookRefusal) → record_read b i ≡ Err k → read_records (suc m) b i ≡ refused_at k i
 unfolding read_records
 read-refused b m i k e = rw (e, read_records)
 
@@ -165,14 +162,14 @@ reading_none b w n =
     record { inside = omega arith; below = sorts-below_none b (put_sorts 0 b w); left = rw all }
 
 -- record i is read, and s is its sort
-module _ (b w : Bytes) (i s : ℕ) (r : RecordRead) (is : r ≡ record_read b i) (sorted : r ≡ Sorted s) where
+module _ (b w : Bytes) (i s : ℕ) (r : RecordRead) (is : r ≡ record_read b i) (sorted : r ≡ Ok s) where
   pub put-sort : set (put_sorts i b w) i s ≡ put_sorts (i + 1) b w
   unfolding put_sorts
   put-sort = rw add-one (ap (set (put_sorts i b w) i) (record_sorted b i s (sym is ∙ sorted)).3)
 
   pub reading-more : (n : ℕ) → Reading b w n i → i < n → i < length w → Reading b w n (i + 1)
   reading-more n reading h room =
-      let e : record_read b i ≡ Sorted s = sym is ∙ sorted in
+      let e : record_read b i ≡ Ok s = sym is ∙ sorted in
       let v : Bytes = put_sorts i b w in
       record {
         inside = omega arith;
@@ -186,11 +183,11 @@ sized : (b : Bytes) → length b % 32 ≡ 0 → length b / 32 ≤ 2048 → read_
 unfolding read_book
 sized b whole few = rw (eq-eqb _ _ whole, le-leb _ _ few, read_book)
 
-pub refused-whole : (b : Bytes) → (length b % 32 ≡ 0 → ⊥) → RefusedAt BookSize 0 ≡ read_book b
+pub refused-whole : (b : Bytes) → (length b % 32 ≡ 0 → ⊥) → refused_at BookSize 0 ≡ read_book b
 unfolding read_book
 refused-whole b h = rw (ne_eqb _ _ h, read_book)
 
-pub refused-count : (b : Bytes) → 2048 < length b / 32 → RefusedAt BookSize 0 ≡ read_book b
+pub refused-count : (b : Bytes) → 2048 < length b / 32 → refused_at BookSize 0 ≡ read_book b
 unfolding read_book
 refused-count b h = rw (lt-leb _ _ h, and-false (eqb (length b % 32) 0), read_book)
 
@@ -198,16 +195,16 @@ module _ (b w : Bytes) (i : ℕ) (whole : length b % 32 ≡ 0) (few : length b /
     (reading : Reading b w (length b / 32) i)
   where
     pub reading-refused :
-        i < length b / 32 → (k : BookRefusal) (r : RecordRead) → r ≡ record_read b i → r ≡ Refused k →
-        RefusedAt k i ≡ read_book b
+        i < length b / 32 → (k : BookRefusal) (r : RecordRead) → r ≡ record_read b i → r ≡ Err k →
+        refused_at k i ≡ read_book b
     reading-refused h k r is refused =
         sym
         (sized b whole few ∙ reading.left ∙ ap (λ m. read_records m b i) (one_less _ i h)
         ∙ read-refused b _ i k (sym is ∙ refused))
 
-    pub reading-done : length b / 32 ≤ i → Records (length b / 32) ≡ read_book b
+    pub reading-done : length b / 32 ≤ i → Ok (length b / 32) ≡ read_book b
     unfolding read_records
     reading-done h =
         let all : i ≡ length b / 32 = omega (arith, reading.inside) in
         let none : length b / 32 - i ≡ 0 = omega arith in
-        sym (sized b whole few ∙ reading.left ∙ ap (λ m. read_records m b i) none ∙ ap Records all)
+        sym (sized b whole few ∙ reading.left ∙ ap (λ m. read_records m b i) none ∙ ap Ok all)

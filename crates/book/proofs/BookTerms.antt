@@ -16,13 +16,13 @@ use Rattle.terms.specs.Term.Terms.{nil, ◌▹◌}
 use Rattle.terms.specs.Book.{record_of, kind}
 use Rattle.terms.specs.Book.{numbers, arg_bytes, arguments, forest, tree, all_below, read_book}
 use Rattle.terms.specs.Smtlib.{even_div, divs_even, all_divs_even}
-use Rattle.terms.specs.declared.reading.BookRead.TheVariants.{Records}
 use Rattle.terms.proofs.NumberedNodes.{node_is, record_number-tree}
 use Rattle.terms.proofs.Trees.{tree-node}
 use Rattle.numbers.proofs.Truths.{both}
 use Rattle.book.proofs.Accepted.{accepted-layout}
 use Rattle.terms.proofs.Nodes.{Laid, an_integer, a_rational, a_vector, an_atom, an_operation, laid}
 use Rattle.book.proofs.WellFormed.{WellFormed, operates, well_formed}
+use Rattle.std.specs.Prelude.{Ok}
 
 abbrev pub Each : (Term → Type 0) → Terms → Type 0
 Each P nil = Unit {0}
@@ -84,7 +84,7 @@ laid-below i r (a_vector k e) h = absurd (omega arith)
 laid-below i r (an_atom k e) h = absurd (omega arith)
 laid-below i r (an_operation k e) h = (operates i r e).below
 
-module _ (b : Bytes) (n : ℕ) (e : read_book b ≡ Records n) where
+module _ (b : Bytes) (n : ℕ) (e : read_book b ≡ Ok n) where
   book-below : (i o : ℕ) (ts : Terms) → OfBook b n (op i o ts) → Each (OfBook b n) ts
   book-below i o ts h =
       let j = h.number in

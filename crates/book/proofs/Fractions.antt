@@ -4,7 +4,7 @@
 use mathlib.Core.Path.{◌≡◌, refl, sym, ◌∙◌, ap, subst}
 use mathlib.Core.Bool.{Bool, false, cond}
 use mathlib.Core.Logic.{◌⊎◌, inl, inr, ⊎_elim}
-use mathlib.Core.Option.{Option, some, none}
+use Rattle.std.specs.Prelude.{Option, Some, None}
 use Prim.Native.Nat.{ℕ, ◌<◌}
 use Rattle.numbers.specs.Bytes.{Bytes}
 use Rattle.numbers.specs.Pair.{neg_p, inv_p, div_p, ◌≈◌}
@@ -20,15 +20,15 @@ use Rattle.terms.specs.Readers.{unbounded, ranged, as_number, negated, as_signed
 use Rattle.terms.specs.Readers.{as_unsigned_fraction, as_fraction}
 use Rattle.terms.specs.Book.{tree, read_book}
 use Rattle.terms.specs.Smtlib.{Meant, number, Assignment, as_pair, given, value, meaning}
-use Rattle.terms.specs.declared.reading.BookRead.TheVariants.{Records}
-use Rattle.terms.specs.declared.term.Reading.{Reading}
-use Rattle.terms.specs.declared.term.Reading.TheVariants.{Value, NotNumber, OutOfRange}
 use Rattle.numbers.proofs.Pairs.{≈_trans, mul_resp, neg_resp}
 use Rattle.numbers.proofs.LowestTerms.{whole_is_lowest}
 use Rattle.numbers.proofs.Rationals.{whole-value, neg_value, neg-lowest, div_value, div-lowest}
 use Rattle.terms.proofs.Readings.{by_option, not-number, out_of_range, unary-shape, binary-shape}
 use Rattle.terms.proofs.Readings.{ranged-unbounded, Quotient, quotient, signed-fraction, div-reading}
 use Rattle.book.proofs.WellFormed.{WellFormed, well_formed}
+use Rattle.std.specs.Prelude.{Ok, Err}
+use Rattle.terms.specs.Readers.{Reading}
+use Rattle.terms.specs.declared.term.NotRead.TheVariants.{NotNumber, OutOfRange}
 
 -- ---- what a reading says of the term
 
@@ -36,7 +36,7 @@ pub record Means (t : Term) (q : Rational) : Type 0 where
   pub lowest : Lowest q
   pub meant : (ρ : Assignment) → as_pair (value ρ t) ≈ Rational.value q
 
-number_means : (t : Term) → WellFormed t → (q : Rational) → as_number t ≡ Value q → Means t q
+number_means : (t : Term) → WellFormed t → (q : Rational) → as_number t ≡ Ok q → Means t q
 unfolding WellFormed as_number value
 number_means (integer i v) w q e =
     let h : whole v ≡ q = cc in
@@ -48,7 +48,7 @@ number_means (atom i s n) w q e = not-number e
 number_means (op i o ts) w q e = not-number e
 
 -- the opposite of what the one argument means
-negation_means : (t x : Term) → unary Sub t ≡ some x → (q : Rational) → Means x q → Means t (neg_q q)
+negation_means : (t x : Term) → unary Sub t ≡ Some x → (q : Rational) → Means x q → Means t (neg_q q)
 unfolding value meaning when◌then◌else◌
 negation_means t x u q m =
     subst (λ (t : Term). Means t (neg_q q)) (sym (unary-shape Sub t x u))
@@ -59,26 +59,26 @@ negation_means t x u q m =
           (neg_resp (as_pair (value ρ x)) (Rational.value q) (m.meant ρ)) (sym (neg_value q m.lowest));
     })
 
-argument : (o : ℕ) (t x : Term) → unary o t ≡ some x → WellFormed t → WellFormed x
+argument : (o : ℕ) (t x : Term) → unary o t ≡ Some x → WellFormed t → WellFormed x
 unfolding WellFormed
 argument o t x u w = (subst WellFormed (unary-shape o t x u) w).1.0
 
 operands :
-    (o : ℕ) (t : Term) (p : Term × Term) → binary o t ≡ some p → WellFormed t →
+    (o : ℕ) (t : Term) (p : Term × Term) → binary o t ≡ Some p → WellFormed t →
     WellFormed p.0 × WellFormed p.1
 unfolding WellFormed
 operands o t p u w = let h = (subst WellFormed (binary-shape o t p u) w).1 in (h.0, h.1.0)
 
 module _ (t : Term) (w : WellFormed t) where
   negated_means :
-      (x : Term) → unary Sub t ≡ some x → (r : Reading) → ((q : Rational) → r ≡ Value q → Means x q) →
-      (q : Rational) → negated r ≡ Value q → Means t q
-  negated_means x u (Value p) m q e =
+      (x : Term) → unary Sub t ≡ Some x → (r : Reading) → ((q : Rational) → r ≡ Ok q → Means x q) →
+      (q : Rational) → negated r ≡ Ok q → Means t q
+  negated_means x u (Ok p) m q e =
       let h : neg_q p ≡ q = cc in subst (Means t) h (negation_means t x u p (m p refl))
-  negated_means x u NotNumber m q e = not-number e
-  negated_means x u OutOfRange m q e = out_of_range e
+  negated_means x u (Err NotNumber) m q e = not-number e
+  negated_means x u (Err OutOfRange) m q e = out_of_range e
 
-  signed_means : (q : Rational) → as_signed_number t ≡ Value q → Means t q
+  signed_means : (q : Rational) → as_signed_number t ≡ Ok q → Means t q
   unfolding as_signed_number
   signed_means q =
       by_option (unary Sub t) _ _ _ (λ x u. negated_means x u (as_number x) (number_means x (argument Sub t x u w)) q)
@@ -87,25 +87,25 @@ module _ (t : Term) (w : WellFormed t) where
 -- ---- what a quotient means
 
 pub int-div-value :
-    (ρ : Assignment) (i : ℕ) (ts : Terms) (q : Rational) → as_fraction unbounded (op i IntDiv ts) ≡ Value q →
+    (ρ : Assignment) (i : ℕ) (ts : Terms) (q : Rational) → as_fraction unbounded (op i IntDiv ts) ≡ Ok q →
     value ρ (op i IntDiv ts) ≡ number (Rational.value q)
 unfolding value meaning when◌then◌else◌
 int-div-value ρ i ts q =
-    ap (λ (r : Reading). elim r as (λ x. Meant) [ Value q ↦ number (Rational.value q) | NotNumber ↦ given ρ i int | OutOfRange ↦ given ρ i int ])
+    ap (λ (r : Reading). elim r as (λ x. Meant) [ Ok q ↦ number (Rational.value q) | Err NotNumber ↦ given ρ i int | Err OutOfRange ↦ given ρ i int ])
 
 module _ (ρ : Assignment) (i : ℕ) (a b : Term) (d : Rational) where
   over-divisor : Option Rational → Meant
-  over-divisor o = elim o [ some q ↦ number (div_p (as_pair (value ρ a)) (Rational.value q)) | none ↦ given ρ i real ]
+  over-divisor o = elim o [ Some q ↦ number (div_p (as_pair (value ρ a)) (Rational.value q)) | None ↦ given ρ i real ]
 
   pub real-div-value :
-      as_fraction unbounded b ≡ Value d → is_zero d ≡ false →
+      as_fraction unbounded b ≡ Ok d → is_zero d ≡ false →
       value ρ (op i RealDiv (a ▹ b ▹ nil)) ≡ number (div_p (as_pair (value ρ a)) (Rational.value d))
   unfolding value meaning when◌then◌else◌ over-divisor
   real-div-value e z =
-      ap (λ (r : Reading). over-divisor (elim r as (λ x. Option Rational) [ Value q ↦ cond (is_zero q) none (some q) | NotNumber ↦ none | OutOfRange ↦ none ])) e
-      ∙ ap (λ (t : Bool). over-divisor (cond t none (some d))) z
+      ap (λ (r : Reading). over-divisor (elim r as (λ x. Option Rational) [ Ok q ↦ cond (is_zero q) None (Some q) | Err NotNumber ↦ None | Err OutOfRange ↦ None ])) e
+      ∙ ap (λ (t : Bool). over-divisor (cond t None (Some d))) z
 
-module _ (a b : Term) (wa : WellFormed a) (wb : WellFormed b) (q : Rational) (e : divided unbounded a (as_signed_number b) ≡ Value q) where
+module _ (a b : Term) (wa : WellFormed a) (wb : WellFormed b) (q : Rational) (e : divided unbounded a (as_signed_number b) ≡ Ok q) where
   of : Quotient a b q
   of = quotient a b q e
 
@@ -144,20 +144,20 @@ module _ (a b : Term) (wa : WellFormed a) (wb : WellFormed b) (q : Rational) (e 
 
 -- a quotient is a div or a /
 quotient-cases :
-    (t : Term) (p : Term × Term) → quotient_of t ≡ some p →
-    (binary IntDiv t ≡ some p) ⊎ (binary RealDiv t ≡ some p)
+    (t : Term) (p : Term × Term) → quotient_of t ≡ Some p →
+    (binary IntDiv t ≡ Some p) ⊎ (binary RealDiv t ≡ Some p)
 unfolding quotient_of
-quotient-cases t p = by_option (binary IntDiv t) some (binary RealDiv t) (some p) (λ r u e. inl (u ∙ e)) (λ u e. inr e)
+quotient-cases t p = by_option (binary IntDiv t) Some (binary RealDiv t) (Some p) (λ r u e. inl (u ∙ e)) (λ u e. inr e)
 
 module _ (t : Term) (w : WellFormed t) (q : Rational) where
   quotient_means :
-      (o : ℕ) (p : Term × Term) → binary o t ≡ some p →
+      (o : ℕ) (p : Term × Term) → binary o t ≡ Some p →
       (WellFormed p.0 → WellFormed p.1 → (i : ℕ) → Means (op i o (p.0 ▹ p.1 ▹ nil)) q) → Means t q
   quotient_means o p u m =
       let h = operands o t p u w in
       subst (λ (t : Term). Means t q) (sym (binary-shape o t p u)) (m h.0 h.1 (record_number t))
 
-  unsigned_means : as_unsigned_fraction unbounded t ≡ Value q → Means t q
+  unsigned_means : as_unsigned_fraction unbounded t ≡ Ok q → Means t q
   unfolding as_unsigned_fraction
   unsigned_means =
       by_option (quotient_of t) _ _ _
@@ -166,7 +166,7 @@ module _ (t : Term) (w : WellFormed t) (q : Rational) where
       (λ v. quotient_means RealDiv p v (λ a b. real-div_means p.0 p.1 a b q e)) (quotient-cases t p u))
       (λ u. number_means t w q)
 
-pub fraction_means : (t : Term) → WellFormed t → (q : Rational) → as_fraction unbounded t ≡ Value q → Means t q
+pub fraction_means : (t : Term) → WellFormed t → (q : Rational) → as_fraction unbounded t ≡ Ok q → Means t q
 unfolding as_fraction
 fraction_means t w q =
     by_option (unary Sub t) _ _ _
@@ -174,13 +174,13 @@ fraction_means t w q =
     (λ u. unsigned_means t w q)
 
 pub as_fraction-value :
-    (t : Term) → WellFormed t → (q : Rational) → as_fraction unbounded t ≡ Value q → (ρ : Assignment) →
+    (t : Term) → WellFormed t → (q : Rational) → as_fraction unbounded t ≡ Ok q → (ρ : Assignment) →
     (as_pair (value ρ t) ≈ Rational.value q) × Lowest q
 as_fraction-value t w q e ρ = let m = fraction_means t w q e in (m.meant ρ, m.lowest)
 
 -- a record of a book that is read without a refusal, read in document 01's range
 pub record_fraction-value :
-    (b : Bytes) (n : ℕ) → read_book b ≡ Records n → (i : ℕ) → i < n → (q : Rational) →
-    as_fraction ranged (tree b i) ≡ Value q → (ρ : Assignment) →
+    (b : Bytes) (n : ℕ) → read_book b ≡ Ok n → (i : ℕ) → i < n → (q : Rational) →
+    as_fraction ranged (tree b i) ≡ Ok q → (ρ : Assignment) →
     (as_pair (value ρ (tree b i)) ≈ Rational.value q) × Lowest q
 record_fraction-value b n r i h q e = as_fraction-value (tree b i) (well_formed b n r i h) q (ranged-unbounded (tree b i) q e)

@@ -12,17 +12,15 @@ use lib.Dec.{eqb, ltb}
 use lib.ListN.{length, get_or, set, length-set}
 use lib.Seq.{ext_get_or, get_or-set_same, get_or-set_other}
 use Rattle.numbers.specs.Bytes.{Bytes}
-use Rattle.terms.specs.Book.{record_read, read_book, records_read, put_sorts, SortsBelow, BookDone}
+use Rattle.terms.specs.Book.{refused_at, record_read, read_book, records_read, put_sorts, SortsBelow, BookDone}
 use Rattle.book.specs.Memory.RecordIndex.{Indexed, Unused, Beside, BookLeft}
 use Rattle.terms.specs.declared.reading.BookRefusal.{BookRefusal}
 use Rattle.terms.specs.declared.reading.BookRefusal.TheVariants.{BookSize}
-use Rattle.terms.specs.declared.reading.BookRead.{BookRead}
-use Rattle.terms.specs.declared.reading.BookRead.TheVariants.{Records, RefusedAt}
-use Rattle.terms.specs.declared.reading.RecordRead.{RecordRead}
-use Rattle.terms.specs.declared.reading.RecordRead.TheVariants.{Sorted, Refused}
 use Rattle.book.proofs.RecordChains.{beside_same, indexed_elsewhere, indexed_none}
 use Rattle.book.proofs.BookReading.{Reading, length-put_sorts, put-sort, reading_none, reading-more}
 use Rattle.book.proofs.BookReading.{reading-refused, reading-done, refused-whole, refused-count}
+use Rattle.terms.specs.Book.{BookRead, RecordRead}
+use Rattle.std.specs.Prelude.{Ok, Err}
 
 -- ---- the loop
 
@@ -63,7 +61,7 @@ module _ (b w₀ : Bytes) (n : ℕ) (w : Bytes) (i : ℕ) (indexing : Indexing b
       indexing.indexed
 
   pub indexing_more :
-      i < n → (s : ℕ) (r : RecordRead) → r ≡ record_read b i → r ≡ Sorted s →
+      i < n → (s : ℕ) (r : RecordRead) → r ≡ record_read b i → r ≡ Ok s →
       (w' : Bytes) → Indexed (i + 1) b w' → Beside w' (set w i s) → Indexing b w₀ n w' (i + 1)
   indexing_more h s r is sorted w' indexed beside =
       let v : Bytes = put_sorts i b w₀ in
@@ -95,22 +93,22 @@ module _ (b w₀ : Bytes) (n : ℕ) (w : Bytes) (i : ℕ) (indexing : Indexing b
 
 -- ---- the answers
 
-left-size : (b w : Bytes) → RefusedAt BookSize 0 ≡ read_book b → BookLeft b w w (RefusedAt BookSize 0)
+left-size : (b w : Bytes) → refused_at BookSize 0 ≡ read_book b → BookLeft b w w (refused_at BookSize 0)
 unfolding put_sorts
 left-size b w is = record { is = is; few = omega arith; sorts = beside_same w }
 
-pub left-odd : (b w : Bytes) → (length b % 32 ≡ 0 → ⊥) → BookLeft b w w (RefusedAt BookSize 0)
+pub left-odd : (b w : Bytes) → (length b % 32 ≡ 0 → ⊥) → BookLeft b w w (refused_at BookSize 0)
 left-odd b w h = left-size b w (refused-whole b h)
 
-pub left-many : (b w : Bytes) → 2048 < length b / 32 → BookLeft b w w (RefusedAt BookSize 0)
+pub left-many : (b w : Bytes) → 2048 < length b / 32 → BookLeft b w w (refused_at BookSize 0)
 left-many b w h = left-size b w (refused-count b h)
 
 module _ (b w₀ w : Bytes) (i : ℕ) (whole : length b % 32 ≡ 0) (few : length b / 32 ≤ 2048)
     (indexing : Indexing b w₀ (length b / 32) w i)
   where
     pub left-refused :
-        i < length b / 32 → (k : BookRefusal) (r : RecordRead) → r ≡ record_read b i → r ≡ Refused k →
-        BookLeft b w₀ w (RefusedAt k i)
+        i < length b / 32 → (k : BookRefusal) (r : RecordRead) → r ≡ record_read b i → r ≡ Err k →
+        BookLeft b w₀ w (refused_at k i)
     left-refused h k r is refused =
         record {
           is = reading-refused b w₀ i whole few indexing.reading h k r is refused;
@@ -118,7 +116,7 @@ module _ (b w₀ w : Bytes) (i : ℕ) (whole : length b % 32 ≡ 0) (few : lengt
           sorts = indexing.beside;
         }
 
-    pub left-done : length b / 32 ≤ i → BookLeft b w₀ w (Records (length b / 32))
+    pub left-done : length b / 32 ≤ i → BookLeft b w₀ w (Ok (length b / 32))
     left-done h =
         let all : i ≡ length b / 32 = omega (arith, indexing.reading.inside) in
         record {

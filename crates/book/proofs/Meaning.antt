@@ -4,7 +4,7 @@
 use mathlib.Core.Path.{◌≡◌, refl, subst}
 use mathlib.Core.Bool.{Bool, true, false, ◌&&◌}
 use mathlib.Core.List.{List, [], ◌∷◌}
-use mathlib.Core.Option.{Option, some, none}
+use Rattle.std.specs.Prelude.{Option, Some, None}
 use Prim.Native.Nat.{ℕ, ◌+◌, ◌^◌, ◌<◌}
 use native.Mathlib.Nat.{mod-lt}
 use native.Mathlib.Omega.{arith}
@@ -26,9 +26,6 @@ use Rattle.terms.specs.Book.{tree, read_book}
 use Rattle.terms.specs.Smtlib.{Meant, truth, number, vector, Assignment, given, as_pair, OfSort, width_of, reduce}
 use Rattle.terms.specs.Smtlib.{minus, first_of, sum_z, product_z, difference_z, opposite_z, div_m, divisor, real_div_m}
 use Rattle.terms.specs.Smtlib.{meaning, value, values, even, even_div, divs_even, all_divs_even}
-use Rattle.terms.specs.declared.reading.BookRead.TheVariants.{Records}
-use Rattle.terms.specs.declared.term.Reading.{Reading}
-use Rattle.terms.specs.declared.term.Reading.TheVariants.{Value, NotNumber, OutOfRange}
 use Rattle.numbers.proofs.Rationals.{whole-value, is_integer-whole}
 use Rattle.numbers.proofs.Truths.{both, never}
 use Rattle.numbers.proofs.Modulo.{modulo_lt, two_pow_pos}
@@ -36,6 +33,9 @@ use Rattle.book.proofs.WellFormed.{WellFormed, AllWellFormed, Operation, well_fo
 use Rattle.terms.proofs.Readings.{Quotient, quotient, not-number}
 use Rattle.terms.proofs.Operators.{by_operator}
 use Rattle.terms.proofs.Whole.{Whole, AllWhole, whole_sum, whole-product, whole-minus}
+use Rattle.std.specs.Prelude.{Ok, Err}
+use Rattle.terms.specs.Readers.{Reading}
+use Rattle.terms.specs.declared.term.NotRead.TheVariants.{NotNumber, OutOfRange}
 
 -- ---- values of Int arguments are whole
 
@@ -99,7 +99,7 @@ div-whole a b q h e =
     (q.num, rw same (whole-value q.num))
 
 div-reading-whole :
-    (i : ℕ) (ts : Terms) (q : Rational.Rational) → as_fraction unbounded (op i IntDiv ts) ≡ Value q →
+    (i : ℕ) (ts : Terms) (q : Rational.Rational) → as_fraction unbounded (op i IntDiv ts) ≡ Ok q →
     even_div IntDiv ts ≡ true → Whole (Rational.value q)
 unfolding as_fraction as_unsigned_fraction quotient_of unary binary as_number
 div-reading-whole i nil q f e = not-number f
@@ -113,19 +113,19 @@ div_of_sort ρ i ts e = go (as_fraction unbounded (op i IntDiv ts)) refl
   where
     go :
         (r : Reading) → as_fraction unbounded (op i IntDiv ts) ≡ r →
-        OfSort int (elim r as (λ x. Meant) [ Value q ↦ number (Rational.value q) | NotNumber ↦ given ρ i int | OutOfRange ↦ given ρ i int ])
-    go (Value q) f = div-reading-whole i ts q f e
-    go NotNumber f = (ρ.integers i, refl)
-    go OutOfRange f = (ρ.integers i, refl)
+        OfSort int (elim r as (λ x. Meant) [ Ok q ↦ number (Rational.value q) | Err NotNumber ↦ given ρ i int | Err OutOfRange ↦ given ρ i int ])
+    go (Ok q) f = div-reading-whole i ts q f e
+    go (Err NotNumber) f = (ρ.integers i, refl)
+    go (Err OutOfRange) f = (ρ.integers i, refl)
 
 real-div_of_sort : (ρ : Assignment) (i : ℕ) (ts : Terms) → OfSort real (real_div_m ρ i ts (values ρ ts))
 real-div_of_sort ρ i ts = go (divisor ts)
   where
     go :
         (o : Option Rational.Rational) →
-        OfSort real (elim o as (λ x. Meant) [ some q ↦ number (div_p (as_pair (first_of (values ρ ts))) (Rational.value q)) | none ↦ given ρ i real ])
-    go (some q) = tt
-    go none = tt
+        OfSort real (elim o as (λ x. Meant) [ Some q ↦ number (div_p (as_pair (first_of (values ρ ts))) (Rational.value q)) | None ↦ given ρ i real ])
+    go (Some q) = tt
+    go None = tt
 
 -- ---- every operator
 
@@ -185,6 +185,6 @@ mutual
 
 -- every term of a book that is read without a refusal
 pub record_of_sort :
-    (b : Bytes) (n : ℕ) → read_book b ≡ Records n → (i : ℕ) → i < n → divs_even (tree b i) ≡ true →
+    (b : Bytes) (n : ℕ) → read_book b ≡ Ok n → (i : ℕ) → i < n → divs_even (tree b i) ≡ true →
     (ρ : Assignment) → OfSort (sort (tree b i)) (value ρ (tree b i))
 record_of_sort b n r i h = value_of_sort (tree b i) (well_formed b n r i h)

@@ -1,5 +1,4 @@
 -- The index of records, by its chains.
---   Hashing: the loop over a record's bytes computes the number of its chain.
 --   Searching: the loop along a chain. Every equal record is still ahead on it, so at its end there is none.
 --   entered_all: once a record is entered, the index holds one record more, and the bytes beside it are the same.
 --   emptied: the bytes of the index are 0, and those beside it the same.
@@ -7,15 +6,14 @@ use mathlib.Core.Path.{◌≡◌, refl, sym, ◌∙◌, ap}
 use mathlib.Core.Bool.{Bool, true, false}
 use mathlib.Core.Logic.{◌≢◌, ◌⊎◌, ⊎_elim, inl, inr}
 use mathlib.Core.List.{[], ◌∷◌, ◌++◌}
-use Prim.Native.Nat.{ℕ, zero, suc, ◌+◌, ◌*◌, ◌-◌, ◌/◌, ◌%◌, ◌≤◌, ◌<◌}
-use native.Mathlib.Numerals.{add-one}
+use Prim.Native.Nat.{ℕ, zero, suc, ◌+◌, ◌*◌, ◌-◌, ◌%◌, ◌≤◌, ◌<◌}
 use native.Mathlib.Omega.{arith}
 use borrow.Author.Tests.{eqb-true, eqb-false, ltb-true, ltb-false}
 use lib.Dec.{eqb, ltb}
 use lib.ListN.{length, get_or, take, drop, replicate, length-append, length-drop, length-replicate}
-use lib.ListN.{get_or-replicate, drop_of_length-le, get_or-append, get_or-eq_default}
-use lib.Seq.{drop-cons, length-take-le, get_or-take, get_or-drop, get_or-append-add}
-use Rattle.numbers.specs.Bytes.{Bytes, same_bytes, zeroed_from, digits, put}
+use lib.ListN.{get_or-replicate, get_or-append, get_or-eq_default}
+use lib.Seq.{length-take-le, get_or-take, get_or-drop, get_or-append-add}
+use Rattle.numbers.specs.Bytes.{Bytes, same_bytes, digits, put}
 use Rattle.terms.specs.Book.{record_of, stands}
 use Rattle.book.specs.Memory.RecordIndex.{hash_from, chain, head_of, link_of, On, Indexed, Unused, Beside}
 use Rattle.book.specs.Memory.RecordIndex.On.{here, later}
@@ -23,23 +21,8 @@ use Rattle.numbers.proofs.LittleEndian.{le-inside, le-agree, le-put_elsewhere, b
 use Rattle.numbers.proofs.LittleEndian.{read-after-write-small}
 use Rattle.terms.proofs.RecordBytes.{stands-found}
 use Rattle.numbers.proofs.SameBytes.{same_bytes-true}
-use Rattle.numbers.proofs.ClearedBytes.{cleared-zeros}
 
 -- ---- the hash
-
--- h is the hash of the first k bytes
-pub record Hashing (r : Bytes) (h k : ℕ) : Type 0 where
-  pub small : h < 65536
-  pub is : hash_from 0 r ≡ hash_from h (drop k r)
-
-pub hashing_none : (r : Bytes) → Hashing r 0 0
-hashing_none r = record { small = omega arith; is = refl }
-
-hash_next :
-    (r : Bytes) (h k : ℕ) → k < length r →
-    hash_from h (drop k r) ≡ hash_from ((40503 * h + get_or r k 0) % 65536) (drop (k + 1) r)
-unfolding hash_from
-hash_next r h k short = rw (drop-cons r k 0 short, add-one, hash_from)
 
 hash_below : (r : Bytes) (h : ℕ) → h < 65536 → hash_from h r < 65536
 unfolding hash_from
@@ -49,16 +32,6 @@ hash_below (x ∷ r) h small = hash_below r ((40503 * h + x) % 65536) (omega ari
 pub chain-below : (r : Bytes) → chain r < 1024
 unfolding chain
 chain-below r = omega (arith, hash_below r 0 (omega arith))
-
-module _ (r : Bytes) (h k : ℕ) (hashing : Hashing r h k) where
-  pub hashing_next : k < length r → (x : ℕ) → x ≡ get_or r k 0 → Hashing r ((40503 * h + x) % 65536) (k + 1)
-  hashing_next short x is = rw is (record { small = omega arith; is = hashing.is ∙ hash_next r h k short })
-
-  pub hashing_end : length r ≤ k → (h / 64 ≡ chain r) × (h / 64 < 1024)
-  unfolding chain hash_from
-  hashing_end end =
-      let all : hash_from 0 r ≡ h = hashing.is ∙ ap (hash_from h) (drop_of_length-le r end) in
-      (ap (λ (x : ℕ). x / 64) (sym all), omega (arith, hashing.small))
 
 -- ---- the search
 
@@ -291,12 +264,9 @@ entered_all i b w start r is c chained k first v v' linked entered =
 -- ---- emptying the index
 
 -- the bytes of the index are cleared, and v stands in their place
-module _ (w v : Bytes) (room : 8192 ≤ length w) (cleared : v ≡ zeroed_from 0 (take 6144 (drop 2048 w))) where
+module _ (w v : Bytes) (room : 8192 ≤ length w) (cleared : v ≡ replicate (length (take 6144 (drop 2048 w))) 0) where
   e : v ≡ replicate 6144 0
-  e =
-      let size : length (take 6144 (drop 2048 w)) ≡ 6144 =
-      length-take-le 6144 (drop 2048 w) (simp length-drop (omega arith)) in
-      cleared-zeros (take 6144 (drop 2048 w)) cleared size
+  e = cleared ∙ ap (λ n. replicate n 0) (length-take-le 6144 (drop 2048 w) (simp length-drop (omega arith)))
 
   abbrev left : Bytes
   left = take 2048 w ++ (v ++ drop 6144 (drop 2048 w))

@@ -16,8 +16,6 @@ use Rattle.terms.specs.Term.Sort.{bool, bits}
 use Rattle.terms.specs.Book.{record_of, operator, sort_byte, field2, unused, is_width, atom_sort, numbers, arg_bytes}
 use Rattle.terms.specs.Book.{nothing, earlier, arguments, node, forest, tree, atom_ok, layout_ok, sort_ok, SortsBelow}
 use Rattle.book.specs.Memory.Sorting.{sort_at, arg_sorts, common, sort_rule, width_code, atom_code, sorting}
-use Rattle.book.specs.declared.sort.Sorting.{Sorting}
-use Rattle.book.specs.declared.sort.Sorting.TheVariants.{Of, Broken}
 use Rattle.terms.proofs.Trees.{record_of-outside, tree-node}
 use Rattle.book.proofs.SortCodes.{sorting-operation}
 use Rattle.book.proofs.SortRules.{Wide, AllWide, codes, Coded, both as on_both, either, rule-agrees, wide_gives}
@@ -25,6 +23,7 @@ use Rattle.numbers.proofs.Truths.{both}
 use Rattle.terms.proofs.Nodes.{Laid, an_integer, a_rational, a_vector, an_atom, an_operation, laid, node-integer}
 use Rattle.terms.proofs.Nodes.{node-rational, node-vector, node-atom, node-operation, integer-number}
 use Rattle.terms.proofs.Nodes.{real-number, vector_fields, vector-width}
+use Rattle.std.specs.Prelude.{Option, Some, None}
 
 -- ---- widths
 
@@ -67,8 +66,8 @@ atom_wide r ok =
 -- ---- the sort of a record over its arguments
 
 -- what the code is to find of a term
-abbrev pub verdict : Term → Sorting
-verdict t = cond (sort_ok t) (Of (sort_code (sort t))) Broken
+abbrev pub verdict : Term → Option ℕ
+verdict t = cond (sort_ok t) (Some (sort_code (sort t))) None
 
 module _ (i : ℕ) (r : Bytes) (ts : Terms) where
   record_sorted :
@@ -78,8 +77,8 @@ module _ (i : ℕ) (r : Bytes) (ts : Terms) where
   record_sorted w (an_integer k ok) args wide = rw (node-integer i r ts k (integer-number r ok), k)
   record_sorted w (a_rational k ok) args wide = rw (node-rational i r ts k (real-number r ok).0, k)
   record_sorted w (a_vector k ok) args wide =
-      rw (node-vector i r ts k (vector_fields r ok), k) (ap Of (width-coded r (vector-width r ok)))
-  record_sorted w (an_atom k ok) args wide = rw (node-atom i r ts k, k) (ap Of (atom-coded r ok))
+      rw (node-vector i r ts k (vector_fields r ok), k) (ap Some (width-coded r (vector-width r ok)))
+  record_sorted w (an_atom k ok) args wide = rw (node-atom i r ts k, k) (ap Some (atom-coded r ok))
   record_sorted w (an_operation k ok) args wide =
       sorting-operation i w r k
       ∙ ap (λ l. sort_rule (operator r) (common l)) args

@@ -6,7 +6,7 @@ use mathlib.Core.List.{List, [], ◌∷◌, ◌++◌}
 use Prim.Native.Nat.{ℕ, zero, suc, ◌+◌, ◌*◌, ◌/◌, ◌≤◌, ◌<◌}
 use native.Mathlib.Numerals.{add-one}
 use native.Mathlib.Omega.{arith}
-use borrow.Author.Tests.{le-leb, lt-leb, eq-eqb, ne_eqb}
+use borrow.Author.Tests.{le-leb, lt-leb, ne_eqb}
 use lib.Dec.{leb, eqb}
 use lib.ListN.{length, get_or, take}
 use lib.Seq.{take-suc, take_all}
@@ -15,10 +15,10 @@ use Rattle.numbers.specs.Choice.{when◌then◌else◌}
 use Rattle.terms.specs.Book.{kind, operator, arg_bytes, numbers}
 use Rattle.book.specs.Memory.Sorting.{sort_at, arg_sorts, all_codes, first_code, numeric_code, common, takes_by, gives_by}
 use Rattle.book.specs.Memory.Sorting.{sort_rule, sorting}
-use Rattle.book.specs.declared.sort.Sorting.{Sorting}
 use Rattle.book.specs.declared.sort.ArgSorts.{ArgSorts}
 use Rattle.terms.proofs.RecordBytes.{length-numbers, number_at_lem}
 use Rattle.book.proofs.SortRules.{either}
+use Rattle.std.specs.Prelude.{Option}
 
 -- ---- the case of an operator
 
@@ -51,9 +51,13 @@ module _ (o : ℕ) (c : ArgSorts) where
   unfolding gives_by when◌then◌else◌
   gives-truth h = rw (le-leb o 8 (omega arith))
 
-  pub gives-number : 9 ≤ o → o < 12 → gives_by o c ≡ (when c.int then 2 else 3)
+  pub gives_whole : 9 ≤ o → o < 12 → c.int ≡ true → gives_by o c ≡ 2
   unfolding gives_by when◌then◌else◌
-  gives-number low high = rw (lt-leb o 8 (omega arith), le-leb o 11 (omega arith))
+  gives_whole low high int = rw (lt-leb o 8 (omega arith), le-leb o 11 (omega arith), int)
+
+  pub gives-fraction : 9 ≤ o → o < 12 → c.int ≡ false → gives_by o c ≡ 3
+  unfolding gives_by when◌then◌else◌
+  gives-fraction low high int = rw (lt-leb o 8 (omega arith), le-leb o 11 (omega arith), int)
 
   pub gives-integer : o ≡ 12 → gives_by o c ≡ 2
   unfolding gives_by when◌then◌else◌
@@ -70,6 +74,10 @@ module _ (o : ℕ) (c : ArgSorts) where
       rw (lt-leb o 8 (omega arith), lt-leb o 11 (omega arith))
       (rw (ne_eqb o 12 (λ e. omega arith), lt-leb o 14 (omega arith)))
 
+pub ruleset takes_cases = (takes_logic, takes-equals, takes-numbers, takes-integers, takes-vectors)
+
+pub ruleset gives_cases = (gives-truth, gives_whole, gives-fraction, gives-integer, gives-real, gives_first)
+
 -- ---- the sort of a record that is an operation
 
 pub sorting-operation :
@@ -79,7 +87,7 @@ unfolding sorting when◌then◌else◌
 sorting-operation i w r e = rw e
 
 pub operation-sorted :
-    (i : ℕ) (w r : Bytes) (k o : ℕ) (args : Bytes) (c : ArgSorts) (s : Sorting) → k ≡ kind r → k ≡ 5 →
+    (i : ℕ) (w r : Bytes) (k o : ℕ) (args : Bytes) (c : ArgSorts) (s : Option ℕ) → k ≡ kind r → k ≡ 5 →
     o ≡ operator r → args ≡ arg_bytes r → c ≡ common (arg_sorts i w (numbers args)) → s ≡ sort_rule o c →
     s ≡ sorting i w r
 operation-sorted i w r k o args c s kind-is five operator_is args_are common-is sorted =
@@ -138,34 +146,17 @@ all_codes_append p [] m = refl
 all_codes_append p (c ∷ l) m =
     ap (λ t. p c && t) (all_codes_append p l m) ∙ sym (and_assoc (p c) (all_codes p l) (all_codes p m))
 
--- the flag f with the answer t of one more test
-kept : (f f' t : Bool) → t ≡ true → f' ≡ f → f' ≡ (f && t)
-kept true f' t passed e = e ∙ sym passed
-kept false f' t passed e = e
-
-dropped : (f f' t : Bool) → t ≡ false → f' ≡ false → f' ≡ (f && t)
-dropped true f' t failed e = e ∙ sym failed
-dropped false f' t failed e = e
-
-pub equal-kept : (c s : ℕ) (f f' : Bool) → s ≡ c → f' ≡ f → f' ≡ (f && eqb c s)
-equal-kept c s f f' same = kept f f' (eqb c s) (eq-eqb c s (sym same))
-
-pub equal-dropped : (c s : ℕ) (f f' : Bool) → (s ≡ c → ⊥) → f' ≡ false → f' ≡ (f && eqb c s)
-equal-dropped c s f f' other = dropped f f' (eqb c s) (ne_eqb c s (λ e. other (sym e)))
-
-pub numeric_kept : (n s : ℕ) (f f' : Bool) → numeric_code n ≡ true → s ≡ n → f' ≡ f → f' ≡ (f && numeric_code s)
-numeric_kept n s f f' numeric same = kept f f' (numeric_code s) (rw same numeric)
-
-pub numeric_dropped : (s : ℕ) (f f' : Bool) → (s ≡ 2 → ⊥) → (s ≡ 3 → ⊥) → f' ≡ false → f' ≡ (f && numeric_code s)
-numeric_dropped s f f' two three = dropped f f' (numeric_code s) (rw (ne_eqb s 2 two, ne_eqb s 3 three))
-
+-- with the answer t of one more test
 flag_next :
-    (p : ℕ → Bool) (l : List ℕ) (k : ℕ) (f f' : Bool) → k < length l → f ≡ all_codes p (take k l) →
-    f' ≡ (f && p (get_or l k 1)) → f' ≡ all_codes p (take (k + 1) l)
+    (p : ℕ → Bool) (l : List ℕ) (k : ℕ) (f t : Bool) → k < length l → f ≡ all_codes p (take k l) →
+    t ≡ p (get_or l k 1) → (f && t) ≡ all_codes p (take (k + 1) l)
 unfolding all_codes
-flag_next p l k f f' h before next =
-    next ∙ ap₂ ◌&&◌ before (sym (and-true (p (get_or l k 1))))
+flag_next p l k f t h before next =
+    ap₂ ◌&&◌ before (next ∙ sym (and-true (p (get_or l k 1))))
     ∙ sym (rw (add-one, take-suc l k 1 h) (all_codes_append p (take k l) (get_or l k 1 ∷ [])))
+
+flipped : (a b : ℕ) → eqb a b ≡ eqb b a
+flipped a b = grind arith
 
 -- ---- the loop over the arguments: its flags after k of the sorts l
 
@@ -181,18 +172,18 @@ unfolding all_codes
 passed_none l first e =
     record { inside = omega arith; first_is_lem = e; same_is = refl; numeric_is = refl; int_is = refl }
 
+-- s is the sort at k, and n whether it is a number's
 pub passed-more :
-    (l : List ℕ) (first : ℕ) (same numeric int same' numeric' int' : Bool) (k s : ℕ) →
-    Passed l first same numeric int k → k < length l → s ≡ get_or l k 1 → same' ≡ (same && eqb first s) →
-    numeric' ≡ (numeric && numeric_code s) → int' ≡ (int && eqb 2 s) →
-    Passed l first same' numeric' int' (k + 1)
-passed-more l first same numeric int same' numeric' int' k s p h e same_next numeric-next int-next =
+    (l : List ℕ) (first : ℕ) (same numeric int n : Bool) (k s : ℕ) → Passed l first same numeric int k →
+    k < length l → s ≡ get_or l k 1 → n ≡ numeric_code s →
+    Passed l first (same && eqb s first) (numeric && n) (int && eqb s 2) (k + 1)
+passed-more l first same numeric int n k s p h e number =
     record {
       inside = omega arith;
       first_is_lem = p.first_is_lem;
-      same_is = flag_next (eqb first) l k same same' h p.same_is (rw e at same_next);
-      numeric_is = flag_next numeric_code l k numeric numeric' h p.numeric_is (rw e at numeric-next);
-      int_is = flag_next (eqb 2) l k int int' h p.int_is (rw e at int-next);
+      same_is = flag_next (eqb first) l k same _ h p.same_is (flipped s first ∙ ap (eqb first) e);
+      numeric_is = flag_next numeric_code l k numeric n h p.numeric_is (number ∙ ap numeric_code e);
+      int_is = flag_next (eqb 2) l k int _ h p.int_is (flipped s 2 ∙ ap (eqb 2) e);
     }
 
 pub passed_all :

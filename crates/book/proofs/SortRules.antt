@@ -13,7 +13,7 @@ use Rattle.terms.specs.Term.{Sort, sort_code, same_sort, is_numeric, is_bits, al
 use Rattle.numbers.specs.Choice.{when◌then◌else◌}
 use Rattle.terms.specs.Term.Sort.{bool, int, real, bits}
 use Rattle.book.specs.Memory.Sorting.{all_codes, first_code, numeric_code, common, takes_by, gives_by, sort_rule}
-use Rattle.book.specs.declared.sort.Sorting.TheVariants.{Of, Broken}
+use Rattle.std.specs.Prelude.{Some, None}
 
 -- a bit-vector has at least one bit
 abbrev pub Wide : Sort → Type 0
@@ -131,6 +131,6 @@ module _ (o : ℕ) (ss : List Sort) where
       (either Wide (leb o ToReal) tt (wide_first ss wide))))
 
   pub rule-agrees :
-      AllWide ss → sort_rule o (common (codes ss)) ≡ cond (takes o ss) (Of (sort_code (gives o ss))) Broken
+      AllWide ss → sort_rule o (common (codes ss)) ≡ cond (takes o ss) (Some (sort_code (gives o ss))) None
   unfolding sort_rule
   rule-agrees wide = rw (takes-rule wide, gives-rule)

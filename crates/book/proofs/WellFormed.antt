@@ -22,7 +22,6 @@ use Rattle.terms.specs.Term.Terms.{nil, ◌▹◌}
 use Rattle.terms.specs.Book.{count, record_of, kind, operator, arg_count, sort_byte, field1, field2, rational_of, is_width}
 use Rattle.terms.specs.Book.{is_vector, numbers, arg_bytes, arguments, node, forest, tree, unused, count_ok}
 use Rattle.terms.specs.Book.{all_below, operation_ok, sort_ok, read_book}
-use Rattle.terms.specs.declared.reading.BookRead.TheVariants.{Records}
 use Rattle.terms.proofs.Trees.{tree-node}
 use Rattle.numbers.proofs.Truths.{both}
 use Rattle.terms.proofs.RecordBytes.{length-numbers}
@@ -30,6 +29,7 @@ use Rattle.terms.proofs.Nodes.{Laid, an_integer, a_rational, a_vector, an_atom, 
 use Rattle.terms.proofs.Nodes.{node-rational, node-vector, node-atom, node-operation, integer-number}
 use Rattle.terms.proofs.Nodes.{real-number, vector_fields}
 use Rattle.book.proofs.Accepted.{accepted-count, accepted-layout, accepted-sort}
+use Rattle.std.specs.Prelude.{Ok}
 
 -- ---- the rules at a node
 
@@ -182,7 +182,7 @@ all_well_formed f i w (a ∷ l) e =
 
 -- ---- a book's terms
 
-module _ (b : Bytes) (n : ℕ) (e : read_book b ≡ Records n) where
+module _ (b : Bytes) (n : ℕ) (e : read_book b ≡ Ok n) where
   -- as many arguments as the record says
   arguments-counted :
       (i : ℕ) → i < n → kind (record_of b i) ≡ 5 →

@@ -5,13 +5,13 @@ ghost use Rattle.book.specs.Memory.RecordIndex.{Indexed, Unused, BookLeft};
 
 use crate::index::{clear, enter, found};
 use crate::layout::layout_ok;
-use crate::sort::{Sorting, sort_of};
+use crate::sort::sort_of;
 use terms::format::{MAX_RECORDS, RECORD_BYTES};
-use terms::reading::{BookRead, BookRefusal, RecordRead};
+use terms::reading::{BookError, BookRefusal};
 use terms::records::record;
 
 // Refusal 3, 4 or 5 of a record, or its sort, where the work area has the sorts and the index of the records before it.
-fn record_read(book: &[u8], id: usize, work: &[u8]) -> RecordRead
+fn record_read(book: &[u8], id: usize, work: &[u8]) -> Result<u8, BookRefusal>
     requires { SortsBelow id book.now work.now × Indexed id book.now work.now }
     ensures { result ≡ record_read book.now id }
 {
@@ -19,49 +19,43 @@ fn record_read(book: &[u8], id: usize, work: &[u8]) -> RecordRead
     // layout beside it.
     let again = found(book, work, id);
     let r = record(book, id);
-    if layout_ok(r, id) {
-        let Sorting::Of(s) = sort_of(r, id, work) else {
-            return RecordRead::Refused(BookRefusal::SortBroken);
-        };
-        if again {
-            return RecordRead::Refused(BookRefusal::RecordRepeated);
-        }
-        return RecordRead::Sorted(s);
+    if !layout_ok(r, id) {
+        return Err(BookRefusal::RecordLayout);
     }
-    RecordRead::Refused(BookRefusal::RecordLayout)
+    match sort_of(r, id, work) {
+        None => Err(BookRefusal::SortBroken),
+        Some(_) if again => Err(BookRefusal::RecordRepeated),
+        Some(s) => Ok(s),
+    }
 }
 
 // Reads a book as `read_book` does, and leaves its index in the work area.
-fn read_records(book: &[u8], work: &mut [u8]) -> BookRead
+fn read_records(book: &[u8], work: &mut [u8]) -> Result<usize, BookError>
     requires { (8192 ≤ length work.old) × Unused work.old }
     ensures { BookLeft book.now work.old work.new result }
 {
-    if book.len() % RECORD_BYTES != 0 {
-        return BookRead::RefusedAt(BookRefusal::BookSize, 0);
-    }
     let n = book.len() / RECORD_BYTES;
-    if MAX_RECORDS < n {
-        return BookRead::RefusedAt(BookRefusal::BookSize, 0);
+    if book.len() % RECORD_BYTES != 0 || MAX_RECORDS < n {
+        return Err(BookError {
+            refusal: BookRefusal::BookSize,
+            at: 0,
+        });
     }
-    let mut i = 0;
-    while i < n {
+    for i in 0..n {
         match record_read(book, i, work) {
-            RecordRead::Sorted(s) => {
+            Ok(s) => {
                 work[i] = s;
                 enter(book, work, i);
             }
-            RecordRead::Refused(c) => {
-                return BookRead::RefusedAt(c, i);
-            }
+            Err(refusal) => return Err(BookError { refusal, at: i }),
         }
-        i += 1;
     }
-    BookRead::Records(n)
+    Ok(n)
 }
 
 // Reads a book by refusals 2 to 5, in document 01's order. The sort of each record that is read is left in a byte of
 // `work`; all other bytes are unchanged, and those of the index are 0 before and after.
-pub fn read_book(book: &[u8], work: &mut [u8]) -> BookRead
+pub fn read_book(book: &[u8], work: &mut [u8]) -> Result<usize, BookError>
     requires { (8192 ≤ length work.old) × Unused work.old }
     ensures { BookDone book.now work.old work.new result }
 {

@@ -7,7 +7,7 @@ ghost use Rattle.std.specs.Prelude.{◌≡◌, ◌+◌, ◌≤◌, ◌<◌, leng
 ghost use Rattle.terms.specs.Book.{record_of, stands};
 ghost use Rattle.book.specs.Memory.RecordIndex.{chain, Indexed, Beside, Unused};
 
-use numbers::bytes::{byte, clear_from, read_u16, same_bytes, write_u16};
+use numbers::bytes::{read_u16, same_bytes, write_u16};
 use terms::areas::{HEADS_AT, INDEX_END, LINKS_AT};
 use terms::records::record;
 
@@ -15,13 +15,11 @@ use terms::records::record;
 fn chain(r: &[u8]) -> usize
     ensures { (result ≡ chain r.now) × (result < 1024) }
 {
-    let mut h = 0;
-    let mut k = 0;
-    while k < r.len() {
-        h = (40503 * h + byte(r, k) as usize) % 65536;
-        k += 1;
-    }
-    h / 64
+    let h = r.iter().fold(
+        0u16,
+        |h, &x| h.wrapping_mul(40503).wrapping_add(u16::from(x)),
+    );
+    usize::from(h / 64)
 }
 
 // Whether an earlier record has the bytes of record `id`.
@@ -57,7 +55,5 @@ pub(crate) fn clear(work: &mut [u8])
     requires { 8192 ≤ length work.old }
     ensures { Unused work.new × Beside work.new work.old }
 {
-    let start = HEADS_AT;
-    let end = INDEX_END;
-    clear_from(&mut work[start..end], 0);
+    work[HEADS_AT..INDEX_END].fill(0);
 }

@@ -15,14 +15,6 @@ use terms::operator::{
 };
 use terms::records::arg_bytes;
 
-// The sort of a record.
-#[derive(Clone, Copy)]
-pub enum Sorting {
-    Of(u8),
-    // Refusal 4.
-    Broken,
-}
-
 // What the sorts of an operation's arguments have in common.
 #[derive(Clone, Copy)]
 pub struct ArgSorts {
@@ -46,27 +38,19 @@ fn sort_at(a: usize, id: usize, sorts: &[u8]) -> u8
 fn common(args: &[u8], id: usize, sorts: &[u8]) -> ArgSorts
     ensures { result ≡ common (arg_sorts id sorts.now (numbers args.now)) }
 {
-    let n = args.len() / 2;
-    let mut first = BOOL_SORT;
-    if 0 < n {
-        first = sort_at(read_u16(args, 0) as usize, id, sorts);
-    }
+    let first = if args.len() < 2 {
+        BOOL_SORT
+    } else {
+        sort_at(read_u16(args, 0) as usize, id, sorts)
+    };
     let mut same = true;
     let mut numeric = true;
     let mut int = true;
-    let mut k = 0;
-    while k < n {
+    for k in 0..args.len() / 2 {
         let s = sort_at(read_u16(args, 2 * k) as usize, id, sorts);
-        same = if s == first { same } else { false };
-        numeric = if s == INT_SORT {
-            numeric
-        } else if s == REAL_SORT {
-            numeric
-        } else {
-            false
-        };
-        int = if s == INT_SORT { int } else { false };
-        k += 1;
+        same &= s == first;
+        numeric &= s == INT_SORT || s == REAL_SORT;
+        int &= s == INT_SORT;
     }
     ArgSorts {
         first,
@@ -77,44 +61,37 @@ fn common(args: &[u8], id: usize, sorts: &[u8]) -> ArgSorts
 }
 
 // Whether an operator takes arguments of such sorts.
+#[tactic(auto, using(crate::proofs::SortCodes::takes_cases))]
 fn takes(o: u8, c: ArgSorts) -> bool
     ensures { result ≡ takes_by o c }
 {
-    let first = c.first;
-    let same = c.same;
-    let numeric = c.numeric;
-    let int = c.int;
     match o {
-        NO_OPERATOR..=OR => if first == BOOL_SORT { same } else { false },
-        EQUALS => if same { true } else { numeric },
-        LESS_THAN..=MULT | REAL_DIV | TO_REAL => numeric,
-        INT_DIV => int,
-        _ => if BITS_SORT <= first { same } else { false },
+        NO_OPERATOR..=OR => c.first == BOOL_SORT && c.same,
+        EQUALS => c.same || c.numeric,
+        LESS_THAN..=MULT | REAL_DIV | TO_REAL => c.numeric,
+        INT_DIV => c.int,
+        _ => BITS_SORT <= c.first && c.same,
     }
 }
 
 // The sort that it gives.
+#[tactic(auto, using(crate::proofs::SortCodes::gives_cases))]
 fn gives(o: u8, c: ArgSorts) -> u8
     ensures { result ≡ gives_by o c }
 {
-    let first = c.first;
-    let int = c.int;
     match o {
         NO_OPERATOR..=GREATER_EQ => BOOL_SORT,
-        ADD..=MULT => if int { INT_SORT } else { REAL_SORT },
+        ADD..=MULT => if c.int { INT_SORT } else { REAL_SORT },
         INT_DIV => INT_SORT,
         REAL_DIV | TO_REAL => REAL_SORT,
-        _ => first,
+        _ => c.first,
     }
 }
 
-fn sort_rule(o: u8, c: ArgSorts) -> Sorting
+fn sort_rule(o: u8, c: ArgSorts) -> Option<u8>
     ensures { result ≡ sort_rule o c }
 {
-    if takes(o, c) {
-        return Sorting::Of(gives(o, c));
-    }
-    Sorting::Broken
+    if takes(o, c) { Some(gives(o, c)) } else { None }
 }
 
 // The sort of a bit-vector by its record's width.
@@ -132,8 +109,7 @@ fn width_code(r: &[u8]) -> u8
 fn atom_code(r: &[u8]) -> u8
     ensures { result ≡ atom_code r.now }
 {
-    let s = byte(r, SORT_AT);
-    match s {
+    match byte(r, SORT_AT) {
         INT_SORT => INT_SORT,
         REAL_SORT => REAL_SORT,
         BITS_SORT => width_code(r),
@@ -142,15 +118,14 @@ fn atom_code(r: &[u8]) -> u8
 }
 
 // The sort of record `id` with bytes r, where `sorts` has the sorts of the records before it.
-pub fn sort_of(r: &[u8], id: usize, sorts: &[u8]) -> Sorting
+pub fn sort_of(r: &[u8], id: usize, sorts: &[u8]) -> Option<u8>
     ensures { result ≡ sorting id sorts.now r.now }
 {
-    let k = byte(r, 0);
-    match k {
-        INTEGER => Sorting::Of(INT_SORT),
-        REAL => Sorting::Of(REAL_SORT),
-        BIT_VECTOR => Sorting::Of(width_code(r)),
+    match byte(r, 0) {
+        INTEGER => Some(INT_SORT),
+        REAL => Some(REAL_SORT),
+        BIT_VECTOR => Some(width_code(r)),
         OPERATION => sort_rule(byte(r, OPERATOR_AT), common(arg_bytes(r), id, sorts)),
-        _ => Sorting::Of(atom_code(r)),
+        _ => Some(atom_code(r)),
     }
 }

@@ -6,128 +6,136 @@
 //     5-6 the record that is refused, or the number of records
 #![tactic(auto)]
 
-ghost use Rattle.std.specs.Prelude.{◌*◌, ◌≤◌, length};
-
 use book::book::read_book;
-use numbers::bytes::{byte, read_u16, write_u32};
-use programs::cases::{Outcome, broken, open_cases, print_total};
+use numbers::bytes::write_u32;
+use programs::cases::{Outcome, broken, count_agreeing, open_cases, print_total};
 use programs::files::read_file;
-use std::io;
 use std::io::Read;
-use terms::reading::{BookRead, book_number};
+use std::{fmt, io};
+use terms::format::{MAX_RECORDS, RECORD_BYTES};
+use terms::reading::{BookError, book_number};
 
-// A book of 2,050 records, two more than the most.
-const MOST: usize = 65600;
+// The bytes in front of a case.
+const HEAD: usize = 7;
 
-fn print_answer(rt: &impl Print, c: u8, at: usize) -> io::Result<()> {
-    print!(rt; "{c} at {at}")
+// Two records more than the most.
+const MOST: usize = MAX_RECORDS + 2;
+
+const MOST_BYTES: usize = RECORD_BYTES * MOST;
+
+// ---- an answer
+
+// Document 01's number of the refusal and the record that is refused; or 0 and the number of records.
+#[derive(Clone, Copy, PartialEq, Eq)]
+struct Answer {
+    refusal: u8,
+    at: usize,
+}
+
+impl From<Result<usize, BookError>> for Answer {
+    fn from(read: Result<usize, BookError>) -> Answer {
+        match read {
+            Ok(at) => Answer { refusal: 0, at },
+            Err(BookError { refusal, at }) => Answer {
+                refusal: book_number(refusal),
+                at,
+            },
+        }
+    }
+}
+
+impl fmt::Display for Answer {
+    fn fmt<W: fmt::Write>(&self, f: &mut fmt::Formatter<W>) -> fmt::Result {
+        write!(f, "{} at {}", self.refusal, self.at)
+    }
+}
+
+// ---- a case
+
+#[derive(Clone, Copy)]
+struct Case {
+    // How many atoms come first, and how many bytes follow.
+    atoms: u16,
+    bytes: u16,
+    expected: Answer,
+}
+
+impl From<[u8; HEAD]> for Case {
+    fn from(head: [u8; HEAD]) -> Case {
+        let [a0, a1, b0, b1, refusal, r0, r1] = head;
+        Case {
+            atoms: u16::from_le_bytes([a0, a1]),
+            bytes: u16::from_le_bytes([b0, b1]),
+            expected: Answer {
+                refusal,
+                at: usize::from(u16::from_le_bytes([r0, r1])),
+            },
+        }
+    }
 }
 
 // What is expected of case i beside what is found.
-fn compare(rt: &impl Print, i: u64, c: u8, at: usize, d: u8, found: usize) -> io::Result<Outcome> {
-    if c == d && at == found {
+fn compare(rt: &impl Print, i: u64, expected: Answer, found: Answer) -> io::Result<Outcome> {
+    if found == expected {
         return Ok(Outcome::Agrees);
     }
-    print!(rt; "case {i}: expected ")?;
-    print_answer(rt, c, at)?;
-    print!(rt; ", found ")?;
-    print_answer(rt, d, found)?;
-    println!(rt)?;
+    println!(rt; "case {i}: expected {expected}, found {found}")?;
     Ok(Outcome::Differs)
 }
 
-fn try_book(rt: &impl Print, i: u64, book: &[u8], c: u8, at: usize) -> io::Result<Outcome> {
+fn try_book(rt: &impl Print, i: u64, book: &[u8], expected: Answer) -> io::Result<Outcome> {
     let mut work = [0u8; 8192];
-    match read_book(book, &mut work) {
-        BookRead::Records(n) => compare(rt, i, c, at, 0, n),
-        BookRead::RefusedAt(d, id) => compare(rt, i, c, at, book_number(d), id),
-    }
+    let found = Answer::from(read_book(book, &mut work));
+    compare(rt, i, expected, found)
 }
 
-// The n atoms in front.
-fn put_atoms(book: &mut [u8], n: usize)
-    requires { n ≤ 2050 }
-{
-    for k in 0..n {
+// Atoms of sort Int in the whole records of a book.
+fn put_atoms(book: &mut [u8]) {
+    for (k, record) in (0..MOST as u32).zip(book.chunks_exact_mut(RECORD_BYTES)) {
         // kind 4, sort 2
-        write_u32(book, 32 * k, 33554436);
-        write_u32(book, 32 * k + 4, k as u32);
+        write_u32(record, 0, 33554436);
+        write_u32(record, 4, k);
     }
 }
 
-// Case i: its book has n atoms in front and comes up to the end of `book`.
-fn try_part(
-    rt: &impl Print,
-    file: &mut impl Read,
-    i: u64,
-    book: &mut [u8],
-    n: usize,
-    c: u8,
-    at: usize,
-) -> io::Result<Outcome>
-    requires n_bound { n ≤ 2050 }
-    requires n_in_bounds { 32 * n ≤ length book.old }
-{
-    let a = 32 * n;
-    put_atoms(book, n);
-    if read_file(file, &mut book[a..])? < book.len() - a {
-        return broken(rt);
-    }
-    try_book(rt, i, book, c, at)
-}
-
-// Case i, with the first 7 bytes `head` and room for its book.
+// Case i, in room for its book.
 fn try_case(
     rt: &impl Print,
     file: &mut impl Read,
     i: u64,
-    head: &[u8],
+    case: Case,
     room: &mut [u8],
 ) -> io::Result<Outcome> {
-    let n = read_u16(head, 0) as usize;
-    let m = read_u16(head, 2) as usize;
-    if 2050 < n || room.len() < 32 * n || room.len() - 32 * n < m {
+    let front = RECORD_BYTES * usize::from(case.atoms);
+    let rest = usize::from(case.bytes);
+    if MOST_BYTES < front {
         return broken(rt);
     }
-    let e = 32 * n + m;
-    try_part(
-        rt,
-        file,
-        i,
-        &mut room[0..e],
-        n,
-        byte(head, 4),
-        read_u16(head, 5) as usize,
-    )
+    let Some(book) = room.get_mut(..front + rest) else {
+        return broken(rt);
+    };
+    put_atoms(&mut book[..front]);
+    if read_file(file, &mut book[front..])? < rest {
+        return broken(rt);
+    }
+    try_book(rt, i, book, case.expected)
 }
 
 fn next_case(rt: &impl Print, file: &mut impl Read, i: u64) -> io::Result<Outcome> {
-    let mut head = [0u8; 7];
-    let mut room = [0u8; MOST];
+    let mut head = [0u8; HEAD];
+    let mut room = [0u8; MOST_BYTES];
     match read_file(file, &mut head)? {
         0 => Ok(Outcome::End),
-        7 => try_case(rt, file, i, &head, &mut room),
+        HEAD => try_case(rt, file, i, Case::from(head), &mut room),
         _ => broken(rt),
     }
 }
 
-// How many cases agree. They are numbered from 0, and there are fewer than 65,536.
-fn try_all(rt: &impl Print, file: &mut impl Read) -> io::Result<u64> {
-    let mut agree: u64 = 0;
-    for i in 0..65536 {
-        match next_case(rt, file, i)? {
-            Outcome::Agrees => agree += 1,
-            Outcome::Differs => {}
-            Outcome::End => break,
-        }
-    }
-    Ok(agree)
-}
-
+// The cases are numbered from 0, and there are fewer than 65,536.
 fn main(rt: HostRuntime) -> io::Result<()> {
-    let Some(mut file) = open_cases(&rt) else {
+    let Ok(mut file) = open_cases(&rt) else {
         return Ok(());
     };
-    let agree = try_all(&rt, &mut file)?;
-    print_total(&rt, file, agree, b" cases agree\n")
+    let agree = count_agreeing(65536, |i| next_case(&rt, &mut file, i))?;
+    print_total(&rt, agree, b" cases agree\n")
 }

@@ -18,12 +18,9 @@ use Rattle.numbers.specs.Bytes.{Bytes}
 use Rattle.terms.specs.Term.{Term, unary, binary}
 use Rattle.terms.specs.Term.Term.{integer, rational, bitvector, atom, op}
 use Rattle.terms.specs.Readers.{as_number, quotient_of, as_unsigned_fraction, as_fraction}
-use Rattle.numbers.specs.declared.number.Checked.{Checked}
-use Rattle.numbers.specs.declared.number.Checked.TheVariants as answer
-use Rattle.terms.specs.declared.term.Reading.TheVariants.{Value}
 use Rattle.index_map.specs.Memory.StoredMaps as maps
 use Rattle.rules.specs.Refusal.{number, Result, ◌>>=◌, assert}
-use Rattle.rules.specs.Refusal.Outcome.{ok}
+use Rattle.std.specs.Prelude.{Ok}
 use Rattle.rules.specs.Refusal.Refusal.{number_range}
 use Rattle.rules.specs.Limits.{Limits, limited, times, fraction_of}
 use Rattle.index_map.specs.IndexMap.{combination, new, Walked, walked, visit, add_constant, sub}
@@ -47,6 +44,8 @@ use Rattle.work_area.proofs.InsertLoops.{InsertedAll, inserting_none, inserting_
 use Rattle.work_area.proofs.AreaSums.{Added, added-sum, added_out}
 use Rattle.linear_walk.proofs.WalkSteps.{constant_out, constant-added}
 use Rattle.disequality.proofs.SubtractedSides.{out_of_range, subtracted-left}
+use Rattle.numbers.specs.Rational.{Checked}
+use Rattle.std.specs.Prelude.{None, Some}
 
 -- ---- the walk of a number
 
@@ -55,7 +54,7 @@ abbrev Reads : Limits → Rational → Rational → Walked Term → Result (Walk
 Reads l q coeff w = times l q coeff >>= λ c. add_constant l c w
 
 number-walk :
-    (t : Term) {q : Rational} → as_number t ≡ Value q → (l : Limits) (coeff : Rational) (w : Walked Term) →
+    (t : Term) {q : Rational} → as_number t ≡ Ok q → (l : Limits) (coeff : Rational) (w : Walked Term) →
     add_term t l coeff w ≡ (visit l w >>= Reads l q coeff)
 unfolding add_term add_leaf fraction_of as_fraction as_unsigned_fraction quotient_of unary binary as_number ◌>>=◌
 number-walk (integer i v) {q} e l coeff w =
@@ -69,7 +68,7 @@ number-walk (atom i s n) e l coeff w = cc
 number-walk (op i o ts) e l coeff w = cc
 
 pub constant-walk :
-    (t : Term) {q : Rational} → as_number t ≡ Value q → (limit v : ℕ) → v < limit →
+    (t : Term) {q : Rational} → as_number t ≡ Ok q → (limit v : ℕ) → v < limit →
     from_term (limited limit) t v ≡ constant_side (limited limit) q (v + 1)
 unfolding from_term constant_side visit assert ◌>>=◌
 constant-walk t e limit v h =
@@ -89,7 +88,7 @@ module _ {b w : Bytes} (held : Held b w []) where
     product_is : r ≡ checked (mul_q q (whole (pos 1)))
     product_is = product.is ∙ ap (λ (x : Rational). checked (mul_q q x)) one-is
 
-    pub product_out : r ≡ answer.OutOfRange → Walks b w (Refused (number number_range)) (constant_side (limited l) q v)
+    pub product_out : r ≡ None → Walks b w (Refused (number number_range)) (constant_side (limited l) q v)
     unfolding constant_side ◌>>=◌
     product_out e =
         let no = times_out l q (whole (pos 1)) (sym product_is ∙ e) in
@@ -97,7 +96,7 @@ module _ {b w : Bytes} (held : Held b w []) where
 
     -- and s for the sum
     module _
-        {c : Rational} (e : r ≡ answer.Value c) {zero : Rational} (zero_is : zero ≡ whole (pos 0)) {s : Checked}
+        {c : Rational} (e : r ≡ Some c) {zero : Rational} (zero_is : zero ≡ whole (pos 0)) {s : Checked}
         (sum : Gives s (checked (add_q zero c))) where
       then : constant_side (limited l) q v ≡ add_constant (limited l) c (walked new v)
       unfolding constant_side ◌>>=◌
@@ -106,12 +105,12 @@ module _ {b w : Bytes} (held : Held b w []) where
       start : KeptSum b w (record { len = 0; constant = whole (pos 0) })
       start = plain (whole-proper (pos 0) (lit≤ tt))
 
-      pub sum_out : s ≡ answer.OutOfRange → Walks b w (Refused (number number_range)) (constant_side (limited l) q v)
+      pub sum_out : s ≡ None → Walks b w (Refused (number number_range)) (constant_side (limited l) q v)
       unfolding entries_of maps.blanked
       sum_out out = rw then (constant_out start l v c s (rw zero_is at sum) out refl)
 
       pub sum-value :
-          {k : Rational} → s ≡ answer.Value k →
+          {k : Rational} → s ≡ Some k →
           Walks b w (Done (record { len = 0; constant = k }) v) (constant_side (limited l) q v)
       unfolding entries_of
       sum-value value = rw then (constant-added start l v c s (rw zero_is at sum) value)
@@ -148,7 +147,7 @@ module _
   stays only = only_none (both-apart apart (in_first apart only)).second
 
   pub bounded_out :
-      {w' : Bytes} → r ≡ answer.OutOfRange → w' ≡ with_area 1 (blanked s.len (area_of 1 w)) w →
+      {w' : Bytes} → r ≡ None → w' ≡ with_area 1 (blanked s.len (area_of 1 w)) w →
       SubtractedLeft b w w' (literal.Refused (number number_range))
       (subtracted (limited l) o (comb_of b (area_of 1 w) s) (combination [] d) n)
   unfolding entries_of sub
@@ -160,10 +159,10 @@ module _
 
   -- q is the constant on the right
   pub bounded-left :
-      {c q : Rational} {w' : Bytes} {e : by_value.Disequality} → r ≡ answer.Value c → Makes q (neg_q c) →
+      {c q : Rational} {w' : Bytes} {e : by_value.Disequality} → r ≡ Some c → Makes q (neg_q c) →
       (KeptSum b (area_of 1 w) (record { len = s.len; constant = q }) →
       LiteralLeft b w w' (literal.Is e)
-      (ok (turned o (comb_of b (area_of 1 w) (record { len = s.len; constant = q })) n))) →
+      (Ok (turned o (comb_of b (area_of 1 w) (record { len = s.len; constant = q })) n))) →
       SubtractedLeft b w w' (literal.Is e)
       (subtracted (limited l) o (comb_of b (area_of 1 w) s) (combination [] d) n)
   unfolding entries_of sub

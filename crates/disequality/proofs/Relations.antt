@@ -1,14 +1,13 @@
--- The relation that a literal's negation is: a lemma for each answer of `negate_operator`, `inner` and
--- `relation_of`, from what the callees have promised. Under a negation the operation itself is looked at, and
--- elsewhere its operator is negated. The records that are found are arguments, which lie below their record where it
--- is laid out as a term.
+-- The relation that a literal's negation is: a lemma for each answer of `inner` and `relation_of`, from what the
+-- callees have promised. Under a negation the operation itself is looked at, and elsewhere its operator is negated. The
+-- records that are found are arguments, which lie below their record where it is laid out as a term.
 use mathlib.Core.Path.{◌≡◌, refl, sym, ◌∙◌, ap, subst}
 use mathlib.Core.Bool.{Bool, true, false}
 use mathlib.Core.List.{List, [], ◌∷◌}
-use mathlib.Core.Option.{Option, some, none}
+use Rattle.std.specs.Prelude.{Option, Some, None}
 use Prim.Native.Nat.{ℕ, ◌/◌, ◌≤◌, ◌<◌}
 use native.Mathlib.Omega.{arith}
-use borrow.Author.Tests.{le-leb, lt-leb, ltb-true, ne_eqb}
+use borrow.Author.Tests.{le-leb, lt-leb, ltb-true}
 use lib.Dec.{eqb, ltb}
 use lib.ListN.{length}
 use Rattle.numbers.specs.Bytes.{Bytes}
@@ -19,15 +18,13 @@ use Rattle.terms.specs.Term.Term.{op}
 use Rattle.terms.specs.Term.Terms.{nil, ◌▹◌}
 use Rattle.terms.specs.Book.{count, record_of, arg_bytes, tree, numbers, arguments, argument_at, earlier, forest, all_below}
 use Rattle.terms.specs.Readers.{Child, found, as_op, operator_of, arguments_of, remove_negation}
-use Rattle.terms.specs.declared.term.Only.{Only}
-use Rattle.terms.specs.declared.term.Only.TheVariants as only
 use Rattle.numbers.proofs.Truths.{both}
 use Rattle.terms.proofs.RecordBytes.{earlier-before, forest_of_two}
 use Rattle.terms.proofs.Readings.{unary-shape}
 use Rattle.terms.proofs.NumberedNodes.{record_number-tree}
 use Rattle.terms.proofs.RecordReadings.{arguments_of_record}
 use Rattle.rules.specs.Refusal.{number, Result, ◌>>=◌, or_else}
-use Rattle.rules.specs.Refusal.Outcome.{ok, refused}
+use Rattle.std.specs.Prelude.{Ok, Err}
 use Rattle.rules.specs.Refusal.Refusal.{invalid_disequality_op, too_many_args_in_disequality}
 use Rattle.rules.specs.Shapes.{size, is_relation}
 use Rattle.disequality.specs.Disequality.{negate_operator, inner, two_sides}
@@ -40,37 +37,11 @@ use Rattle.rules.proofs.ArgumentsLeft.{counted, next-below}
 use Rattle.rules.proofs.Results.{refuses}
 use Rattle.book.proofs.ArgumentsBelow.{args-below}
 
--- ---- negate_operator
-
-module _ (o : ℕ) where
-  pub negated-less : o ≡ LessThan → GreaterEq ≡ or_zero (negate_operator o)
-  unfolding negate_operator when◌then◌else◌
-  negated-less e = rw e
-
-  pub negated-greater : o ≡ GreaterThan → LessEq ≡ or_zero (negate_operator o)
-  unfolding negate_operator when◌then◌else◌
-  negated-greater e = rw e
-
-  pub negated-less-eq : o ≡ LessEq → GreaterThan ≡ or_zero (negate_operator o)
-  unfolding negate_operator when◌then◌else◌
-  negated-less-eq e = rw e
-
-  pub negated-greater-eq : o ≡ GreaterEq → LessThan ≡ or_zero (negate_operator o)
-  unfolding negate_operator when◌then◌else◌
-  negated-greater-eq e = rw e
-
-  pub not-negated :
-      (o ≡ LessThan → ⊥) → (o ≡ GreaterThan → ⊥) → (o ≡ LessEq → ⊥) → (o ≡ GreaterEq → ⊥) →
-      0 ≡ or_zero (negate_operator o)
-  unfolding negate_operator when◌then◌else◌
-  not-negated f g h k =
-      rw (negate_operator, ne_eqb o LessThan f, ne_eqb o GreaterThan g, ne_eqb o LessEq h, ne_eqb o GreaterEq k)
-
 -- ---- inner
 
 -- an operation that is a relation
 abbrev relation_in : Option (ℕ × Terms) → Option (ℕ × Terms)
-relation_in m = elim m [ some p ↦ elim (is_relation p.0) [ true ↦ some p | false ↦ none ] | none ↦ none ]
+relation_in m = elim m [ Some p ↦ elim (is_relation p.0) [ true ↦ Some p | false ↦ None ] | None ↦ None ]
 
 -- under a negation
 negation-inner : (i : ℕ) (u : Term) → inner (op i Not (u ▹ nil)) ≡ relation_in (as_op u)
@@ -79,66 +50,66 @@ negation-inner i u = refl
 
 -- what m is as an operator and arguments
 abbrev operator_in : Option (ℕ × Terms) → ℕ
-operator_in m = elim m [ some p ↦ p.0 | none ↦ 0 ]
+operator_in m = elim m [ Some p ↦ p.0 | None ↦ 0 ]
 
 abbrev arguments_in : Option (ℕ × Terms) → Terms
-arguments_in m = elim m [ some p ↦ p.1 | none ↦ nil ]
+arguments_in m = elim m [ Some p ↦ p.1 | None ↦ nil ]
 
 is_relation_lem :
     (m : Option (ℕ × Terms)) (o : ℕ) → o ≡ operator_in m → Equals ≤ o → o ≤ GreaterEq →
-    relation_in m ≡ some (o, arguments_in m)
-is_relation_lem none o e h k = absurd (omega arith)
-is_relation_lem (some p) o e h k =
-    rw (← e, relation_in, le-leb Equals o h, le-leb o GreaterEq k) (ap (λ (q : ℕ). some (q, p.1)) (sym e))
+    relation_in m ≡ Some (o, arguments_in m)
+is_relation_lem None o e h k = absurd (omega arith)
+is_relation_lem (Some p) o e h k =
+    rw (← e, relation_in, le-leb Equals o h, le-leb o GreaterEq k) (ap (λ (q : ℕ). Some (q, p.1)) (sym e))
 
-no_relation : (m : Option (ℕ × Terms)) → is_relation (operator_in m) ≡ false → relation_in m ≡ none
-no_relation none e = refl
-no_relation (some p) e = rw (e, relation_in)
+no_relation : (m : Option (ℕ × Terms)) → is_relation (operator_in m) ≡ false → relation_in m ≡ None
+no_relation None e = refl
+no_relation (Some p) e = rw (e, relation_in)
 
 -- elsewhere
 abbrev negated_in : Option (ℕ × Terms) → Option (ℕ × Terms)
-negated_in m = elim m [ some p ↦ elim (negate_operator p.0) [ some o ↦ some (o, p.1) | none ↦ none ] | none ↦ none ]
+negated_in m = elim m [ Some p ↦ elim (negate_operator p.0) [ Some o ↦ Some (o, p.1) | None ↦ None ] | None ↦ None ]
 
-plain-inner : (t : Term) → remove_negation t ≡ none → inner t ≡ negated_in (as_op t)
+plain-inner : (t : Term) → remove_negation t ≡ None → inner t ≡ negated_in (as_op t)
 unfolding inner
 plain-inner t e = rw (e, inner)
 
 is_negated :
     (m : Option (ℕ × Terms)) (o : ℕ) → o ≡ or_zero (negate_operator (operator_in m)) → (o ≡ 0 → ⊥) →
-    negated_in m ≡ some (o, arguments_in m)
+    negated_in m ≡ Some (o, arguments_in m)
 unfolding negate_operator when◌then◌else◌
-is_negated none o e h = absurd (h e)
-is_negated (some p) o e h = go (negate_operator p.0) e
+is_negated None o e h = absurd (h e)
+is_negated (Some p) o e h = go (negate_operator p.0) e
   where
     go :
         (q : Option ℕ) → o ≡ or_zero q →
-        ◌≡◌ {A = Option (ℕ × Terms)} (elim q [ some o ↦ some (o, p.1) | none ↦ none ]) (some (o, p.1))
-    go (some k) e = rw e
-    go none e = absurd (h e)
+        ◌≡◌ {A = Option (ℕ × Terms)} (elim q [ Some o ↦ Some (o, p.1) | None ↦ None ]) (Some (o, p.1))
+    go (Some k) e = rw e
+    go None e = absurd (h e)
 
 -- no operator's negation is 0
 abbrev by_tests : Bool → Bool → Bool → Bool → Option ℕ
 by_tests s t u v =
-    when s then some GreaterEq else
-    when t then some LessEq else
-    when u then some GreaterThan else
-    when v then some LessThan else
-    none
+    when s then Some GreaterEq else
+    when t then Some LessEq else
+    when u then Some GreaterThan else
+    when v then Some LessThan else
+    None
 
-negated-nonzero : (o : ℕ) → or_zero (negate_operator o) ≡ 0 → negate_operator o ≡ none
+negated-nonzero : (o : ℕ) → or_zero (negate_operator o) ≡ 0 → negate_operator o ≡ None
 unfolding negate_operator when◌then◌else◌
 negated-nonzero o = go (eqb o LessThan) (eqb o GreaterThan) (eqb o LessEq) (eqb o GreaterEq)
   where
-    go : (s t u v : Bool) → or_zero (by_tests s t u v) ≡ 0 → by_tests s t u v ≡ none
+    go : (s t u v : Bool) → or_zero (by_tests s t u v) ≡ 0 → by_tests s t u v ≡ None
     go true t u v e = absurd (omega arith)
     go false true u v e = absurd (omega arith)
     go false false true v e = absurd (omega arith)
     go false false false true e = absurd (omega arith)
     go false false false false e = refl
 
-no_negated : (m : Option (ℕ × Terms)) → or_zero (negate_operator (operator_in m)) ≡ 0 → negated_in m ≡ none
-no_negated none e = refl
-no_negated (some p) e = rw (negated-nonzero p.0 e, negated_in)
+no_negated : (m : Option (ℕ × Terms)) → or_zero (negate_operator (operator_in m)) ≡ 0 → negated_in m ≡ None
+no_negated None e = refl
+no_negated (Some p) e = rw (negated-nonzero p.0 e, negated_in)
 
 -- the argument of a record that is laid out as a term
 only_below :
@@ -152,8 +123,8 @@ only_below b i x (a ∷ l) h e =
     let first : a < i = ltb-true a i lower in
     subst (λ (z : ℕ). z < i) (sym (earlier-before i a first) ∙ is) first
 
-module _ (b : Bytes) (i : ℕ) {r : Only} (n : Child b i r (remove_negation (tree b i))) where
-  module _ {x : ℕ} (e : r ≡ only.Of x) where
+module _ (b : Bytes) (i : ℕ) {r : Option ℕ} (n : Child b i r (remove_negation (tree b i))) where
+  module _ {x : ℕ} (e : r ≡ Some x) where
     negation : tree b i ≡ op (record_number (tree b i)) Not (tree b x ▹ nil)
     unfolding remove_negation
     negation = unary-shape Not (tree b i) (tree b x) (sym n.is ∙ ap (found b) e)
@@ -176,16 +147,16 @@ module _ (b : Bytes) (i : ℕ) {r : Only} (n : Child b i r (remove_negation (tre
     negated-relation {o} (laid, inside) o_is h k =
         (inner_is ∙ is_relation_lem (as_op (tree b x)) o o_is h k, negated-below laid inside)
 
-    negated-other : is_relation (operator_of (tree b x)) ≡ false → inner (tree b i) ≡ none
+    negated-other : is_relation (operator_of (tree b x)) ≡ false → inner (tree b i) ≡ None
     negated-other h = inner_is ∙ no_relation (as_op (tree b x)) h
 
-    pub negated-low : {o : ℕ} → o ≡ operator_of (tree b x) → o < Equals → inner (tree b i) ≡ none
+    pub negated-low : {o : ℕ} → o ≡ operator_of (tree b x) → o < Equals → inner (tree b i) ≡ None
     negated-low {o} o_is h = negated-other (rw (← o_is, lt-leb Equals o h))
 
-    pub negated-high : {o : ℕ} → o ≡ operator_of (tree b x) → Equals ≤ o → GreaterEq < o → inner (tree b i) ≡ none
+    pub negated-high : {o : ℕ} → o ≡ operator_of (tree b x) → Equals ≤ o → GreaterEq < o → inner (tree b i) ≡ None
     negated-high {o} o_is h k = negated-other (rw (← o_is, le-leb Equals o h, lt-leb o GreaterEq k))
 
-  module _ (e : r ≡ only.NotOne) {o p : ℕ} (o_is : o ≡ operator_of (tree b i))
+  module _ (e : r ≡ None) {o p : ℕ} (o_is : o ≡ operator_of (tree b i))
       (p_is : p ≡ or_zero (negate_operator o)) where
     plain : inner (tree b i) ≡ negated_in (as_op (tree b i))
     plain = plain-inner (tree b i) (sym n.is ∙ ap (found b) e)
@@ -197,12 +168,12 @@ module _ (b : Bytes) (i : ℕ) {r : Only} (n : Child b i r (remove_negation (tre
         Laid b × (i < count b) → (p ≡ 0 → ⊥) → InnerIs b (operation.Of p i) (inner (tree b i))
     plain-relation (laid, inside) h = (plain ∙ is_negated (as_op (tree b i)) p operator_is h, inside)
 
-    pub plain_other : p ≡ 0 → inner (tree b i) ≡ none
+    pub plain_other : p ≡ 0 → inner (tree b i) ≡ None
     plain_other h = plain ∙ no_negated (as_op (tree b i)) (sym operator_is ∙ h)
 
 -- ---- relation_of
 
-not-two-sides : (ts : Terms) → (size ts ≡ 2 → ⊥) → two_sides ts ≡ refused too_many_args_in_disequality
+not-two-sides : (ts : Terms) → (size ts ≡ 2 → ⊥) → two_sides ts ≡ Err too_many_args_in_disequality
 not-two-sides nil h = refl
 not-two-sides (a ▹ nil) h = refl
 not-two-sides (a ▹ c ▹ nil) h = absurd (h refl)
@@ -210,13 +181,13 @@ not-two-sides (a ▹ c ▹ d ▹ ts) h = refl
 
 -- an operator with its two sides
 abbrev with_sides : ℕ → Result (Term × Term) → Result (ℕ × Term × Term)
-with_sides o m = m >>= λ p. ok (o, p.0, p.1)
+with_sides o m = m >>= λ p. Ok (o, p.0, p.1)
 
 module _ (b : Bytes) (i : ℕ) {r : Operation} (n : InnerIs b r (inner (tree b i))) where
   pub no_relation_of : r ≡ operation.NoRelation → Refuses (number invalid_disequality_op) (relation_of (tree b i))
   unfolding relation_of or_else ◌>>=◌
   no_relation_of e =
-      let is : inner (tree b i) ≡ none = subst (λ (r : Operation). InnerIs b r (inner (tree b i))) e n in
+      let is : inner (tree b i) ≡ None = subst (λ (r : Operation). InnerIs b r (inner (tree b i))) e n in
       refuses invalid_disequality_op (rw (is, relation_of))
 
   module _ {o x : ℕ} (e : r ≡ operation.Of o x) (args : Bytes)

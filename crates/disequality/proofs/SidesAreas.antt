@@ -11,7 +11,7 @@ use Rattle.terms.specs.Term.{Term, Terms}
 use Rattle.terms.specs.Book.{tree}
 use Rattle.terms.specs.Format.{work_bytes}
 use Rattle.rules.specs.Refusal.{Result, ◌>>=◌, or_else}
-use Rattle.rules.specs.Refusal.Outcome.{ok}
+use Rattle.std.specs.Prelude.{Ok}
 use Rattle.rules.specs.Refusal.Refusal.{invalid_disequality_op}
 use Rattle.rules.specs.Limits.{Limits}
 use Rattle.linear_walk.specs.LinearTerms.{from_term}
@@ -48,7 +48,7 @@ sides_of : (l : Limits) (phi : Term) (n : ℕ) →
       (o, a, b) ← relation_of phi
       s1 ← from_term l a n
       s2 ← from_term l b s1.visits
-      ok (o, s1.sum, s2.sum, s2.visits))
+      Ok (o, s1.sum, s2.sum, s2.visits))
 unfolding negate_disequality relation_of ◌>>=◌
 sides_of l phi n =
     let args : Result (ℕ × Terms) = or_else (inner phi) invalid_disequality_op in

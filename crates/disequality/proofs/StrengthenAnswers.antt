@@ -14,10 +14,8 @@ use Rattle.terms.specs.Operator.{GreaterThan, GreaterEq}
 use Rattle.numbers.specs.Bytes.{Bytes}
 use Rattle.terms.specs.Term.{Term}
 use Rattle.numbers.specs.Choice.{when◌then◌else◌}
-use Rattle.numbers.specs.declared.number.Checked.{Checked}
-use Rattle.numbers.specs.declared.number.Checked.TheVariants as answer
 use Rattle.rules.specs.Refusal.{Result, ◌>>=◌}
-use Rattle.rules.specs.Refusal.Outcome.{ok}
+use Rattle.std.specs.Prelude.{Ok}
 use Rattle.rules.specs.Limits.{limited}
 use Rattle.index_map.specs.IndexMap.{Map, combination}
 use Rattle.linear_comb.specs.LinearComb.{LinearComb, coefficients_gcd}
@@ -30,6 +28,8 @@ use Rattle.disequality.specs.declared.disequality.Strengthened.TheVariants as st
 use Rattle.disequality.proofs.WholeProducts.{times-whole}
 use Rattle.index_map.proofs.CheckedNumbers.{plus-value, plus_out}
 use Rattle.index_map.proofs.StoredEntries.{kept-entries}
+use Rattle.numbers.specs.Rational.{Checked}
+use Rattle.std.specs.Prelude.{None, Some}
 
 -- ---- is_integer_times
 
@@ -59,22 +59,19 @@ module _ (d a : Rational) {zero : Bool} (zero_is : zero ≡ is_zero a) where
 
 -- ---- raised
 
-pub proper-step : {step one : Rational} → one ≡ step → Proper step → Proper one
-proper-step e = subst Proper (sym e)
-
 module _ (floor : Rational) (step : ℤ) {one : Rational} (one-is : one ≡ whole step) {r : Checked}
     (g : Gives r (checked (add_q floor one))) (m : Map Term) (l : ℕ) where
   sum_is : r ≡ checked (add_q floor (whole step))
   sum_is = g.is ∙ ap (λ (q : Rational). checked (add_q floor q)) one-is
 
   pub raised-outside :
-      r ≡ answer.OutOfRange →
+      r ≡ None →
       StrengthenedIs m stronger.OutOfRange (raised (limited l) (combination m floor) step)
   unfolding raised ◌>>=◌
   raised-outside e = rw (plus_out l floor (whole step) (sym sum_is ∙ e), raised)
 
   pub raised-value :
-      {q : Rational} {n : ℕ} → r ≡ answer.Value q → n ≡ length m →
+      {q : Rational} {n : ℕ} → r ≡ Some q → n ≡ length m →
       StrengthenedIs m (stronger.Is GreaterEq (record { len = n; constant = q }))
       (raised (limited l) (combination m floor) step)
   unfolding raised ◌>>=◌
@@ -87,10 +84,10 @@ module _ (floor : Rational) (step : ℤ) {one : Rational} (one-is : one ≡ whol
 abbrev by_tests : ℕ → ℕ → LinearComb → Bool → Bool → Bool → Result (ℕ × LinearComb)
 by_tests l o s ge gt t =
     elim (ge && t) [
-      | true ↦ ok (o, s)
+      | true ↦ Ok (o, s)
       | false ↦ elim (gt && t) [
         | true ↦ raised (limited l) (floored s) (coefficients_gcd (floored s))
-        | false ↦ elim (gt || ge) [ true ↦ raised (limited l) (floored s) (pos 1) | false ↦ ok (o, s) ]
+        | false ↦ elim (gt || ge) [ true ↦ raised (limited l) (floored s) (pos 1) | false ↦ Ok (o, s) ]
       ]
     ]
 
@@ -134,7 +131,7 @@ module _ (w : Bytes) (o : ℕ) (s : Sum) (a : Rational) {t : Bool} (t-is : t ≡
 
   -- the disequality stays
   module _ (p : Proper s.constant) where
-    stays : strengthen (limited l) o own a ≡ ok (o, own) → Answers (stronger.Is o s)
+    stays : strengthen (limited l) o own a ≡ Ok (o, own) → Answers (stronger.Is o s)
     stays e = from_bytes (stronger.Is o s) (e, record { size = k.size; proper = p })
 
     pub whole-greater-eq : o ≡ GreaterEq → t ≡ true → Answers (stronger.Is o s)

@@ -13,7 +13,7 @@ use Rattle.terms.specs.Term.{Term}
 use Rattle.numbers.specs.Choice.{when◌then◌else◌}
 use Rattle.numbers.proofs.Ranges.{proper-neg}
 use Rattle.rules.specs.Refusal.{number, Result, ◌>>=◌}
-use Rattle.rules.specs.Refusal.Outcome.{ok}
+use Rattle.std.specs.Prelude.{Ok}
 use Rattle.rules.specs.Refusal.Refusal.{number_range}
 use Rattle.rules.specs.Limits.{Limits}
 use Rattle.index_map.specs.IndexMap.{Map, combination, neg_all, neg, sub}
@@ -46,7 +46,7 @@ is_now o s n = literal.Is (record { operator = o; sum = s; visits = n })
 module _ {b w : Bytes} {s : Sum} (a : Area 1 w) (kept : KeptSum b (area_of 1 w) s) (o n : ℕ) where
   pub as_it_is :
       o ≢ LessThan → o ≢ LessEq →
-      LiteralLeft b w w (is_now o s n) (ok (turned o (comb_of b (area_of 1 w) s) n))
+      LiteralLeft b w w (is_now o s n) (Ok (turned o (comb_of b (area_of 1 w) s) n))
   unfolding turned when◌then◌else◌
   as_it_is not-less not-less-eq =
       record {
@@ -71,12 +71,12 @@ module _ {b w : Bytes} {s : Sum} (a : Area 1 w) (kept : KeptSum b (area_of 1 w) 
         }
 
     pub from_less :
-        o ≡ LessThan → LiteralLeft b w w' (is_now GreaterThan r n) (ok (turned o (comb_of b (area_of 1 w) s) n))
+        o ≡ LessThan → LiteralLeft b w w' (is_now GreaterThan r n) (Ok (turned o (comb_of b (area_of 1 w) s) n))
     unfolding turned when◌then◌else◌ neg
     from_less less = record { map = _; held = held; only = only; is = (rw (turned, less, is), has) }
 
     pub from_less-eq :
-        o ≡ LessEq → LiteralLeft b w w' (is_now GreaterEq r n) (ok (turned o (comb_of b (area_of 1 w) s) n))
+        o ≡ LessEq → LiteralLeft b w w' (is_now GreaterEq r n) (Ok (turned o (comb_of b (area_of 1 w) s) n))
     unfolding turned when◌then◌else◌ neg
     from_less-eq less = record { map = _; held = held; only = only; is = (rw (turned, less, is), has) }
 
@@ -127,7 +127,7 @@ module _
       pub subtracted-left :
           {w₃ : Bytes} {e : by_value.Disequality} →
           (KeptSum b (area_of 1 w₂) over →
-          LiteralLeft b w₂ w₃ (literal.Is e) (ok (turned o (comb_of b (area_of 1 w₂) over) n))) →
+          LiteralLeft b w₂ w₃ (literal.Is e) (Ok (turned o (comb_of b (area_of 1 w₂) over) n))) →
           SubtractedLeft b w w₃ (literal.Is e) result
       unfolding subtracted ◌>>=◌
       subtracted-left turning =
@@ -136,5 +136,5 @@ module _
             map = last.map;
             held = last.held;
             only = both-written a (then_first a so_far last.only);
-            is = (rw (subtracted, sum.is.0) (ap (λ x. ok (turned o x n)) over_is ∙ last.is.0), last.is.1);
+            is = (rw (subtracted, sum.is.0) (ap (λ x. Ok (turned o x n)) over_is ∙ last.is.0), last.is.1);
           }

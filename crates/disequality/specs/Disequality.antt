@@ -1,7 +1,7 @@
 -- A literal of rules 4 to 6 as a disequality, src/checker/rules/linear_arithmetic.rs: negated, its sides made
 -- combinations, strengthened over the integers.
 use Rattle.std.specs.Prelude.{Bool, true, false, ◌&&◌, ◌||◌, ℕ, eqb, ℤ, pos}
-use Rattle.std.proofs.Math.Option.{Option, some, none}
+use Rattle.std.specs.Prelude.{Option, Some, None}
 use Rattle.numbers.specs.Rational.{Rational, whole, mul_q, neg_q, floor_q, is_integer, is_zero, eq_q}
 use Rattle.terms.specs.Operator.{LessThan, LessEq, GreaterThan, GreaterEq}
 use Rattle.terms.specs.Term.{Term, Terms}
@@ -9,7 +9,7 @@ use Rattle.numbers.specs.Choice.{when◌then◌else◌}
 use Rattle.terms.specs.Term.Terms.{nil, ◌▹◌}
 use Rattle.terms.specs.Readers.{as_op, remove_negation}
 use Rattle.rules.specs.Refusal.{Result, or_else, ◌>>=◌}
-use Rattle.rules.specs.Refusal.Outcome.{ok, refused}
+use Rattle.std.specs.Prelude.{Ok, Err}
 use Rattle.rules.specs.Refusal.Refusal.{invalid_disequality_op, too_many_args_in_disequality}
 use Rattle.rules.specs.Limits.{Limits, plus}
 use Rattle.index_map.specs.IndexMap.{combination, neg, sub}
@@ -20,31 +20,31 @@ use Rattle.rules.specs.Shapes.{is_relation}
 
 unfoldable pub negate_operator : ℕ → Option ℕ
 negate_operator o =
-    when eqb o LessThan then some GreaterEq else
-    when eqb o GreaterThan then some LessEq else
-    when eqb o LessEq then some GreaterThan else
-    when eqb o GreaterEq then some LessThan else
-    none
+    when eqb o LessThan then Some GreaterEq else
+    when eqb o GreaterThan then Some LessEq else
+    when eqb o LessEq then Some GreaterThan else
+    when eqb o GreaterEq then Some LessThan else
+    None
 
 -- the operation under a negation, where there is one
 abbrev pub negated_op : Term → Option (ℕ × Terms)
-negated_op t = elim (remove_negation t) [ some u ↦ as_op u | none ↦ none ]
+negated_op t = elim (remove_negation t) [ Some u ↦ as_op u | None ↦ None ]
 
 -- of a negated relation the relation itself; of any other operation its negated operator
 unfoldable pub inner : Term → Option (ℕ × Terms)
 inner t = elim (negated_op t) [
-  | some p ↦ elim (is_relation p.0) [ true ↦ some p | false ↦ none ]
-  | none ↦ elim (as_op t) [
-    | some p ↦ elim (negate_operator p.0) [ some o ↦ some (o, p.1) | none ↦ none ]
-    | none ↦ none
+  | Some p ↦ elim (is_relation p.0) [ true ↦ Some p | false ↦ None ]
+  | None ↦ elim (as_op t) [
+    | Some p ↦ elim (negate_operator p.0) [ Some o ↦ Some (o, p.1) | None ↦ None ]
+    | None ↦ None
   ]
 ]
 
 abbrev pub two_sides : Terms → Result (Term × Term)
-two_sides nil = refused too_many_args_in_disequality
-two_sides (a ▹ nil) = refused too_many_args_in_disequality
-two_sides (a ▹ b ▹ nil) = ok (a, b)
-two_sides (a ▹ b ▹ c ▹ ts) = refused too_many_args_in_disequality
+two_sides nil = Err too_many_args_in_disequality
+two_sides (a ▹ nil) = Err too_many_args_in_disequality
+two_sides (a ▹ b ▹ nil) = Ok (a, b)
+two_sides (a ▹ b ▹ c ▹ ts) = Err too_many_args_in_disequality
 
 -- an operator and a combination, whose constant stands on the right; and the visits made so far
 pub record Disequality : Type 0 where
@@ -62,7 +62,7 @@ negate_disequality l phi n = do
   (a, b) ← two_sides args
   s1 ← from_term l a n
   s2 ← from_term l b s1.visits
-  ok (o, s1.sum, s2.sum, s2.visits)
+  Ok (o, s1.sum, s2.sum, s2.visits)
 
 -- < and <= are turned to > and >=
 unfoldable pub turned : ℕ → LinearComb → ℕ → Disequality
@@ -76,7 +76,7 @@ unfoldable pub disequality_of : Limits → Term → ℕ → Result Disequality
 disequality_of l phi n = do
   (o, s1, s2, visits) ← negate_disequality l phi n
   s ← sub terms l s1 s2
-  ok (turned o (combination s.entries (neg_q s.constant)) visits)
+  Ok (turned o (combination s.entries (neg_q s.constant)) visits)
 
 -- whether the constant times the argument is whole; the product itself is not tested for its range
 unfoldable pub is_integer_times : Rational → Rational → Bool
@@ -89,7 +89,7 @@ is_integer_times d a =
 unfoldable pub raised : Limits → LinearComb → ℤ → Result (ℕ × LinearComb)
 raised l s step = do
   c ← plus l s.constant (whole step)
-  ok (GreaterEq, combination s.entries c)
+  Ok (GreaterEq, combination s.entries c)
 
 abbrev pub floored : LinearComb → LinearComb
 floored s = combination s.entries (floor_q s.constant)
@@ -97,12 +97,12 @@ floored s = combination s.entries (floor_q s.constant)
 unfoldable pub strengthen : Limits → ℕ → LinearComb → Rational → Result (ℕ × LinearComb)
 strengthen l o s a =
     elim (eqb o GreaterEq && is_integer_times s.constant a) [
-      | true ↦ ok (o, s)
+      | true ↦ Ok (o, s)
       | false ↦ elim (eqb o GreaterThan && is_integer_times s.constant a) [
         | true ↦ raised l (floored s) (coefficients_gcd (floored s))
         | false ↦ elim (eqb o GreaterThan || eqb o GreaterEq) [
           | true ↦ raised l (floored s) (pos 1)
-          | false ↦ ok (o, s)
+          | false ↦ Ok (o, s)
         ]
       ]
     ]

@@ -5,7 +5,7 @@ ghost use Rattle.numbers.specs.Rational.{Proper, whole};
 ghost use Rattle.numbers.specs.Bytes.{Bytes};
 ghost use Rattle.terms.specs.Term.{Term};
 ghost use Rattle.terms.specs.Book.{count, tree};
-ghost use Rattle.rules.specs.Refusal.Outcome.{ok};
+ghost use Rattle.std.specs.Prelude.{Ok};
 ghost use Rattle.rules.specs.Limits.{limited};
 ghost use Rattle.index_map.specs.IndexMap.{Map, combination};
 ghost use Rattle.linear_walk.specs.LinearTerms.{from_term};
@@ -25,11 +25,11 @@ ghost use Rattle.disequality.specs.declared.disequality.Literal.TheVariants as l
 use linear_comb::linear_comb::{Combined, LinearComb, coefficients_gcd};
 use linear_walk::from_term::from_term;
 use linear_walk::linear_walk::{Walk, walk_refusal};
-use numbers::number::{Checked, Number};
+use numbers::number::Number;
 use terms::operator::{EQUALS, GREATER_EQ, GREATER_THAN, LESS_EQ, LESS_THAN, NO_OPERATOR};
 use terms::records::argument;
 use terms::refusal::{INVALID_DISEQUALITY_OP, NUMBER_RANGE, TOO_MANY_ARGS_IN_DISEQUALITY};
-use terms::term::{Only, Reading, args, as_number, operator, remove_negation};
+use terms::term::{args, as_number, operator, remove_negation};
 use work_area::work_area::{LEFT, RIGHT, clear_in, neg_in, sub};
 
 // ---- negate_disequality
@@ -95,7 +95,7 @@ fn inner(book: &[u8], phi: usize) -> Operation
     requires { Laid book.now × (phi < count book.now) }
     ensures { InnerIs book.now result (inner (tree book.now phi)) }
 {
-    if let Only::Of(x) = remove_negation(book, phi) {
+    if let Some(x) = remove_negation(book, phi) {
         let o = operator(book, x);
         return match o {
             EQUALS..=GREATER_EQ => Operation::Of(o, x),
@@ -128,10 +128,10 @@ fn constant_side(q: Number, visits: u32) -> Walk
     requires { Proper q }
     ensures { (b w : Bytes) → Held b w [] → (l : ℕ) → Walks b w result (constant_side (limited l) q visits) }
 {
-    let Checked::Value(c) = q.mul(Number::whole(1)) else {
+    let Some(c) = q.mul(Number::whole(1)) else {
         return Walk::Refused(NUMBER_RANGE);
     };
-    let Checked::Value(constant) = Number::whole(0).add(c) else {
+    let Some(constant) = Number::whole(0).add(c) else {
         return Walk::Refused(NUMBER_RANGE);
     };
     Walk::Done(LinearComb { len: 0, constant }, visits)
@@ -146,7 +146,7 @@ fn right_side(book: &[u8], work: &mut [u8], id: usize, visits: u32, limit: u32) 
         (from_term (limited limit) (tree book.now id) visits) }
 {
     if visits < limit {
-        if let Reading::Value(q) = as_number(book, id) {
+        if let Ok(q) = as_number(book, id) {
             return constant_side(q, visits + 1);
         }
     }
@@ -169,8 +169,7 @@ fn negate_disequality(book: &[u8], work: &mut [u8], phi: usize, visits: u32, lim
     };
     let second = right_side(book, work, y, seen, limit);
     let Walk::Done(t, total) = second else {
-        let n = s.len;
-        clear_in(work, LEFT, n);
+        clear_in(work, LEFT, s.len);
         return Sides::Refused(walk_refusal(second));
     };
     Sides::Both(o, s, t, total)
@@ -208,7 +207,7 @@ fn turned(work: &mut [u8], o: u8, s: LinearComb, visits: u32) -> Disequality
     requires { Area left_side work.old × SumFits s }
     ensures { (b : Bytes) → KeptSum b (area_of left_side work.old) s →
         LiteralLeft b work.old work.new (literal.Is result)
-        (ok (turned o (comb_of b (area_of left_side work.old) s) visits)) }
+        (Ok (turned o (comb_of b (area_of left_side work.old) s) visits)) }
 {
     match o {
         LESS_THAN => Disequality {
@@ -238,14 +237,12 @@ fn bounded(work: &mut [u8], o: u8, s: LinearComb, d: Number, visits: u32) -> Lit
         SubtractedLeft b work.old work.new result
         (subtracted (limited l) o (comb_of b (area_of left_side work.old) s) (combination [] d) visits) }
 {
-    let n = s.len;
-    let c = s.constant;
-    let Checked::Value(difference) = c.add(d.neg()) else {
-        clear_in(work, LEFT, n);
+    let Some(difference) = s.constant.add(d.neg()) else {
+        clear_in(work, LEFT, s.len);
         return Literal::Refused(NUMBER_RANGE);
     };
     let right = LinearComb {
-        len: n,
+        len: s.len,
         constant: difference.neg(),
     };
     Literal::Is(turned(work, o, right, visits))
@@ -262,21 +259,17 @@ fn subtracted(work: &mut [u8], o: u8, s: LinearComb, t: LinearComb, visits: u32)
         (subtracted (limited l) o (comb_of b (area_of left_side work.old) s)
         (comb_of b (area_of right_side work.old) t) visits) }
 {
-    let m = t.len;
-    let d = t.constant;
-    if m == 0 {
-        return bounded(work, o, s, d, visits);
+    if t.len == 0 {
+        return bounded(work, o, s, t.constant, visits);
     }
     let answer = sub(work, LEFT, s, RIGHT, t);
-    clear_in(work, RIGHT, m);
+    clear_in(work, RIGHT, t.len);
     let Combined::Is(difference) = answer else {
         return Literal::Refused(NUMBER_RANGE);
     };
-    let len = difference.len;
-    let c = difference.constant;
     let right = LinearComb {
-        len,
-        constant: c.neg(),
+        len: difference.len,
+        constant: difference.constant.neg(),
     };
     Literal::Is(turned(work, o, right, visits))
 }
@@ -312,10 +305,8 @@ fn is_integer_times(d: Number, a: Number) -> bool
     if a.is_zero() {
         return true;
     }
-    if a.is_integer() {
-        if d.is_integer() {
-            return true;
-        }
+    if a.is_integer() && d.is_integer() {
+        return true;
     }
     if a.eq(Number::whole(1)) {
         return d.is_integer();
@@ -329,7 +320,7 @@ fn raised(len: usize, floor: Number, step: i64) -> Strengthened
     ensures { (m : Map Term) → len ≡ length m → (l : ℕ) →
         StrengthenedIs m result (raised (limited l) (combination m floor) step) }
 {
-    let Checked::Value(constant) = floor.add(Number::whole(step)) else {
+    let Some(constant) = floor.add(Number::whole(step)) else {
         return Strengthened::OutOfRange;
     };
     Strengthened::Is(GREATER_EQ, LinearComb { len, constant })
@@ -341,27 +332,22 @@ pub fn strengthen(entries: &[u8], o: u8, s: LinearComb, a: Number) -> Strengthen
     ensures { (b : Bytes) (k : Kept b entries.now s.len) (l : ℕ) →
         StrengthenedIs k.map result (strengthen (limited l) o (comb_of b entries.now s) a) }
 {
-    let len = s.len;
-    let c = s.constant;
-    let whole = is_integer_times(c, a);
-    let floor = c.floor();
+    let whole = is_integer_times(s.constant, a);
+    let floor = s.constant.floor();
     match o {
         GREATER_THAN => if whole {
-            let step = coefficients_gcd(
-                entries,
-                LinearComb {
-                    len,
-                    constant: floor,
-                },
-            );
-            raised(len, floor, step)
+            let floored = LinearComb {
+                len: s.len,
+                constant: floor,
+            };
+            raised(s.len, floor, coefficients_gcd(entries, floored))
         } else {
-            raised(len, floor, 1)
+            raised(s.len, floor, 1)
         },
         GREATER_EQ => if whole {
             Strengthened::Is(o, s)
         } else {
-            raised(len, floor, 1)
+            raised(s.len, floor, 1)
         },
         _ => Strengthened::Is(o, s),
     }

@@ -8,7 +8,7 @@ use Prim.Native.Nat.{ℕ, ◌+◌, ◌≤◌, ◌<◌}
 use lib.ListN.{length}
 use Rattle.numbers.specs.Rational.{Rational}
 use Rattle.numbers.specs.Bytes.{Bytes}
-use Rattle.rules.specs.Refusal.Outcome.{ok}
+use Rattle.std.specs.Prelude.{Ok}
 use Rattle.rules.specs.Limits.{limited}
 use Rattle.rules.specs.Memory.Parts.{Ready}
 use Rattle.runs.specs.Run.{Step, read_run, steps_of}
@@ -53,7 +53,7 @@ pub record Under (b run o t : Bytes) (e : Elaborating) (σ : State) : Type 0 whe
   pub holds : Holds b o t e.out (steps_written b σ)
 
 pub under_of :
-    {b run o t : Bytes} {e : Elaborating} {σ : State} → read_run b run ≡ ok (steps_of b run) →
+    {b run o t : Bytes} {e : Elaborating} {σ : State} → read_run b run ≡ Ok (steps_of b run) →
     Reached (steps_of b run) e.state.counter.limit σ → ElaboratesTo b run o t e.state.counter.limit e σ →
     Under b run o t e σ
 under_of read reached to =
@@ -158,7 +158,7 @@ pub record Going (g : Given) (work o t : Bytes) (e : Elaborating) : Type 0 where
   pub tail_length : length t ≡ length g.out_tail
 
 pub going_begin :
-    (g : Given) → Ready g.book g.work → read_run g.book g.run ≡ ok (steps_of g.book g.run) →
+    (g : Given) → Ready g.book g.work → read_run g.book g.run ≡ Ok (steps_of g.book g.run) →
     {s : by_value.State} → ((r : Bytes) → s ≡ state_of r g.limit (first g.limit)) → {out : Out} →
     out ≡ record { run = 0; tail = 0; full = false } →
     Going g g.work g.out_run g.out_tail (record { state = s; out = out })

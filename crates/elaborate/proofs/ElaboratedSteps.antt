@@ -5,7 +5,7 @@
 use mathlib.Core.Path.{◌≡◌, refl, sym, ◌∙◌, ap, subst}
 use mathlib.Core.Bool.{Bool, true, false}
 use mathlib.Core.List.{List, [], ◌∷◌, ◌++◌}
-use mathlib.Core.Option.{Option, some, none}
+use Rattle.std.specs.Prelude.{Option, Some, None}
 use Prim.Native.Nat.{ℕ, suc, ◌+◌, ◌<◌}
 use native.Mathlib.Omega.{arith}
 use lib.ListN.{length, length-append, get_or}
@@ -14,7 +14,6 @@ use Rattle.numbers.specs.Bytes.{Bytes}
 use Rattle.terms.specs.Term.{Term, record_number}
 use Rattle.terms.specs.Term.Term.{integer, rational, bitvector, atom, op}
 use Rattle.terms.specs.Book.{count, tree, read_book}
-use Rattle.terms.specs.declared.reading.BookRead.TheVariants.{Records}
 use Rattle.numbers.proofs.Truths.{never}
 use Rattle.numbers.proofs.Rationals.{eq_q-eq}
 use Rattle.book.proofs.Accepted.{accepted-count}
@@ -36,12 +35,13 @@ use Rattle.elaborate.proofs.WrittenSteps.{steps_grow}
 use Rattle.out_areas.proofs.FoundReals.{found-real}
 use Rattle.out_areas.proofs.Everywhere.{every_append, every-weaker}
 use Rattle.elaborate.proofs.TailBook.{TailOf, tail-count, tail-old, tail-new}
+use Rattle.std.specs.Prelude.{Ok}
 
 -- ---- each number has a place
 
 -- a number that the book lacks stands in the tail
 abbrev pub Placed : Bytes → List Rational → Rational → Type 0
-Placed b t q = find_real (count b) b q 0 ≡ none → place_in t q < length t
+Placed b t q = find_real (count b) b q 0 ≡ None → place_in t q < length t
 
 module _ (b : Bytes) where
   placed_append : (t u : List Rational) (q : Rational) → Placed b t q → Placed b (t ++ u) q
@@ -99,7 +99,7 @@ number_at_place (r ∷ t) q d h = go (eq_q r q) refl (number_at_place t q d) h
     go true f rest h = eq_q-eq r q f
     go false f rest h = rest (omega (arith, h))
 
-module _ (b : Bytes) (n : ℕ) (read : read_book b ≡ Records n) (T : List Rational) (t : TailOf b n T) where
+module _ (b : Bytes) (n : ℕ) (read : read_book b ≡ Ok n) (T : List Rational) (t : TailOf b n T) where
   abbrev longer : Bytes
   longer = b ++ tail_bytes T
 
@@ -115,8 +115,8 @@ module _ (b : Bytes) (n : ℕ) (read : read_book b ≡ Records n) (T : List Rati
     where
       go :
           (o : Option ℕ) → find_real (count b) b q 0 ≡ o →
-          InBook longer (rational (elim o as (λ z. ℕ) [ some i ↦ i | none ↦ count b + place_in T q ]) q)
-      go (some i) e =
+          InBook longer (rational (elim o as (λ z. ℕ) [ Some i ↦ i | None ↦ count b + place_in T q ]) q)
+      go (Some i) e =
           let f = found-real (count b) b q 0 i e in
           let h : i < count b = omega (arith, f.0) in
           record {
@@ -127,7 +127,7 @@ module _ (b : Bytes) (n : ℕ) (read : read_book b ≡ Records n) (T : List Rati
                 ∙ sym (real_is (tree b i) q f.1)
                 ∙ sym (old-stays i h);
           }
-      go none e =
+      go None e =
           let k : place_in T q < length T = p e in
           let c = accepted-count b n read in
           record {

@@ -18,7 +18,7 @@ use Rattle.terms.specs.Smtlib.{Assignment, holds}
 use Rattle.terms.specs.Book.{count}
 use Rattle.book.proofs.Accepted.{accepted-count}
 use Rattle.terms.specs.Format.{max_run_records}
-use Rattle.rules.specs.Refusal.Outcome.{ok}
+use Rattle.std.specs.Prelude.{Ok}
 use Rattle.rules.specs.Limits.{Limits, limited}
 use Rattle.rules.proofs.Yields.{at_ok}
 use Rattle.runs.specs.Verdict.{Verdict}
@@ -169,11 +169,11 @@ module _ (book run : Bytes) (limit work out_run out_tail : ℕ) (m : Marked book
       (steps-marked l x.steps)
       (at_ok (read-writable book run) x.ran) placed (assumes_infer_nothing limit x)
 
-  read_back : read_run b' (run_bytes es) ≡ ok es
+  read_back : read_run b' (run_bytes es) ≡ Ok es
   read_back = run-read-back b' es writable (subst (λ r. length r / 4 ≤ max_run_records) run_is fitting.records)
 
-  read-written : read_run b' w.run ≡ ok es
-  read-written = subst (λ r. read_run b' r ≡ ok es) (sym run_is) read_back
+  read-written : read_run b' w.run ≡ Ok es
+  read-written = subst (λ r. read_run b' r ≡ Ok es) (sym run_is) read_back
 
   -- ---- the second marking
 
@@ -259,9 +259,9 @@ module _ (book run : Bytes) (limit work out_run out_tail : ℕ) (m : Marked book
 
     -- what is read of the answer are these steps
     elaboration-true :
-        (ss : List Step) → written_steps book (elaborate book run limit work out_run out_tail) ≡ ok ss → EveryClauseTrue ss
+        (ss : List Step) → written_steps book (elaborate book run limit work out_run out_tail) ≡ Ok ss → EveryClauseTrue ss
     elaboration-true ss e =
-        let read = subst (λ (a : Answer). written_steps book a ≡ ok ss) (answer_is m) e in
+        let read = subst (λ (a : Answer). written_steps book a ≡ Ok ss) (answer_is m) e in
         let same : es ≡ ss = cc read-written in
         subst EveryClauseTrue same steps-true
 

@@ -11,7 +11,7 @@ use lib.Dec.{T}
 use Rattle.numbers.specs.Rational.{Rational}
 use Rattle.numbers.specs.Bytes.{Bytes}
 use Rattle.rules.specs.Refusal.{Refusal, Result}
-use Rattle.rules.specs.Refusal.Outcome.{ok, refused}
+use Rattle.std.specs.Prelude.{Ok, Err}
 use Rattle.rules.specs.Limits.{Limits, the_rust, limited}
 use Rattle.rules_theory.proofs.Limited.{IsLimit, ◌≼◌}
 use Rattle.rules_theory.proofs.Limited.IsLimit.{ten, eleven, twelve}
@@ -58,8 +58,8 @@ module _ (l : Limits) where
       go :
           {a b : Result Accepted} → a ≼ b → ((k : ℕ) → Limited (mark_from l run ss k) (mark_from the_rust run ss k)) →
           Limited (next l run s ss n a) (next the_rust run s ss n b)
-      go (equal (ok c)) h = before-limited (s, c.inferred) (h c.visits)
-      go (equal (refused r)) h = agrees refl
+      go (equal (Ok c)) h = before-limited (s, c.inferred) (h c.visits)
+      go (equal (Err r)) h = agrees refl
       go (stopped p) h = ended (of_limit p)
 
   mark-limited : (book run : Bytes) → Limited (mark l book run) (mark the_rust book run)

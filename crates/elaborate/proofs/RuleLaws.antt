@@ -14,7 +14,7 @@ use Rattle.terms.specs.Term.{Term}
 use Rattle.terms.specs.Smtlib.{Assignment, holds}
 use Rattle.book.proofs.BookTerms.{Closed}
 use Rattle.rules.specs.Refusal.{Refusal, Result, ◌>>=◌}
-use Rattle.rules.specs.Refusal.Outcome.{ok, refused}
+use Rattle.std.specs.Prelude.{Ok, Err}
 use Rattle.rules.specs.Limits.{Limits, the_rust, limited}
 use Rattle.rules.specs.Shapes.{Clause}
 use Rattle.alethe.specs.Alethe.{Departures, carcara, Valid}
@@ -72,7 +72,7 @@ pub record Inference (r : Rule) (ps : List Clause) (c : Clause) (args : List Ter
       Yields
       (λ a.
       (ts : List Term) → Reals ts a.inferred →
-      check_rule (elaborated_rule r) l ps c (args ++ ts) n ≡ ok (accepted a.visits []))
+      check_rule (elaborated_rule r) l ps c (args ++ ts) n ≡ Ok (accepted a.visits []))
       (check_rule r l ps c args n)
 
 pub record RuleLaws (r : Rule) (ps : List Clause) (c : Clause) (args : List Term) : Type 1 where
@@ -85,7 +85,7 @@ pub record RuleLaws (r : Rule) (ps : List Clause) (c : Clause) (args : List Term
   -- a step that meets its rule is refused by a limit alone, but for the differences that have a name
   pub words :
       Known ps c args → (by : Departures) → MeetsRule r by ps c args [] → Comparable by r c args → (l : Limits) (n : ℕ)
-      (x : Refusal) → check_rule r l ps c args n ≡ refused x → IsLimit x ⊎ Differs by r c
+      (x : Refusal) → check_rule r l ps c args n ≡ Err x → IsLimit x ⊎ Differs by r c
   -- a step that meets its rule is true where the clauses that it names are
   pub sound :
       Known ps c args → (qs : List Rational) → EachLowest qs → MeaningPremises (step r [] c args) qs →
@@ -113,37 +113,37 @@ module _ {r : Rule} {ps : List Clause} {c : Clause} {args : List Term} where
       h l n = rule-infers-nothing l r ps c args n other
 
       repeats :
-          (l : Limits) (n : ℕ) (a : Accepted) → check_rule r l ps c args n ≡ ok a → (ts : List Term) →
+          (l : Limits) (n : ℕ) (a : Accepted) → check_rule r l ps c args n ≡ Ok a → (ts : List Term) →
           Reals ts a.inferred →
-          check_rule (elaborated_rule r) l ps c (args ++ ts) n ≡ ok (accepted a.visits [])
+          check_rule (elaborated_rule r) l ps c (args ++ ts) n ≡ Ok (accepted a.visits [])
       repeats l n a e ts reals =
           let nothing = at_ok (h l n) e in
           let none : ts ≡ [] = no_reals (rw nothing at reals) in
-          rw (same, none, append-nil) e ∙ ap (λ qs. ok (accepted a.visits qs)) nothing
+          rw (same, none, append-nil) e ∙ ap (λ qs. Ok (accepted a.visits qs)) nothing
 
 -- ---- a refusal behind the rule's own answer
 
-pub not-refused : {A : Type 0} {a : A} {r : Refusal} {X : Type 0} → ok a ≡ refused r → X
+pub not-refused : {A : Type 0} {a : A} {r : Refusal} {X : Type 0} → Ok a ≡ Err r → X
 not-refused e = let z : ◌≡◌ {A = ℕ} 0 1 = cc in absurd (omega arith)
 
 pub refused-before :
-    {A B : Type 0} (x : Result A) (f : A → B) {r : Refusal} → (x >>= λ a. ok (f a)) ≡ refused r → x ≡ refused r
+    {A B : Type 0} (x : Result A) (f : A → B) {r : Refusal} → (x >>= λ a. Ok (f a)) ≡ Err r → x ≡ Err r
 unfolding ◌>>=◌
-refused-before (ok a) f e = not-refused e
-refused-before (refused q) f {r} e = let h : q ≡ r = cc in ap refused h
+refused-before (Ok a) f e = not-refused e
+refused-before (Err q) f {r} e = let h : q ≡ r = cc in ap Err h
 
 -- ---- of a rule on a clause of one literal
 
 -- what the rule says of its literal, and where Carcara differs
 pub record OnLiteral
     {A : Type 0} (check : Limits → Clause → ℕ → Result A) (says differs : Departures → Term → Type 0) : Type 1 where
-  pub literal : (l : Limits) (c : Clause) (n : ℕ) (a : A) → check l c n ≡ ok a → (phi : Term) × (c ≡ phi ∷ [])
+  pub literal : (l : Limits) (c : Clause) (n : ℕ) (a : A) → check l c n ≡ Ok a → (phi : Term) × (c ≡ phi ∷ [])
   pub form :
       {Q : Term → Type 0} → Closed Q → (l : Limits) (phi : Term) → Q phi → (n : ℕ) (a : A) →
-      check l (phi ∷ []) n ≡ ok a → says carcara phi
+      check l (phi ∷ []) n ≡ Ok a → says carcara phi
   pub refuses :
       {Q : Term → Type 0} → Closed Q → (by : Departures) (phi : Term) → Q phi → says by phi → (l : Limits) (n : ℕ)
-      (r : Refusal) → check l (phi ∷ []) n ≡ refused r → IsLimit r ⊎ differs by phi
+      (r : Refusal) → check l (phi ∷ []) n ≡ Err r → IsLimit r ⊎ differs by phi
   pub valid : {Q : Term → Type 0} → Closed Q → {phi : Term} → Q phi → says carcara phi → Valid (phi ∷ [])
 
 module _ {A : Type 0} {check : Limits → Clause → ℕ → Result A} {says differs : Departures → Term → Type 0}
@@ -151,7 +151,7 @@ module _ {A : Type 0} {check : Limits → Clause → ℕ → Result A} {says dif
   -- f has the visits
   pub one_meets :
       (f : A → ℕ) (l : Limits) (n : ℕ) →
-      Yields (λ a. OneLiteral (says carcara) c) (check l c n >>= λ a. ok (accepted (f a) []))
+      Yields (λ a. OneLiteral (says carcara) c) (check l c n >>= λ a. Ok (accepted (f a) []))
   one_meets f l n =
       known (check l c n) λ a e.
       let (phi, alone) = x.literal l c n a e in
@@ -166,7 +166,7 @@ module _ {A : Type 0} {check : Limits → Clause → ℕ → Result A} {says dif
 
   pub one_words :
       (f : A → ℕ) (by : Departures) (m : OneLiteral (says by) c) (l : Limits) (n : ℕ) (r : Refusal) →
-      (check l c n >>= λ a. ok (accepted (f a) [])) ≡ refused r → IsLimit r ⊎ differs by m.literal
+      (check l c n >>= λ a. Ok (accepted (f a) [])) ≡ Err r → IsLimit r ⊎ differs by m.literal
   one_words f by m l n r e =
       x.refuses k.closed by m.literal (literal-known k m.literal m.alone) m.says l n r
       (sym (ap (λ (d : Clause). check l d n) m.alone) ∙ refused-before (check l c n) (λ a. accepted (f a) []) e)

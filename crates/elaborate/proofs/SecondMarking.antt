@@ -8,7 +8,7 @@ use native.Mathlib.Omega.{arith}
 use lib.ListN.{length, get_or}
 use Rattle.numbers.specs.Rational.{Rational}
 use Rattle.numbers.specs.Bytes.{Bytes}
-use Rattle.rules.specs.Refusal.Outcome.{ok}
+use Rattle.std.specs.Prelude.{Ok}
 use Rattle.rules.specs.Limits.{Limits}
 use Rattle.rules.proofs.Yields.{at_ok}
 use Rattle.linear_theory.proofs.Inferred.{Reals}
@@ -55,9 +55,9 @@ module _ (book : Bytes) (t : List Rational) where
 
   module _ (l : Limits) (run es : List Step) (kept : Keeps run es) where
     step-again :
-        (s : Step) (n : ℕ) (a : Accepted) → check_step l run s n ≡ ok a → NoSurplus s →
+        (s : Step) (n : ℕ) (a : Accepted) → check_step l run s n ≡ Ok a → NoSurplus s →
         clauses_of es s.premises ≡ clauses_of run s.premises →
-        check_step l es (elaborated_step book t s a.inferred) n ≡ ok (accepted a.visits [])
+        check_step l es (elaborated_step book t s a.inferred) n ≡ Ok (accepted a.visits [])
     unfolding check_step
     step-again s n a e g named =
         rw named (at_ok ((laws s.rule _ s.clause s.args).infers.again l n g) e _ (reals-are a.inferred))

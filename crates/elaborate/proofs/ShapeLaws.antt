@@ -5,7 +5,7 @@ use mathlib.Core.Logic.{inl, ⊎_elim}
 use Rattle.terms.specs.Term.{Term}
 use Rattle.book.proofs.BookTerms.{Closed}
 use Rattle.rules.specs.Refusal.{Result}
-use Rattle.rules.specs.Refusal.Outcome.{ok}
+use Rattle.std.specs.Prelude.{Ok}
 use Rattle.rules.specs.Shapes.{Clause}
 use Rattle.linear_shapes.specs.LinearShapes as rule
 use Rattle.alethe.specs.Alethe as Alethe
@@ -27,9 +27,9 @@ OnShape check shape = OnLiteral (λ l c n. check c) (λ by. shape) (λ by phi. �
 module _ {check : Clause → Result (Unit {0})} {shape : Term → Type 0} where
   -- what has the shape is accepted
   on_shape :
-      ((c : Clause) → check c ≡ ok tt → (phi : Term) × (c ≡ phi ∷ [])) →
-      ((Q : Term → Type 0) → Closed Q → (phi : Term) → Q phi → check (phi ∷ []) ≡ ok tt → shape phi) →
-      ((phi : Term) → shape phi → check (phi ∷ []) ≡ ok tt) →
+      ((c : Clause) → check c ≡ Ok tt → (phi : Term) × (c ≡ phi ∷ [])) →
+      ((Q : Term → Type 0) → Closed Q → (phi : Term) → Q phi → check (phi ∷ []) ≡ Ok tt → shape phi) →
+      ((phi : Term) → shape phi → check (phi ∷ []) ≡ Ok tt) →
       ((phi : Term) → shape phi → Alethe.Valid (phi ∷ [])) → OnShape check shape
   on_shape literal form accepted valid =
       record {

@@ -17,11 +17,9 @@ use Rattle.numbers.specs.Rational.{Rational, eq_q}
 use Rattle.numbers.specs.Bytes.{Bytes, same_bytes}
 use Rattle.terms.specs.Term.{sort, sort_code}
 use Rattle.terms.specs.Term.Term.{rational}
-use Rattle.terms.specs.Book.{count, record_of, tree, stands, record_read, read_records, read_book, size_ok}
+use Rattle.terms.specs.Book.{BookRead, refused_at, count, record_of, tree, stands, record_read, read_records, read_book, size_ok}
 use Rattle.terms.specs.Format.{max_records}
 use Rattle.terms.specs.declared.reading.BookRefusal.TheVariants.{BookSize}
-use Rattle.terms.specs.declared.reading.BookRead.TheVariants.{Records, RefusedAt}
-use Rattle.terms.specs.declared.reading.RecordRead.TheVariants.{Sorted}
 use Rattle.numbers.proofs.Truths.{both, never}
 use Rattle.numbers.proofs.Rationals.{eq_q-eq, eq_q-refl}
 use Rattle.terms.proofs.Trees.{record_of-inside, record_of_append, tree_append}
@@ -30,26 +28,27 @@ use Rattle.out_areas.specs.Farkas.{real_record, tail_bytes, is_real}
 use Rattle.runs.specs.Run.{end, also, Every}
 use Rattle.out_areas.proofs.Everywhere.{every-both}
 use Rattle.out_areas.proofs.RealRecord.{Storable, Lacks, length-real, real-tree, real-new, real-layout}
+use Rattle.std.specs.Prelude.{Ok, Err}
 
 -- ---- a book that is read
 
 -- a record that passes its tests has a sort
-accepted-sorted : (c : Bytes) (i : ℕ) → Accepted c i → record_read c i ≡ Sorted (sort_code (sort (tree c i)))
+accepted-sorted : (c : Bytes) (i : ℕ) → Accepted c i → record_read c i ≡ Ok (sort_code (sort (tree c i)))
 unfolding record_read
 accepted-sorted c i a = rw (a.layout, a.sorted, a.new, record_read)
 
 records-accepted :
-    (n : ℕ) (c : Bytes) (i : ℕ) → ((j : ℕ) → j < i + n → Accepted c j) → read_records n c i ≡ Records (i + n)
+    (n : ℕ) (c : Bytes) (i : ℕ) → ((j : ℕ) → j < i + n → Accepted c j) → read_records n c i ≡ Ok (i + n)
 unfolding read_records
-records-accepted zero c i each = ap Records (sym (add-zero i))
+records-accepted zero c i each = ap Ok (sym (add-zero i))
 records-accepted (suc n) c i each =
     let next : i + 1 + n ≡ i + suc n = omega arith in
     rw (accepted-sorted c i (each i (omega arith)), read_records)
-    (records-accepted n c (i + 1) (λ j h. each j (omega arith)) ∙ ap Records next)
+    (records-accepted n c (i + 1) (λ j h. each j (omega arith)) ∙ ap Ok next)
 
 book-accepted :
     (c : Bytes) (n : ℕ) → length c ≡ 32 * n → n ≤ max_records → ((j : ℕ) → j < n → Accepted c j) →
-    read_book c ≡ Records n
+    read_book c ≡ Ok n
 unfolding read_book
 book-accepted c n long few each =
     let whole : length c % 32 ≡ 0 = omega arith in
@@ -57,15 +56,16 @@ book-accepted c n long few each =
     rw (eq-eqb (length c % 32) 0 whole, le-leb (length c / 32) max_records (omega arith), read_book)
     (ap (λ (m : ℕ). read_records m c 0) all
     ∙ records-accepted n c 0 (λ j h. each j (omega arith))
-    ∙ ap Records (zero-add n))
+    ∙ ap Ok (zero-add n))
 
-module _ (b : Bytes) (n : ℕ) (e : read_book b ≡ Records n) where
+module _ (b : Bytes) (n : ℕ) (e : read_book b ≡ Ok n) where
   read-sized : size_ok b ≡ true
   unfolding read_book
   read-sized = go (size_ok b) e
     where
       go :
-          (t : Bool) → elim t [ true ↦ read_records (length b / 32) b 0 | false ↦ RefusedAt BookSize 0 ] ≡ Records n →
+          (t : Bool) →
+          ◌≡◌ {A = BookRead} (elim t [ true ↦ read_records (length b / 32) b 0 | false ↦ refused_at BookSize 0 ]) (Ok n) →
           t ≡ true
       go true p = refl
       go false p = cc
@@ -103,7 +103,7 @@ last_or_earlier :
 last_or_earlier P n earlier last j h =
     ⊎_elim (λ e. subst P (sym e) last) (earlier j) (eq-or-lt_of_le (le_of_suc-le-suc h))
 
-module _ (b : Bytes) (n : ℕ) (e : read_book b ≡ Records n) where
+module _ (b : Bytes) (n : ℕ) (e : read_book b ≡ Ok n) where
   old-tree : (t : Bytes) (i : ℕ) → i < n → tree (b ++ t) i ≡ tree b i
   old-tree t i h = tree_append b t i (omega (arith, accepted-count b n e))
 
@@ -134,7 +134,7 @@ module _ (b : Bytes) (n : ℕ) (e : read_book b ≡ Records n) where
               ∙ real-new q s.proper b n lacks);
         }
 
-    one_read : Lacks b n q → read_book longer ≡ Records (suc n)
+    one_read : Lacks b n q → read_book longer ≡ Ok (suc n)
     one_read lacks =
         book-accepted longer (suc n) longer-length (omega arith)
         (last_or_earlier (Accepted longer) n old (last-accepted lacks))
@@ -170,18 +170,18 @@ pub record TailOf (b : Bytes) (n : ℕ) (qs : List Rational) : Type 0 where
 
 -- c reads as n records and the constants qs
 record Followed (c : Bytes) (n : ℕ) (qs : List Rational) : Type 0 where
-  read : read_book c ≡ Records (n + length qs)
+  read : read_book c ≡ Ok (n + length qs)
   new : (k : ℕ) → k < length qs → (d : Rational) → tree c (n + k) ≡ rational (n + k) (get_or qs k d)
 
-none_followed : (c : Bytes) (n : ℕ) → read_book c ≡ Records n → Followed c n []
-none_followed c n e = record { read = e ∙ ap Records (sym (add-zero n)); new = λ k h d. absurd (omega arith) }
+none_followed : (c : Bytes) (n : ℕ) → read_book c ≡ Ok n → Followed c n []
+none_followed c n e = record { read = e ∙ ap Ok (sym (add-zero n)); new = λ k h d. absurd (omega arith) }
 
 one_followed :
     (c : Bytes) (n : ℕ) (q : Rational) (qs : List Rational) → tree c n ≡ rational n q →
     Followed c (suc n) qs → Followed c n (q ∷ qs)
 one_followed c n q qs here f =
     let all : suc n + length qs ≡ n + suc (length qs) = omega arith in
-    record { read = f.read ∙ ap Records all; new = new }
+    record { read = f.read ∙ ap Ok all; new = new }
   where
     new :
         (k : ℕ) → k < suc (length qs) → (d : Rational) →
@@ -192,14 +192,14 @@ one_followed c n q qs here f =
         rw (← place) (f.new k (omega arith) d)
 
 followed :
-    (qs : List Rational) (b : Bytes) (n : ℕ) → read_book b ≡ Records n → Every Storable qs →
+    (qs : List Rational) (b : Bytes) (n : ℕ) → read_book b ≡ Ok n → Every Storable qs →
     Every (Lacks b n) qs → Differ qs → n + length qs ≤ max_records → Followed (b ++ tail_bytes qs) n qs
 unfolding tail_bytes
 followed [] b n e end end none room = rw append-nil (none_followed b n e)
 followed (q ∷ qs) b n e (also s ss) (also l ls) (one d ds) room =
     let c : Bytes = b ++ real_record q in
     let few : n < max_records = omega arith in
-    let read : read_book c ≡ Records (suc n) = one_read b n e q s few l in
+    let read : read_book c ≡ Ok (suc n) = one_read b n e q s few l in
     let rest : Followed (c ++ tail_bytes qs) (suc n) qs =
     followed qs c (suc n) read ss (every-both (one_lacks b n e q s few) qs d ls) ds (omega arith) in
     let here : tree (c ++ tail_bytes qs) n ≡ rational n q =
@@ -207,11 +207,11 @@ followed (q ∷ qs) b n e (also s ss) (also l ls) (one d ds) room =
     subst (λ (x : Bytes). Followed x n (q ∷ qs)) (append_assoc b (real_record q) (tail_bytes qs))
     (one_followed (c ++ tail_bytes qs) n q qs here rest)
 
-module _ (b : Bytes) (n : ℕ) (e : read_book b ≡ Records n) (qs : List Rational) (t : TailOf b n qs) where
+module _ (b : Bytes) (n : ℕ) (e : read_book b ≡ Ok n) (qs : List Rational) (t : TailOf b n qs) where
   behind : Followed (b ++ tail_bytes qs) n qs
   behind = followed qs b n e t.storable t.lacks t.differ t.room
 
-  pub tail-read : read_book (b ++ tail_bytes qs) ≡ Records (n + length qs)
+  pub tail-read : read_book (b ++ tail_bytes qs) ≡ Ok (n + length qs)
   tail-read = behind.read
 
   pub tail-count : count (b ++ tail_bytes qs) ≡ n + length qs

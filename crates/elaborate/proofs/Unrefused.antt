@@ -9,12 +9,9 @@ use lib.Dec.{T}
 use lib.ListN.{length}
 use Rattle.numbers.specs.Bytes.{Bytes}
 use Rattle.terms.specs.Book.{read_book}
-use Rattle.terms.specs.declared.reading.BookRead.{BookRead}
-use Rattle.terms.specs.declared.reading.BookRead.TheVariants.{Records, RefusedAt}
 use Rattle.book.proofs.Accepted.{accepted-count}
 use Rattle.book.proofs.BookTerms.{OfBook, book-closed}
-use Rattle.rules.specs.Refusal.{Outcome}
-use Rattle.rules.specs.Refusal.Outcome.{ok, refused}
+use Rattle.std.specs.Prelude.{Result, Ok, Err}
 use Rattle.rules.specs.Limits.{Limits, limited}
 use Rattle.rules.proofs.Yields.{at_ok}
 use Rattle.runs.specs.Verdict.{LentRefusal, Verdict, lent, is_lent}
@@ -28,6 +25,7 @@ use Rattle.out_areas.specs.Farkas.{written, tail_bytes, fits}
 use Rattle.out_areas.proofs.OutAreas.{none_fits}
 use Rattle.elaborate.proofs.RunTerms.{StepOf, Ordered, known_step, run_of_book, run_ordered}
 use Rattle.elaborate.proofs.RuleLaws.{Known}
+use Rattle.terms.specs.Book.{BookRead}
 
 -- none of refusals 1 to 8
 abbrev pub Free : Verdict → Type 0
@@ -39,8 +37,8 @@ Free v = T (not (is_lent v))
 pub record Ran (book run : Bytes) : Type 0 where
   pub records : ℕ
   pub steps : List Step
-  pub read : read_book book ≡ Records records
-  pub ran : read_run book run ≡ ok steps
+  pub read : read_book book ≡ Ok records
+  pub ran : read_run book run ≡ Ok steps
 
 -- the marking of a run's steps
 abbrev pub mark_steps : Limits → List Step → Marking
@@ -62,17 +60,17 @@ unfolding mark mark_run
 reads book run = by_book (read_book book) refl (read_run book run) refl
   where
     by_book :
-        (b : BookRead) → read_book book ≡ b → (r : Outcome LentRefusal (List Step)) → read_run book run ≡ r →
+        (b : BookRead) → read_book book ≡ b → (r : Result (List Step) LentRefusal) → read_run book run ≡ r →
         Reads book run
-    by_book (Records n) e (ok ss) f = is_read record { records = n; steps = ss; read = e; ran = f }
-    by_book (Records n) e (refused r) f = not-read r λ l. ap (mark_book l book run) e ∙ ap (mark_run l) f
-    by_book (RefusedAt c i) e r f = not-read (of_book c) λ l. ap (mark_book l book run) e
+    by_book (Ok n) e (Ok ss) f = is_read record { records = n; steps = ss; read = e; ran = f }
+    by_book (Ok n) e (Err r) f = not-read r λ l. ap (mark_book l book run) e ∙ ap (mark_run l) f
+    by_book (Err d) e r f = not-read (of_book d.refusal) λ l. ap (mark_book l book run) e
 
 -- what is known of the steps
 module _ {book run : Bytes} (x : Ran book run) where
   pub listed : steps_of book run ≡ x.steps
   listed =
-      ap (λ (r : Outcome LentRefusal (List Step)). elim r as (λ y. List Step) [ ok ss ↦ ss | refused r ↦ [] ]) x.ran
+      ap (λ (r : Result (List Step) LentRefusal). elim r as (λ y. List Step) [ Ok ss ↦ ss | Err r ↦ [] ]) x.ran
 
   pub ran_of_book : Every (StepOf (OfBook book x.records)) x.steps
   ran_of_book = at_ok (run_of_book book x.records (accepted-count book x.records x.read) run) x.ran

@@ -9,7 +9,7 @@ use lib.Dec.{T}
 use lib.ListN.{length, get_or}
 use Rattle.numbers.specs.Bytes.{Bytes}
 use Rattle.rules.specs.Refusal.{Refusal}
-use Rattle.rules.specs.Refusal.Outcome.{refused}
+use Rattle.std.specs.Prelude.{Err}
 use Rattle.rules.specs.Limits.{Limits, limited}
 use Rattle.alethe.specs.Alethe.{Departures}
 use Rattle.rules_theory.proofs.Limited.{IsLimit, ten, eleven, twelve}
@@ -37,7 +37,7 @@ module _ (l : Limits) (run : List Step) where
   record Stopped (s : Step) (v : Verdict) : Type 0 where
     visits : ℕ
     refusal : Refusal
-    stops : check_step l run s visits ≡ refused refusal
+    stops : check_step l run s visits ≡ Err refusal
     verdict : v ≡ Verdict.stopped refusal
 
   stopped :

@@ -17,7 +17,7 @@ use Rattle.terms.specs.Book.{count}
 use Rattle.numbers.proofs.Truths.{both, never}
 use Rattle.terms.specs.Format.{max_run_records}
 use Rattle.rules.specs.Refusal.{◌>>=◌, assert, or_else}
-use Rattle.rules.specs.Refusal.Outcome.{ok}
+use Rattle.std.specs.Prelude.{Ok}
 use Rattle.rules.proofs.Yields.{Yields, and_then, past, guarded}
 use Rattle.rules.proofs.Yields.Yields.{gives, refuses}
 use Rattle.runs.specs.Rule.{Rule, rule_number, is_rule}
@@ -147,7 +147,7 @@ module _ (b : Bytes) (k : ℕ) (s : Step) (w : Writable b k s) where
   args-right : all_right (λ a. ltb a (count b)) as' ≡ true
   args-right = all_right_lem _ A _ (every-number _ (λ t h. lt-ltb _ _ (number-inside b t h)) s.args w.args)
 
-  step_back : read_step b k (rec S (rule_number s.rule) 0) ps cs as' ≡ ok s
+  step_back : read_step b k (rec S (rule_number s.rule) 0) ps cs as' ≡ Ok s
   unfolding read_step head_rule or_else ◌>>=◌ assert
   step_back =
       let p = numbers-back P s.premises in
@@ -165,7 +165,7 @@ opens (s ∷ ss) m e = e
 
 steps_back :
     (b : Bytes) (k n : ℕ) (ss : List Step) → AllWritable b n ss → length ss ≤ k → n + length ss ≤ 65536 →
-    read_steps k b n (recs (run_bytes ss)) ≡ ok ss
+    read_steps k b n (recs (run_bytes ss)) ≡ Ok ss
 unfolding read_steps recs run_bytes ◌>>=◌
 steps_back b zero n [] w h few = refl
 steps_back b (suc k) n [] w h few = refl
@@ -213,7 +213,7 @@ whole_run ss = omega (arith, (run_quarters ss).all)
 
 pub run-read-back :
     (b : Bytes) (ss : List Step) → AllWritable b 0 ss → length (run_bytes ss) / 4 ≤ max_run_records →
-    read_run b (run_bytes ss) ≡ ok ss
+    read_run b (run_bytes ss) ≡ Ok ss
 unfolding read_run ◌>>=◌ assert
 run-read-back b ss w few =
     let q = run_quarters ss in

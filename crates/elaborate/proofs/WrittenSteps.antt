@@ -6,7 +6,7 @@
 use mathlib.Core.Path.{◌≡◌, refl, sym, ◌∙◌, ap}
 use mathlib.Core.Bool.{Bool, true, false}
 use mathlib.Core.List.{List, [], ◌∷◌, ◌++◌, append_assoc, append-nil}
-use mathlib.Core.Option.{Option, some, none}
+use Rattle.std.specs.Prelude.{Option, Some, None}
 use Prim.Native.Nat.{ℕ, suc, ◌+◌, ◌<◌, ◌≤◌}
 use native.Mathlib.Omega.{arith}
 use borrow.Author.Tests.{ltb-true, ltb-false}
@@ -72,12 +72,12 @@ place_in-le (r ∷ t) q = go (eq_q r q) (place_in-le t q)
 -- a number is written as an argument: the book has it, the tail has it, or it is added to the tail
 pub data Added (b : Bytes) (w : Written) (q : Rational) : Written → Type 0 where
   in_book :
-      {i : ℕ} → find_real (count b) b q 0 ≡ some i → Added b w q (written (w.run ++ record_bytes A 0 i) w.tail)
+      {i : ℕ} → find_real (count b) b q 0 ≡ Some i → Added b w q (written (w.run ++ record_bytes A 0 i) w.tail)
   in_tail :
-      find_real (count b) b q 0 ≡ none → place_in w.tail q < length w.tail →
+      find_real (count b) b q 0 ≡ None → place_in w.tail q < length w.tail →
       Added b w q (written (w.run ++ record_bytes A 0 (count b + place_in w.tail q)) w.tail)
   at_end :
-      find_real (count b) b q 0 ≡ none → length w.tail ≤ place_in w.tail q →
+      find_real (count b) b q 0 ≡ None → length w.tail ≤ place_in w.tail q →
       Added b w q (written (w.run ++ record_bytes A 0 (count b + place_in w.tail q)) (w.tail ++ q ∷ []))
 
 pub added : (b : Bytes) (w : Written) (q : Rational) → Added b w q (add_real b w q)
@@ -85,7 +85,7 @@ unfolding add_real
 added b w q = found (find_real (count b) b q 0) refl
   where
     placed :
-        (c : Bool) → ltb (place_in w.tail q) (length w.tail) ≡ c → find_real (count b) b q 0 ≡ none →
+        (c : Bool) → ltb (place_in w.tail q) (length w.tail) ≡ c → find_real (count b) b q 0 ≡ None →
         Added b w q
         (written (w.run ++ record_bytes A 0 (count b + place_in w.tail q))
         (elim c as (λ z. List Rational) [ true ↦ w.tail | false ↦ w.tail ++ q ∷ [] ]))
@@ -96,16 +96,16 @@ added b w q = found (find_real (count b) b q 0) refl
         (o : Option ℕ) → find_real (count b) b q 0 ≡ o →
         Added b w q
         (elim o as (λ z. Written) [
-          | some i ↦ written (w.run ++ record_bytes A 0 i) w.tail
-          | none ↦ written (w.run ++ record_bytes A 0 (count b + place_in w.tail q)) (with_tail w.tail q)
+          | Some i ↦ written (w.run ++ record_bytes A 0 i) w.tail
+          | None ↦ written (w.run ++ record_bytes A 0 (count b + place_in w.tail q)) (with_tail w.tail q)
         ])
-    found (some i) e = in_book e
-    found none e = placed (ltb (place_in w.tail q) (length w.tail)) refl e
+    found (Some i) e = in_book e
+    found None e = placed (ltb (place_in w.tail q) (length w.tail)) refl e
 
 module _ (b : Bytes) where
   -- where a number stands that is found in the book, or not
   unfoldable pub place_of : List Rational → Rational → ℕ
-  place_of t q = elim (find_real (count b) b q 0) [ some i ↦ i | none ↦ count b + place_in t q ]
+  place_of t q = elim (find_real (count b) b q 0) [ Some i ↦ i | None ↦ count b + place_in t q ]
 
   abbrev pub real_at : List Rational → Rational → Term
   real_at t q = rational (place_of t q) q

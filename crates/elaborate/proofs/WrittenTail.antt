@@ -4,7 +4,7 @@
 use mathlib.Core.Path.{◌≡◌, refl, subst}
 use mathlib.Core.Bool.{Bool, true, false}
 use mathlib.Core.List.{List, [], ◌∷◌, ◌++◌}
-use mathlib.Core.Option.{Option, some, none}
+use Rattle.std.specs.Prelude.{Option, Some, None}
 use Prim.Native.Nat.{ℕ, zero, suc, ◌+◌, ◌<◌, ◌≤◌}
 use mathlib.Core.Logic.{⊎_elim}
 use native.Mathlib.Nat.{eq-or-lt_of_le}
@@ -25,7 +25,7 @@ use Rattle.elaborate.proofs.TailBook.Differ.{none as no_more, one as one_more}
 -- ---- the book lacks what is not found in it
 
 not_found :
-    (k : ℕ) (b : Bytes) (q : Rational) (i : ℕ) → find_real k b q i ≡ none → (j : ℕ) → i ≤ j → j < i + k →
+    (k : ℕ) (b : Bytes) (q : Rational) (i : ℕ) → find_real k b q i ≡ None → (j : ℕ) → i ≤ j → j < i + k →
     is_real q (tree b j) ≡ false
 unfolding find_real
 not_found zero b q i e j l h = absurd (omega (arith, l, h))
@@ -33,8 +33,8 @@ not_found (suc k) b q i e j l h = go (is_real q (tree b i)) refl e (not_found k 
   where
     go :
         (t : Bool) → is_real q (tree b i) ≡ t →
-        ◌≡◌ {A = Option ℕ} (elim t [ true ↦ some i | false ↦ find_real k b q (suc i) ]) none →
-        (find_real k b q (suc i) ≡ none → (j : ℕ) → suc i ≤ j → j < suc i + k → is_real q (tree b j) ≡ false) →
+        ◌≡◌ {A = Option ℕ} (elim t [ true ↦ Some i | false ↦ find_real k b q (suc i) ]) None →
+        (find_real k b q (suc i) ≡ None → (j : ℕ) → suc i ≤ j → j < suc i + k → is_real q (tree b j) ≡ false) →
         is_real q (tree b j) ≡ false
     go true f e rest = let z : ◌≡◌ {A = ℕ} 0 1 = cc in absurd (omega arith)
     go false f e rest =

@@ -6,7 +6,7 @@ use Rattle.std.specs.Prelude.{◌≡◌, not, List, [], ◌∷◌, ◌⊎◌, �
 use Rattle.numbers.specs.Rational.{Rational}
 use Rattle.numbers.specs.Bytes.{Bytes}
 use Rattle.terms.specs.Term.{Term}
-use Rattle.rules.specs.Refusal.Outcome.{ok}
+use Rattle.std.specs.Prelude.{Ok}
 use Rattle.rules.specs.Limits.{the_rust, limited}
 use Rattle.rules.specs.Shapes.{Clause}
 use Rattle.alethe.specs.Alethe as Alethe
@@ -166,7 +166,7 @@ ClausesTrue =
     (book run : Bytes) (limit work out_run out_tail : ℕ) →
     T (not (is_lent (elaborate book run limit work out_run out_tail).verdict)) →
     Every (λ x. MeaningPremises x.0 x.1) (mark (limited limit) book run).steps →
-    (steps : List Step) → written_steps book (elaborate book run limit work out_run out_tail) ≡ ok steps →
+    (steps : List Step) → written_steps book (elaborate book run limit work out_run out_tail) ≡ Ok steps →
     EveryClauseTrue steps
 
 -- both, where all premises hold

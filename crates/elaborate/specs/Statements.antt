@@ -5,8 +5,7 @@ use Rattle.std.specs.Prelude.{◌≡◌, ◌&&◌, ◌||◌, List, [], ◌∷◌
 use Rattle.numbers.specs.Rational.{Rational}
 use Rattle.numbers.specs.Bytes.{Bytes}
 use Rattle.terms.specs.Smtlib.{Assignment, holds}
-use Rattle.rules.specs.Refusal.{Outcome}
-use Rattle.rules.specs.Refusal.Outcome.{ok}
+use Rattle.std.specs.Prelude.{Result, Ok}
 use Rattle.rules.specs.Shapes.{Clause}
 use Rattle.linear_theory.specs.Premises.{all_even, whole_literals}
 use Rattle.runs.specs.Verdict.{LentRefusal, Verdict, is_lent}
@@ -69,7 +68,7 @@ abbrev pub AssumedTrue : Assignment → List Step → Type 0
 AssumedTrue ρ = Every (λ s. s.rule ≡ assume → T (holds ρ s.clause))
 
 -- the steps that an answer wrote: 'book, then tail, is the elaborated run's book'
-abbrev pub written_steps : Bytes → Answer → Outcome LentRefusal (List Step)
+abbrev pub written_steps : Bytes → Answer → Result (List Step) LentRefusal
 written_steps book a = read_run (book ++ a.tail) a.run
 
 -- the second marking of what an answer wrote
@@ -82,7 +81,7 @@ pub record AcceptedAgain (book : Bytes) (limit work out_run out_tail : ℕ) (a :
       ≡ answer Verdict.accepted a.steps a.visits a.run []
   -- its steps
   pub steps : List Step
-  pub read : written_steps book a ≡ ok steps
+  pub read : written_steps book a ≡ Ok steps
   pub count : length steps ≡ a.steps
   -- 'it holds no rule 6'
   pub no_rule6 : Every (λ s. s.rule ≡ bounded_farkas → ⊥) steps

@@ -1,7 +1,7 @@
 // Marking a run with the trace on, and its elaboration.
 ghost use Rattle.std.specs.Prelude.{◌≡◌, false, length};
 ghost use Rattle.numbers.specs.Bytes.{Bytes};
-ghost use Rattle.rules.specs.Refusal.Outcome.{ok};
+ghost use Rattle.std.specs.Prelude.{Ok};
 ghost use Rattle.rules.specs.Limits.{limited};
 ghost use Rattle.rules.specs.Memory.Parts.{Ready};
 ghost use Rattle.runs.specs.Run.{read_run, steps_of};
@@ -61,7 +61,7 @@ pub(crate) fn turn(
     outtail: &mut [u8],
     e: Elaborating,
 ) -> Elaborating
-    requires ready { Ready book.now work.old × (read_run book.now run.now ≡ ok (steps_of book.now run.now)) }
+    requires ready { Ready book.now work.old × (read_run book.now run.now ≡ Ok (steps_of book.now run.now)) }
     requires underway { Underway book.now run.now e.state }
     ensures turns_written { TurnsWritten book.now run.now outrun.old outtail.old
         outrun.new outtail.new e result }
@@ -104,7 +104,7 @@ fn elaborate_steps(
     outrun: &mut [u8],
     outtail: &mut [u8],
 ) -> Elaborating
-    requires { Ready book.now work.old × (read_run book.now run.now ≡ ok (steps_of book.now run.now)) }
+    requires { Ready book.now work.old × (read_run book.now run.now ≡ Ok (steps_of book.now run.now)) }
     ensures elaborates { Elaborates book.now outrun.new outtail.new result
         (check_steps (limited limit) (steps_of book.now run.now)) }
     ensures work_unchanged { work.new ≡ work.old }

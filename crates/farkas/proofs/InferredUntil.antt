@@ -4,13 +4,13 @@
 --     numbers_of, numbers-unread, numbers-ended       those of `bounded_farkas`
 use mathlib.Core.Path.{◌≡◌, refl, sym, ap, ◌∙◌}
 use mathlib.Core.List.{List, [], ◌∷◌}
-use mathlib.Core.Option.{Option}
+use Rattle.std.specs.Prelude.{Option}
 use Prim.Native.Nat.{ℕ}
 use lib.ListN.{drop}
 use Rattle.numbers.specs.Rational.{Rational}
 use Rattle.terms.specs.Term.{Term}
 use Rattle.rules.specs.Refusal.{Refusal, Result}
-use Rattle.rules.specs.Refusal.Outcome.{ok, refused}
+use Rattle.std.specs.Prelude.{Ok, Err}
 use Rattle.rules.specs.Limits.{Limits}
 use Rattle.index_map.specs.IndexMap.{new}
 use Rattle.rules.specs.Memory.Parts.{terms_in}
@@ -27,7 +27,7 @@ use Rattle.farkas.specs.Memory.FarkasSteps.{inferred_until, farkas_numbers}
 module _ (l : Limits) where
   -- by what the first literal does
   abbrev until_by : Clause → List Rational → Progress → Result Progress → List Rational
-  until_by clause args p z = elim z [ ok q ↦ inferred_until l clause (drop 1 args) q | refused r ↦ p.trace ]
+  until_by clause args p z = elim z [ Ok q ↦ inferred_until l clause (drop 1 args) q | Err r ↦ p.trace ]
 
   until_by_lem :
       (phi : Term) (clause : Clause) (args : List Rational) (p : Progress) {z : Result Progress} →
@@ -49,10 +49,10 @@ module _ (l : Limits) where
       (λ c e. until_by_lem phi clause args p e ∙ ap (λ x. x.0.trace) (sym (end_by_lem l phi clause args p e)))
 
   abbrev numbers_by : Clause → ℕ → Result (List Rational) → List Rational
-  numbers_by clause n z = elim z [ ok qs ↦ inferred_until l clause qs (progress 4 new [] n) | refused r ↦ [] ]
+  numbers_by clause n z = elim z [ Ok qs ↦ inferred_until l clause qs (progress 4 new [] n) | Err r ↦ [] ]
 
   abbrev last_numbers : Result (Progress × Option Refusal) → List Rational
-  last_numbers z = elim z [ ok e ↦ e.0.trace | refused r ↦ [] ]
+  last_numbers z = elim z [ Ok e ↦ e.0.trace | Err r ↦ [] ]
 
   numbers_by_lem :
       (clause : Clause) (args : List Term) (n : ℕ) →
@@ -65,7 +65,7 @@ module _ (l : Limits) where
       (λ c e. ap (numbers_by clause n) e ∙ ap last_numbers (sym (ends _ e)))
 
   pub numbers-unread :
-      (clause : Clause) (args : List Term) (n : ℕ) (c : Refusal) → read_args l args ≡ refused c →
+      (clause : Clause) (args : List Term) (n : ℕ) (c : Refusal) → read_args l args ≡ Err c →
       farkas_numbers l clause args n ≡ []
   numbers-unread clause args n c e = numbers_by_lem clause args n ∙ ap last_numbers (ends _ e)
 

@@ -2,7 +2,7 @@
 -- alone, and `la_generic` has an argument for each.
 use mathlib.Core.Path.{◌≡◌, refl, sym, ap, ◌∙◌}
 use mathlib.Core.Bool.{false}
-use mathlib.Core.Option.{some}
+use Rattle.std.specs.Prelude.{Some}
 use mathlib.Core.List.{List, [], ◌∷◌}
 use Prim.Native.Nat.{ℕ, suc, ◌≤◌}
 use native.Mathlib.Omega.{arith}
@@ -34,13 +34,13 @@ module _ (l : Limits) where
   -- the argument is given
   argument-keeps :
       (p : Progress) (s : LinearComb) (a : Rational) →
-      Yields (λ x. x.1 ≡ p.trace) (argument_of l p s (some a))
+      Yields (λ x. x.1 ≡ p.trace) (argument_of l p s (Some a))
   unfolding argument_of
   argument-keeps p s a = gives refl
 
   literal-keeps :
       (p : Progress) (phi : Term) (a : Rational) →
-      Yields (λ q. q.trace ≡ p.trace) (process_disequality l p phi (some a))
+      Yields (λ q. q.trace ≡ p.trace) (process_disequality l p phi (Some a))
   unfolding process_disequality
   literal-keeps p phi a =
       past (disequality_of l phi p.visits) λ d.

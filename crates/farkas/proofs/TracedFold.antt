@@ -15,7 +15,7 @@ use Rattle.numbers.specs.Bytes.{Bytes}
 use Rattle.terms.specs.Operator.{Equals}
 use Rattle.terms.specs.Format.{max_run_bytes}
 use Rattle.rules.specs.Refusal.{Result, ◌>>=◌}
-use Rattle.rules.specs.Refusal.Outcome.{ok, refused}
+use Rattle.std.specs.Prelude.{Ok, Err}
 use Rattle.rules.specs.Limits.{limited}
 use Rattle.process_disequality.specs.ProcessDisequality.{Progress}
 use Rattle.linear_arithmetic.specs.LinearArithmetic.{read_args}
@@ -69,10 +69,10 @@ pub judged_stepped :
     (d : Result Accepted) → v ≡ verdict_of (visits_after d) →
     Yields (λ a. Holds b o t out (add_reals b w a.inferred)) d → SteppedIs b o t r w d
 unfolding ◌>>=◌
-judged_stepped b o t out w v r r-is (ok a) e (gives h) =
-    subst (λ z. SteppedIs b o t z w (ok a)) (sym (r-is ∙ ap (λ z. judged_as z out) e)) (a, (refl, (refl, h)))
-judged_stepped b o t out w v r r-is (refused c) e refuses =
-    subst (λ z. SteppedIs b o t z w (refused c)) (sym (r-is ∙ ap (λ z. judged_as z out) e))
+judged_stepped b o t out w v r r-is (Ok a) e (gives h) =
+    subst (λ z. SteppedIs b o t z w (Ok a)) (sym (r-is ∙ ap (λ z. judged_as z out) e)) (a, (refl, (refl, h)))
+judged_stepped b o t out w v r r-is (Err c) e refuses =
+    subst (λ z. SteppedIs b o t z w (Err c)) (sym (r-is ∙ ap (λ z. judged_as z out) e))
     record { reason = c; is = refl; code = refl }
 
 -- ---- every byte that is left

@@ -3,7 +3,7 @@
 use mathlib.Core.Path.{◌≡◌, refl, sym, ap, ◌∙◌, subst}
 use mathlib.Core.Bool.{true, false}
 use mathlib.Core.List.{[], ◌∷◌, ◌++◌}
-use mathlib.Core.Option.{some}
+use Rattle.std.specs.Prelude.{Some}
 use Prim.Native.Nat.{ℕ, ◌+◌, ◌*◌, ◌-◌, ◌≤◌, ◌<◌}
 use native.Mathlib.Omega.{arith}
 use lib.Dec.{eqb}
@@ -12,8 +12,6 @@ use Rattle.numbers.specs.Rational.{Rational, Proper, Makes, Gives, add_q, is_zer
 use Rattle.numbers.specs.Bytes.{Bytes, number_at}
 use Rattle.terms.specs.Term.{Term, record_number}
 use Rattle.terms.specs.Book.{count, tree}
-use Rattle.numbers.specs.declared.number.Checked.{Checked}
-use Rattle.numbers.specs.declared.number.Checked.TheVariants as answer
 use Rattle.terms.proofs.NumberedNodes.{record_number-tree}
 use Rattle.rules.specs.Refusal.{Result, ◌>>=◌, assert}
 use Rattle.rules.specs.Limits.{limited}
@@ -30,6 +28,8 @@ use Rattle.index_map.proofs.MapEnds.{all_of}
 use Rattle.index_map.proofs.MapKeys.{numbered, absent-lacks}
 use Rattle.index_map.proofs.NumberedKeys.{numbers}
 use Rattle.index_map.proofs.StoredEntries.{goods, good_new, kept-entries}
+use Rattle.numbers.specs.Rational.{Checked}
+use Rattle.std.specs.Prelude.{None}
 
 -- ---- get
 
@@ -51,7 +51,7 @@ module _ (w : Bytes) (n key k : ℕ) (at : k ≡ place (keys_of w n) key) where
       let value = value_there numbers (goods b) (sought kept) t q makes.is in (
         ap (λ (x : Map Term). get terms x (tree b key)) (kept-entries kept ∙ t.is)
             ∙ get-found terms (tree b key) t.first t.entry t.rest t.same
-            ∙ ap some (sym value),
+            ∙ ap Some (sym value),
         makes.proper,
       )
 
@@ -122,7 +122,7 @@ module _ (w : Bytes) (n key : ℕ) (value : Rational) where
         (k : ℕ) (at : k ≡ place (keys_of w n) key) (below : k < n) {q : Rational}
         (makes : Makes q (number_at w (10 * k + 2))) {a : Checked} (gives : Gives a (checked (add_q q value))) where
       pub none_inserted :
-          a ≡ answer.OutOfRange → (v : Bytes) → v ≡ blanked n w → Insertion w n key value v OutOfRange
+          a ≡ None → (v : Bytes) → v ≡ blanked n w → Insertion w n key value v OutOfRange
       none_inserted out v left b kept inside l =
           rw (kept-entries kept)
           (record {
@@ -131,7 +131,7 @@ module _ (w : Bytes) (n key : ℕ) (value : Rational) where
             is = (sum_out numbers (goods b) (sought w n key k at kept) value some-value below makes gives l out, refl);
           })
 
-      module _ (sum : Rational) (is_sum : a ≡ answer.Value sum) where
+      module _ (sum : Rational) (is_sum : a ≡ Some sum) where
         pub entry-removed :
             is_zero sum ≡ true → (v : Bytes) → v ≡ swapped n k w → Insertion w n key value v (Length (n - 1))
         entry-removed z v left b kept inside l =

@@ -1,11 +1,11 @@
 -- The search for a key among entries of one size in bytes, which KeySearch has for any encoding of keys: what the first
--- m entries say of m + n, and what is left after k of n (`Searched`, the invariant of the loops).
+-- m entries say of m + n, and what is left after k of n (`Searched`, the invariant of a loop).
 use mathlib.Core.Path.{◌≡◌, refl, sym, ap, ◌∙◌}
 use mathlib.Core.Bool.{Bool, true, false}
 use Prim.Native.Nat.{ℕ, zero, suc, ◌+◌, ◌*◌, ◌-◌, ◌≤◌, ◌<◌}
 use native.Mathlib.Nat.{zero-add, suc-add, sub-zero, mul-zero, mul-suc, mul-add, add_comm}
 use native.Mathlib.Omega.{arith}
-use borrow.Author.Tests.{ltb-true, ltb-false, lt-ltb, le-ltb}
+use borrow.Author.Tests.{ltb-true, ltb-false}
 use lib.Dec.{ltb}
 use lib.ListN.{drop}
 use lib.Seq.{drop-drop}
@@ -32,13 +32,6 @@ parts_more true m p b a parts = (λ h. refl, λ h. omega arith)
 parts_more false m p b a parts =
     (λ h. ap suc (parts.0 (omega arith)), λ h. omega (arith, parts.1 (omega arith)))
 
-ltb-add : (m b n : ℕ) → ltb b n ≡ ltb (m + b) (m + n)
-ltb-add m b n = go (ltb b n) refl
-  where
-    go : (t : Bool) → ltb b n ≡ t → t ≡ ltb (m + b) (m + n)
-    go true e = sym (lt-ltb (m + b) (m + n) (omega (arith, ltb-true b n e)))
-    go false e = sym (le-ltb (m + b) (m + n) (omega (arith, ltb-false b n e)))
-
 module _ {size : ℕ} {has : Bytes → Bool} {place : Bytes → ℕ → ℕ} (entries : Entries size has place) where
   parts_of : (m n : ℕ) (w : Bytes) → Parts m (place w m) (place (drop (size * m) w) n) (place w (m + n))
   parts_of zero n w =
@@ -57,20 +50,6 @@ module _ {size : ℕ} {has : Bytes → Bool} {place : Bytes → ℕ → ℕ} (en
           t ≡ ltb (place w 1) 1
       go true e = rw e
       go false e = rw (e, entries.none (drop size w))
-
-  -- t says whether one of the m entries from byte i on has the key
-  module _ (m n : ℕ) (w : Bytes) (i : ℕ) {t : Bool} (is : t ≡ ltb (place (drop i w) m) m) where
-    pub one_of_first : t ≡ true → true ≡ ltb (place (drop i w) (m + n)) (m + n)
-    one_of_first found =
-        let here : place (drop i w) m < m = ltb-true _ m (sym is ∙ found) in
-        sym (lt-ltb _ (m + n) (omega (arith, (parts_of m n (drop i w)).0 here)))
-
-    pub one_of_second :
-        {u : Bool} → t ≡ false → u ≡ ltb (place (drop (i + size * m) w) n) n →
-        u ≡ ltb (place (drop i w) (m + n)) (m + n)
-    one_of_second none more =
-        let past : m ≤ place (drop i w) m = ltb-false _ m (sym is ∙ none) in
-        rw ((parts_of m n (drop i w)).1 past, drop-drop (size * m) i w) (more ∙ ltb-add m _ n)
 
   -- ---- the search
 

@@ -10,10 +10,8 @@ use lib.ListN.{length, length-append}
 use Rattle.numbers.specs.Rational.{Rational, Makes, Gives, add_q, is_zero, checked}
 use Rattle.numbers.specs.Bytes.{Bytes, number_at}
 use Rattle.numbers.specs.Choice.{when◌then◌else◌}
-use Rattle.numbers.specs.declared.number.Checked.{Checked}
-use Rattle.numbers.specs.declared.number.Checked.TheVariants as answer
 use Rattle.rules.specs.Refusal.{Result, ◌>>=◌}
-use Rattle.rules.specs.Refusal.Outcome.{ok, refused}
+use Rattle.std.specs.Prelude.{Ok, Err}
 use Rattle.rules.specs.Refusal.Refusal.{number_range}
 use Rattle.rules.specs.Limits.{Limits, limited, plus}
 use Rattle.index_map.specs.IndexMap.{Map, Keys, insert, swap_remove}
@@ -25,6 +23,8 @@ use Rattle.index_map.proofs.HeldEntries.{clear_all}
 use Rattle.index_map.proofs.KeyedMaps.{Lacks, Look, found, missing, look, same_key, entered, insert-found}
 use Rattle.index_map.proofs.KeySearch.{codes, Agrees, place-missing, place_found}
 use Rattle.index_map.proofs.MapEnds.{length-middle, length-swap_remove, all_cut}
+use Rattle.numbers.specs.Rational.{Checked}
+use Rattle.std.specs.Prelude.{None, Some}
 
 -- entry k of m has the key x, and the entries before it have not
 pub record There {K C : Type 0} (enc : Encoding K C) (keyed : Keys K) (c : C) (x : K) (k : ℕ) (m : Map K) : Type 0 where
@@ -50,7 +50,7 @@ pub record Made {K C : Type 0} (enc : Encoding K C) (places : ℕ) (Good : Bytes
     (b v : Bytes) (n : ℕ) (d : Result (Map K)) : Type 0 where
   pub map : Map K
   pub held : Held enc places Good b v map
-  pub is : d ≡ ok map
+  pub is : d ≡ Ok map
   pub size : n ≡ length map
 
 module _
@@ -143,13 +143,13 @@ module _
       answered t =
           ap (λ (y : Rational). checked (add_q y value)) (sym (value_there t q makes.is)) ∙ sym gives.is
 
-      pub sum_out : a ≡ answer.OutOfRange → insert keyed (limited l) m x value ≡ refused number_range
+      pub sum_out : a ≡ None → insert keyed (limited l) m x value ≡ Err number_range
       unfolding ◌>>=◌
       sum_out out =
           let t = there below in
           insert-there t (limited l) value some-value ∙ rw (plus_out l t.entry.1 value (answered t ∙ out))
 
-      module _ (sum : Rational) (is_sum : a ≡ answer.Value sum) (v : Bytes) where
+      module _ (sum : Rational) (is_sum : a ≡ Some sum) (v : Bytes) where
         pub sum_gone :
             is_zero sum ≡ true → v ≡ swapped enc n k w →
             Made enc places Good b v (n - 1) (insert keyed (limited l) m x value)

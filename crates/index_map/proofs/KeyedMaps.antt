@@ -3,7 +3,7 @@
 use mathlib.Core.Path.{◌≡◌, refl, ap, ◌∙◌}
 use mathlib.Core.Bool.{Bool, true, false}
 use mathlib.Core.List.{[], ◌∷◌, ◌++◌}
-use mathlib.Core.Option.{some, none}
+use Rattle.std.specs.Prelude.{Some, None}
 use Prim.Native.Nat.{ℕ, suc, ◌+◌}
 use native.Mathlib.Nat.{add-zero}
 use native.Mathlib.Omega.{arith}
@@ -12,7 +12,7 @@ use Rattle.numbers.specs.Rational.{Rational, is_zero}
 use Rattle.numbers.specs.Choice.{when◌then◌else◌}
 use Rattle.terms.specs.Readers.{within}
 use Rattle.rules.specs.Refusal.{Result, ◌>>=◌, assert}
-use Rattle.rules.specs.Refusal.Outcome.{ok, refused}
+use Rattle.std.specs.Prelude.{Ok, Err}
 use Rattle.rules.specs.Refusal.Refusal.{polynomial_size}
 use Rattle.rules.specs.Limits.{Limits, plus}
 use Rattle.index_map.specs.IndexMap.{Map, Keys, get, enter, insert, swap_remove}
@@ -46,14 +46,14 @@ module _ {K : Type 0} (keys : Keys K) (key : K) where
 
   -- ---- get
 
-  pub get-missing : {m : Map K} → Lacks same_key m → get keys m key ≡ none
+  pub get-missing : {m : Map K} → Lacks same_key m → get keys m key ≡ None
   unfolding get
   get-missing nothing = refl
   get-missing (another other rest) = rw (other, get) (get-missing rest)
 
   pub get-found :
       {p : Map K} → Lacks same_key p → (e : K × Rational) (s : Map K) → keys.same e.0 key ≡ true →
-      get keys (p ++ e ∷ s) key ≡ some e.1
+      get keys (p ++ e ∷ s) key ≡ Some e.1
   unfolding get
   get-found nothing e s is = rw (is, get)
   get-found (another other rest) e s is = rw (other, get) (get-found rest e s is)
@@ -62,23 +62,23 @@ module _ {K : Type 0} (keys : Keys K) (key : K) where
 
   -- what an insertion makes of p ++ e ∷ s, by the sum of e's value and the new one
   abbrev pub entered : Map K → K × Rational → Map K → Result Rational → Result (Map K)
-  entered p e s sum = sum >>= λ q. ok (p ++ (when is_zero q then swap_remove s else (e.0, q) ∷ s))
+  entered p e s sum = sum >>= λ q. Ok (p ++ (when is_zero q then swap_remove s else (e.0, q) ∷ s))
 
   -- an entry more, where n of them are within the limit
   abbrev pub appended : Limits → ℕ → Map K → Rational → Result (Map K)
-  appended l n m value = assert (within (keys.most l) n) polynomial_size >>= λ _. ok (m ++ (key, value) ∷ [])
+  appended l n m value = assert (within (keys.most l) n) polynomial_size >>= λ _. Ok (m ++ (key, value) ∷ [])
 
   entered_cons :
       (f : K × Rational) (p : Map K) (e : K × Rational) (s : Map K) (sum : Result Rational) →
-      (entered p e s sum >>= λ m. ok (f ∷ m)) ≡ entered (f ∷ p) e s sum
+      (entered p e s sum >>= λ m. Ok (f ∷ m)) ≡ entered (f ∷ p) e s sum
   unfolding ◌>>=◌
-  entered_cons f p e s (ok q) = refl
-  entered_cons f p e s (refused r) = refl
+  entered_cons f p e s (Ok q) = refl
+  entered_cons f p e s (Err r) = refl
 
   appended_cons :
       (f : K × Rational) (m : Map K) (value : Rational) (t : Bool) →
-      (assert t polynomial_size >>= (λ _. ok (m ++ (key, value) ∷ [])) >>= λ r. ok (f ∷ r))
-      ≡ (assert t polynomial_size >>= λ _. ok (f ∷ m ++ (key, value) ∷ []))
+      (assert t polynomial_size >>= (λ _. Ok (m ++ (key, value) ∷ [])) >>= λ r. Ok (f ∷ r))
+      ≡ (assert t polynomial_size >>= λ _. Ok (f ∷ m ++ (key, value) ∷ []))
   unfolding ◌>>=◌ assert
   appended_cons f m value true = refl
   appended_cons f m value false = refl
@@ -91,7 +91,7 @@ module _ {K : Type 0} (keys : Keys K) (key : K) where
     enter-missing n (another {e} {m} other rest) =
         let size : suc n + length m ≡ n + suc (length m) = omega arith in
         rw (other, enter)
-        (ap (λ (r : Result (Map K)). r >>= λ x. ok (e ∷ x)) (enter-missing (suc n) rest)
+        (ap (λ (r : Result (Map K)). r >>= λ x. Ok (e ∷ x)) (enter-missing (suc n) rest)
         ∙ appended_cons e m value (within (keys.most l) (suc (suc n + length m)))
         ∙ ap (λ (i : ℕ). appended l (suc i) (e ∷ m) value) size)
 
@@ -102,10 +102,10 @@ module _ {K : Type 0} (keys : Keys K) (key : K) where
     enter-found n nothing e s is = rw (is, enter)
     enter-found n (another {e = f} {m = p} other rest) e s is =
         rw (other, enter)
-        (ap (λ (r : Result (Map K)). r >>= λ m. ok (f ∷ m)) (enter-found (suc n) rest e s is)
+        (ap (λ (r : Result (Map K)). r >>= λ m. Ok (f ∷ m)) (enter-found (suc n) rest e s is)
         ∙ entered_cons f p e s (plus l e.1 value))
 
-    pub insert-zero : (m : Map K) → is_zero value ≡ true → insert keys l m key value ≡ ok m
+    pub insert-zero : (m : Map K) → is_zero value ≡ true → insert keys l m key value ≡ Ok m
     unfolding insert
     insert-zero m z = rw (z, insert)
 

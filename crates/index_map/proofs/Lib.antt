@@ -12,4 +12,5 @@ pub mod HeldEntries
 pub mod FoundEntries
 pub mod NumberedKeys
 pub mod StoredEntries
+pub mod KeyScan
 pub mod AreaEntry

@@ -5,7 +5,7 @@ use Prim.Native.Nat.{ℕ, zero, suc, ◌+◌, ◌*◌, ◌≤◌, ◌<◌}
 use native.Mathlib.Nat.{add-zero}
 use native.Mathlib.Omega.{arith}
 use borrow.Author.Tests.{eqb-true, leb-true, leb-false}
-use lib.Dec.{eqb, leb}
+use lib.Dec.{leb}
 use lib.ListN.{length, get_or, drop, length-drop}
 use lib.Seq.{get_or-drop}
 use Rattle.numbers.specs.Rational.{Rational}
@@ -34,7 +34,7 @@ numbers =
     }
 
 -- a key at i is the first behind i bytes
-key-drop : (w : Bytes) (i : ℕ) → le 2 (drop i w) 0 ≡ le 2 w i
+pub key-drop : (w : Bytes) (i : ℕ) → le 2 (drop i w) 0 ≡ le 2 w i
 unfolding digits
 key-drop w i = go (leb (i + 2) (length w)) refl
   where
@@ -48,10 +48,6 @@ key-drop w i = go (leb (i + 2) (length w)) refl
         let room : length w < i + 2 = leb-false (i + 2) (length w) e in
         let short : length (drop i w) < 0 + 2 = rw length-drop (omega arith) in
         rw (le-outside 2 (drop i w) 0 short, le-outside 2 w i room)
-
--- x is the key of the entry at i
-pub has_key : {x : ℕ} (w : Bytes) (i key : ℕ) → x ≡ le 2 w i → eqb x key ≡ eqb (le 2 (drop i w) 0) key
-has_key w i key is = rw (is, key-drop w i)
 
 length-put_entry : (w : Bytes) (k key : ℕ) (q : Rational) → length (put_entry w k key q) ≡ length w
 unfolding maps.put_entry

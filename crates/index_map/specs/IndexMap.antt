@@ -2,12 +2,12 @@
 -- the order of insertion, a removal moving the last entry into the gap (`swap_remove`). Also the walk that fills one,
 -- with the visits that it makes.
 use Rattle.std.specs.Prelude.{Bool, true, false, List, [], ◌∷◌, ℕ, suc, pos}
-use Rattle.std.proofs.Math.Option.{Option, some, none}
+use Rattle.std.specs.Prelude.{Option, Some, None}
 use Rattle.numbers.specs.Rational.{Rational, whole, neg_q, is_zero}
 use Rattle.numbers.specs.Choice.{when◌then◌else◌}
 use Rattle.terms.specs.Readers.{Bound, within}
 use Rattle.rules.specs.Refusal.{Result, ◌>>=◌, assert}
-use Rattle.rules.specs.Refusal.Outcome.{ok}
+use Rattle.std.specs.Prelude.{Ok}
 use Rattle.rules.specs.Refusal.Refusal.{visit_limit, polynomial_size}
 use Rattle.rules.specs.Limits.{Limits, times, plus}
 
@@ -44,11 +44,11 @@ module _ {K : Type 0} where
   neg_all (e ∷ m) = (e.0, neg_q e.1) ∷ neg_all m
 
   unfoldable pub scale_all : Limits → Rational → Map K → Result (Map K)
-  scale_all l q [] = ok []
+  scale_all l q [] = Ok []
   scale_all l q (e ∷ m) = do
     v ← times l e.1 q
     r ← scale_all l q m
-    ok ((e.0, v) ∷ r)
+    Ok ((e.0, v) ∷ r)
 
   abbrev pub is_empty : Map K → Bool
   is_empty [] = true
@@ -56,28 +56,28 @@ module _ {K : Type 0} where
 
 module _ {K : Type 0} (keys : Keys K) where
   unfoldable pub get : Map K → K → Option Rational
-  get [] key = none
-  get (e ∷ m) key = elim (keys.same e.0 key) [ true ↦ some e.1 | false ↦ get m key ]
+  get [] key = None
+  get (e ∷ m) key = elim (keys.same e.0 key) [ true ↦ Some e.1 | false ↦ get m key ]
 
   -- n entries stand before these
   unfoldable pub enter : Limits → ℕ → Map K → K → Rational → Result (Map K)
   enter l n [] key value = do
     _ ← assert (within (keys.most l) (suc n)) polynomial_size
-    ok ((key, value) ∷ [])
+    Ok ((key, value) ∷ [])
   enter l n (e ∷ m) key value = elim (keys.same e.0 key) [
     | true ↦ (do
       sum ← plus l e.1 value
-      ok (when is_zero sum then swap_remove m else (e.0, sum) ∷ m))
+      Ok (when is_zero sum then swap_remove m else (e.0, sum) ∷ m))
     | false ↦ (do
       r ← enter l (suc n) m key value
-      ok (e ∷ r))
+      Ok (e ∷ r))
   ]
 
   unfoldable pub insert : Limits → Map K → K → Rational → Result (Map K)
-  insert l m key value = elim (is_zero value) [ true ↦ ok m | false ↦ enter l 0 m key value ]
+  insert l m key value = elim (is_zero value) [ true ↦ Ok m | false ↦ enter l 0 m key value ]
 
   unfoldable pub insert_all : Limits → Map K → Map K → Result (Map K)
-  insert_all l m [] = ok m
+  insert_all l m [] = Ok m
   insert_all l m (e ∷ r) = do
     m' ← insert l m e.0 e.1
     insert_all l m' r
@@ -88,7 +88,7 @@ module _ {K : Type 0} (keys : Keys K) where
   add l a b = do
     m ← insert_all l a.entries b.entries
     c ← plus l a.constant b.constant
-    ok (combination m c)
+    Ok (combination m c)
 
 abbrev pub new : {K : Type 0} → Combination K
 new = combination [] (whole (pos 0))
@@ -112,14 +112,14 @@ walked s n = record { sum = s; visits = n }
 unfoldable pub visit : {K : Type 0} → Limits → Walked K → Result (Walked K)
 visit l w = do
   _ ← assert (within l.visits (suc w.visits)) visit_limit
-  ok (walked w.sum (suc w.visits))
+  Ok (walked w.sum (suc w.visits))
 
 unfoldable pub add_entry : {K : Type 0} → Keys K → Limits → K → Rational → Walked K → Result (Walked K)
 add_entry keys l key value w = do
   m ← insert keys l w.sum.entries key value
-  ok (walked (combination m w.sum.constant) w.visits)
+  Ok (walked (combination m w.sum.constant) w.visits)
 
 unfoldable pub add_constant : {K : Type 0} → Limits → Rational → Walked K → Result (Walked K)
 add_constant l q w = do
   c ← plus l w.sum.constant q
-  ok (walked (combination w.sum.entries c) w.visits)
+  Ok (walked (combination w.sum.entries c) w.visits)

@@ -1,7 +1,8 @@
 // `IndexMap<Rc<Term>, Rational>`: entries in the order of insertion, in an area of the lent work area. An entry is a
 // record number in two bytes and a number in eight; after the entries come zeros. How many there are is carried by
 // value. A refusal leaves the area empty.
-ghost use Rattle.std.specs.Prelude.{◌≡◌, true, ℕ, ◌+◌, ◌*◌, ◌-◌, ◌≤◌, ◌<◌, ltb, length, drop};
+ghost use Rattle.std.specs.Prelude.{◌≡◌, true, not, ℕ, ◌+◌, ◌*◌, ◌/◌, ◌≤◌, ◌<◌, eqb, length};
+ghost use Rattle.std.specs.List.{list_all};
 ghost use Rattle.numbers.specs.Rational.{Makes, Proper};
 ghost use Rattle.numbers.specs.Bytes.{Bytes, le, number_at};
 ghost use Rattle.terms.specs.Book.{count, tree};
@@ -14,13 +15,11 @@ ghost use Rattle.rules.specs.Memory.Parts.{blank};
 ghost use Rattle.index_map.specs.declared.index_map.Inserted.TheVariants as inserted;
 
 use numbers::bytes::{read_u16, wide, write_u16};
-use numbers::number::{Checked, Number};
+use numbers::number::Number;
 use terms::areas::{COEFFICIENT_AT, ENTRY_BYTES};
 
-// The bytes of two and of four entries.
-const TWO_ENTRIES: usize = 20;
-
-const FOUR_ENTRIES: usize = 40;
+// The bytes of eight entries.
+const EIGHT_ENTRIES: usize = 80;
 
 // How many entries there are after an insertion.
 #[derive(Clone, Copy)]
@@ -66,64 +65,36 @@ fn blank_entry(entries: &mut [u8], k: usize)
     put_entry(entries, k, 0, Number { num: 0, den: 0 });
 }
 
-// Whether the entry at byte `at` has the key. It is known to be inside, which spares a test for each entry.
-fn has_key(entries: &[u8], at: usize, key: usize) -> bool
-    requires { at + 10 ≤ length entries.now }
-    ensures { result ≡ ltb (place (keys_of (drop at entries.now) 1) key) 1 }
+// The key of the entry at the front of some bytes. It is known to be inside, which spares a test for each entry.
+fn first_key(entry: &[u8]) -> usize
+    requires { 2 ≤ length entry.now }
+    ensures { result ≡ le 2 entry.now 0 }
 {
-    (wide(entries[at]) + 256 * wide(entries[at + 1])) as usize == key
+    (wide(entry[0]) + 256 * wide(entry[1])) as usize
 }
 
-// Whether one of the two entries from byte `at` on has the key.
-fn one_of_two(entries: &[u8], at: usize, key: usize) -> bool
-    requires { at + 20 ≤ length entries.now }
-    ensures { result ≡ ltb (place (keys_of (drop at entries.now) 2) key) 2 }
+// Whether none of some whole entries has the key.
+fn lacks(entries: &[u8], key: usize) -> bool
+    ensures { result ≡ list_all (λ k. not (eqb k key)) (keys_of entries.now (length entries.now / 10)) }
 {
-    if has_key(entries, at, key) {
-        return true;
-    }
-    has_key(entries, at + ENTRY_BYTES, key)
+    entries
+        .chunks_exact(ENTRY_BYTES)
+        .all(|entry| first_key(entry) != key)
 }
 
-// Whether one of the four from there on has it.
-fn one_of_four(entries: &[u8], at: usize, key: usize) -> bool
-    requires { at + 40 ≤ length entries.now }
-    ensures { result ≡ ltb (place (keys_of (drop at entries.now) 4) key) 4 }
-{
-    if one_of_two(entries, at, key) {
-        return true;
-    }
-    one_of_two(entries, at + TWO_ENTRIES, key)
-}
-
-// Whether one of the eight from there on has it: eight comparisons in a row, without a loop.
-fn one_of_eight(entries: &[u8], at: usize, key: usize) -> bool
-    requires { at + 80 ≤ length entries.now }
-    ensures { result ≡ ltb (place (keys_of (drop at entries.now) 8) key) 8 }
-{
-    if one_of_four(entries, at, key) {
-        return true;
-    }
-    one_of_four(entries, at + FOUR_ENTRIES, key)
-}
-
-// How many entries need no second look: they come in eights of which none has the key.
+// How many entries need no second look: they come in eights of which none has the key. Of eight entries, whose length
+// is fixed, the compiler makes eight comparisons in a row.
 fn skipped(entries: &[u8], n: usize, key: usize) -> usize
     requires { n ≤ most_entries }
-    ensures { (result ≤ n) × (place (keys_of entries.now n) key ≡
-        result + place (keys_of (drop (10 * result) entries.now) (n - result)) key) }
+    ensures { result ≤ place (keys_of entries.now n) key }
 {
-    if entries.len() < ENTRY_BYTES * n {
+    let Some(used) = entries.get(..ENTRY_BYTES * n) else {
         return 0;
-    }
-    let mut k = 0;
-    while k + 8 <= n {
-        if one_of_eight(entries, ENTRY_BYTES * k, key) {
-            return k;
-        }
-        k += 8;
-    }
-    k
+    };
+    8 * used
+        .chunks_exact(EIGHT_ENTRIES)
+        .take_while(|eight| lacks(eight, key))
+        .count()
 }
 
 // The place of the entry with a key; n where none of the n entries has it.
@@ -131,14 +102,8 @@ fn find(entries: &[u8], n: usize, key: usize) -> usize
     requires { n ≤ most_entries }
     ensures { result ≡ place (keys_of entries.now n) key }
 {
-    let mut k = skipped(entries, n, key);
-    while k < n {
-        if key_at(entries, k) == key {
-            return k;
-        }
-        k += 1;
-    }
-    n
+    let start = skipped(entries, n, key);
+    (start..n).find(|k| key_at(entries, *k) == key).unwrap_or(n)
 }
 
 // The coefficient of a key.
@@ -159,10 +124,8 @@ pub fn clear(entries: &mut [u8], n: usize)
     requires { n ≤ most_entries }
     ensures { entries.new ≡ blanked n entries.old }
 {
-    let mut k = 0;
-    while k < n {
+    for k in 0..n {
         blank_entry(entries, k);
-        k += 1;
     }
 }
 
@@ -211,7 +174,7 @@ pub fn insert(entries: &mut [u8], n: usize, key: usize, value: Number) -> Insert
         put_entry(entries, n, key, value);
         return Inserted::Length(n + 1);
     }
-    let Checked::Value(sum) = value_at(entries, k).add(value) else {
+    let Some(sum) = value_at(entries, k).add(value) else {
         clear(entries, n);
         return Inserted::OutOfRange;
     };

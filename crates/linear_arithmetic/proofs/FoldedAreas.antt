@@ -3,7 +3,7 @@
 --     progress-left, between-only       what a function leaves in area 0
 --     Given, Reached, reached-begin, reached-length, reached-only, reached-again       a loop over the literals
 --     FoldedSoFar, so_far-begin, so_far-end       that of `fold_literals`
---     Taken, phi-below, step-refused, step-inferred, step-again       one turn of it
+--     phi-below, step-refused, step-inferred, step-again       one turn of it
 use mathlib.Core.Path.{◌≡◌, refl, sym, ap, subst, ◌∙◌}
 use mathlib.Core.List.{List, [], ◌∷◌}
 use Prim.Native.Nat.{ℕ, suc, ◌+◌, ◌/◌, ◌≤◌, ◌<◌}
@@ -15,7 +15,7 @@ use Rattle.numbers.specs.Bytes.{Bytes}
 use Rattle.terms.specs.Term.{Term}
 use Rattle.terms.specs.Book.{count, tree}
 use Rattle.rules.specs.Refusal.{Result}
-use Rattle.rules.specs.Refusal.Outcome.{ok}
+use Rattle.std.specs.Prelude.{Ok}
 use Rattle.rules.specs.Limits.{Limits, limited}
 use Rattle.index_map.specs.IndexMap.{Map}
 use Rattle.process_disequality.specs.ProcessDisequality.{Progress, process_disequality}
@@ -79,7 +79,7 @@ clause_of g = terms_in g.book g.literals
 
 -- the arguments as numbers
 abbrev pub ArgsAre : Given → List Rational → Type 0
-ArgsAre g qs = read_args (limits_of g) (terms_in g.book g.args) ≡ ok qs
+ArgsAre g qs = read_args (limits_of g) (terms_in g.book g.args) ≡ Ok qs
 
 -- k literals are done, to the progress p with the bytes w; what is asked for is what the rest makes from there on
 pub record Reached
@@ -169,17 +169,6 @@ abbrev literal_from : Given → Bytes → by_value.Progress → ℕ → Coeffici
 literal_from g w q phi arg =
     process_disequality (limits_of g) (progress_of g.book w q) (tree g.book phi) (given_of arg)
 
--- literal k was processed, with the argument that stands there: the answer is r, and w' is left
-pub record Taken (g : Given) (w : Bytes) (q : by_value.Progress) (k : ℕ) (w' : Bytes) (r : Processed) : Type 0 where
-  pub inside : k < length g.literals / 4
-  pub phi : ℕ
-  pub phi_is : phi ≡ get_or (numbers_in g.literals) k 0
-  pub arg : Coefficient
-  pub arg_is :
-      (n : ℕ) (qs : List Rational) → read_args (limited n) (terms_in g.book g.args) ≡ ok qs →
-      CoefficientIs arg (at qs k)
-  pub left : ProcessedLeft g.book w w' r (literal_from g w q phi arg)
-
 module _ {g : Given} {whole : Result (Progress × ℕ)} {w : Bytes} {q : by_value.Progress} {k : ℕ} where
   pub so_far-end : FoldedSoFar g whole w q k → length g.literals / 4 ≤ k → Promised g whole w (folded.Done q)
   unfolding fold_some
@@ -197,8 +186,8 @@ module _ {g : Given} {whole : Result (Progress × ℕ)} {w : Bytes} {q : by_valu
         is = (
           far.left
               ∙ ap (λ z. fold_some (limits_of g) z (drop k far.numbers) (progress_of g.book w q) k) none
-              ∙ ap (λ z. ok (z, k)) (sym (progress-left w q kept.held has))
-              ∙ ap (λ z. ok (progress_with q kept.map [], z)) all_done,
+              ∙ ap (λ z. Ok (z, k)) (sym (progress-left w q kept.held has))
+              ∙ ap (λ z. Ok (progress_with q kept.map [], z)) all_done,
           has,
         );
       }
@@ -209,33 +198,40 @@ module _ {g : Given} {whole : Result (Progress × ℕ)} {w : Bytes} {q : by_valu
   phi-below far h phi_is =
       rw phi_is (below_at _ (numbers_in g.literals) k 0 far.named (rw (length-numbers_in g.literals) h))
 
-  module _ (far : FoldedSoFar g whole w q k) {w' : Bytes} {r : Processed} (taken : Taken g w q k w' r) where
+  -- literal k was processed, with the argument that stands there: the answer is r, and w' is left
+  module _
+      (far : FoldedSoFar g whole w q k) (inside : k < length g.literals / 4)
+      {phi : ℕ} (phi_is : phi ≡ get_or (numbers_in g.literals) k 0) (arg : Coefficient)
+      (arg_is :
+      (n : ℕ) (qs : List Rational) → read_args (limited n) (terms_in g.book g.args) ≡ Ok qs →
+      CoefficientIs arg (at qs k))
+      {w' : Bytes} {r : Processed} (left : ProcessedLeft g.book w w' r (literal_from g w q phi arg)) where
     abbrev here : Clause → Result (Progress × ℕ)
     here clause = fold_some (limits_of g) clause (drop k far.numbers) (progress_of g.book w q) k
 
-    literal-next : here (drop k (clause_of g)) ≡ here (tree g.book taken.phi ∷ drop (suc k) (clause_of g))
+    literal-next : here (drop k (clause_of g)) ≡ here (tree g.book phi ∷ drop (suc k) (clause_of g))
     literal-next =
         ap here
-        (rw taken.phi_is
-        (named_cons g.book (numbers_in g.literals) k (rw (length-numbers_in g.literals) taken.inside)))
+        (rw phi_is
+        (named_cons g.book (numbers_in g.literals) k (rw (length-numbers_in g.literals) inside)))
 
-    argued : CoefficientIs taken.arg (at far.numbers k)
-    argued = taken.arg_is _ far.numbers far.all
+    argued : CoefficientIs arg (at far.numbers k)
+    argued = arg_is _ far.numbers far.all
 
-    said : (s : Processed) → r ≡ s → ProcessedIs s taken.left.map (literal_from g w q taken.phi taken.arg)
+    said : (s : Processed) → r ≡ s → ProcessedIs s left.map (literal_from g w q phi arg)
     said s e =
-        subst (λ z. ProcessedIs z taken.left.map (literal_from g w q taken.phi taken.arg)) e taken.left.is
+        subst (λ z. ProcessedIs z left.map (literal_from g w q phi arg)) e left.is
 
     -- n is the number of the refusal
     pub step-refused :
         {c n : ℕ} → r ≡ processed.Refused c → n ≡ processed_refusal r → Promised g whole w' (folded.Refused n)
     step-refused {n = n} e n-is =
         let is = said (processed.Refused n) (e ∙ ap processed.Refused (sym (n-is ∙ ap processed_refusal e))) in
-        let first = some_first (limits_of g) _ refl _ _ far.numbers k taken.arg argued in
+        let first = some_first (limits_of g) _ refl _ _ far.numbers k arg argued in
         record {
-          map = taken.left.map;
-          held = taken.left.held;
-          only = reached-only far taken.left.only;
+          map = left.map;
+          held = left.held;
+          only = reached-only far left.only;
           is = (refuses-as is.0 (λ d f. far.left ∙ literal-next ∙ first ∙ ends _ f), is.1);
         }
 
@@ -244,11 +240,11 @@ module _ {g : Given} {whole : Result (Progress × ℕ)} {w : Bytes} {q : by_valu
         (a : Rational) → found ≡ Of a → Promised g whole w' (folded.Inferred next a (k + 1))
     step-inferred next found e a f =
         let is = said (processed.Accumulated next (Of a)) (rw (← f) e) in
-        let stops = some-inferred (limits_of g) _ refl _ _ far.numbers k taken.arg argued _ is.0 a refl in
+        let stops = some-inferred (limits_of g) _ refl _ _ far.numbers k arg argued _ is.0 a refl in
         record {
-          map = taken.left.map;
-          held = taken.left.held;
-          only = reached-only far taken.left.only;
+          map = left.map;
+          held = left.held;
+          only = reached-only far left.only;
           is = (rw add-one (far.left ∙ literal-next ∙ stops), is.1);
         }
 
@@ -257,6 +253,6 @@ module _ {g : Given} {whole : Result (Progress × ℕ)} {w : Bytes} {q : by_valu
         FoldedSoFar g whole w' next (k + 1)
     step-again next found e f =
         let is = said (processed.Accumulated next Missing) (rw (← f) e) in
-        let goes = some-again (limits_of g) _ refl _ _ far.numbers k taken.arg argued _ is.0 refl in
-        reached-again far taken.left.held taken.left.only is.1.0 (omega (arith, taken.inside))
+        let goes = some-again (limits_of g) _ refl _ _ far.numbers k arg argued _ is.0 refl in
+        reached-again far left.held left.only is.1.0 (omega arith)
         (rw add-one (literal-next ∙ goes))

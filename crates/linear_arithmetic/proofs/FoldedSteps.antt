@@ -7,7 +7,7 @@
 --     Goes, some-goes       the literals that `fold_some` did
 use mathlib.Core.Path.{◌≡◌, refl, sym, ap, ◌∙◌}
 use mathlib.Core.List.{List, [], ◌∷◌, ◌++◌, append_assoc}
-use mathlib.Core.Option.{Option, some, none}
+use Rattle.std.specs.Prelude.{Option, Some, None}
 use Prim.Native.Nat.{ℕ, zero, suc, ◌+◌, ◌≤◌, ◌<◌}
 use native.Mathlib.Omega.{arith}
 use lib.ListN.{length, drop}
@@ -15,7 +15,7 @@ use lib.Seq.{drop-nil}
 use Rattle.numbers.specs.Rational.{Rational}
 use Rattle.terms.specs.Term.{Term}
 use Rattle.rules.specs.Refusal.{Refusal, Result, ◌>>=◌}
-use Rattle.rules.specs.Refusal.Outcome.{ok, refused}
+use Rattle.std.specs.Prelude.{Ok, Err}
 use Rattle.rules.specs.Limits.{Limits}
 use Rattle.index_map.specs.IndexMap.{add}
 use Rattle.linear_comb.specs.LinearComb.{LinearComb, mul}
@@ -41,17 +41,17 @@ bind-apart :
 bind-apart x f g h e = bind-same x e ∙ sym (bind_assoc x g h)
 
 bind_changed :
-    {A B C : Type 0} {y : Result A} (x : Result A) (k : A → A) → y ≡ (x >>= λ a. ok (k a)) →
+    {A B C : Type 0} {y : Result A} (x : Result A) (k : A → A) → y ≡ (x >>= λ a. Ok (k a)) →
     (f : A → Result C) (g : A → Result B) (h : B → Result C) → ((a : A) → f (k a) ≡ (g a >>= h)) →
     (y >>= f) ≡ ((x >>= g) >>= h)
 unfolding ◌>>=◌
 bind_changed x k y-is f g h e =
-    ap (λ z. z >>= f) y-is ∙ bind_assoc x (λ a. ok (k a)) f ∙ bind-apart x (λ a. f (k a)) g h e
+    ap (λ z. z >>= f) y-is ∙ bind_assoc x (λ a. Ok (k a)) f ∙ bind-apart x (λ a. f (k a)) g h e
 
 pub by_outcome :
-    {A P : Type 0} (x : Result A) → ((a : A) → x ≡ ok a → P) → ((c : Refusal) → x ≡ refused c → P) → P
-by_outcome (ok a) f g = f a refl
-by_outcome (refused c) f g = g c refl
+    {A P : Type 0} (x : Result A) → ((a : A) → x ≡ Ok a → P) → ((c : Refusal) → x ≡ Err c → P) → P
+by_outcome (Ok a) f g = f a refl
+by_outcome (Err c) f g = g c refl
 
 -- ---- one literal
 
@@ -64,22 +64,22 @@ module _ (l : Limits) (t : List Rational) (p : Progress) where
   behind x = (x.0, t ++ x.1)
 
   abbrev added : List Rational → Rational → Result (Rational × List Rational)
-  added u a = ok (a, u ++ a ∷ [])
+  added u a = Ok (a, u ++ a ∷ [])
 
   argument-later :
       (s : LinearComb) (arg : Option Rational) →
-      argument_of l (later t p) s arg ≡ (argument_of l p s arg >>= λ x. ok (behind x))
+      argument_of l (later t p) s arg ≡ (argument_of l p s arg >>= λ x. Ok (behind x))
   unfolding argument_of ◌>>=◌
-  argument-later s (some a) = refl
-  argument-later s none = go (inferred l p.acc.entries s.entries)
+  argument-later s (Some a) = refl
+  argument-later s None = go (inferred l p.acc.entries s.entries)
     where
-      go : (x : Result Rational) → (x >>= added (t ++ p.trace)) ≡ ((x >>= added p.trace) >>= λ y. ok (behind y))
-      go (ok a) = ap (λ u. ok (a, u)) (append_assoc t p.trace (a ∷ []))
-      go (refused r) = refl
+      go : (x : Result Rational) → (x >>= added (t ++ p.trace)) ≡ ((x >>= added p.trace) >>= λ y. Ok (behind y))
+      go (Ok a) = ap (λ u. Ok (a, u)) (append_assoc t p.trace (a ∷ []))
+      go (Err r) = refl
 
   pub process_later :
       (phi : Term) (arg : Option Rational) →
-      process_disequality l (later t p) phi arg ≡ (process_disequality l p phi arg >>= λ q. ok (later t q))
+      process_disequality l (later t p) phi arg ≡ (process_disequality l p phi arg >>= λ q. Ok (later t q))
   unfolding process_disequality
   process_later phi arg =
       bind-apart (disequality_of l phi p.visits) _ _ _ λ d.
@@ -95,32 +95,32 @@ pub record OneMore (t u : List Rational) : Type 0 where
 
 -- t before the literal, and u behind it
 abbrev Adds : Option Rational → List Rational → List Rational → Type 0
-Adds (some a) t u = u ≡ t
-Adds none t u = OneMore t u
+Adds (Some a) t u = u ≡ t
+Adds None t u = OneMore t u
 
 module _ (l : Limits) (p : Progress) where
   argued :
       (s : LinearComb) (arg : Option Rational) → Yields (λ x. Adds arg p.trace x.1) (argument_of l p s arg)
   unfolding argument_of
-  argued s (some a) = gives refl
-  argued s none = past _ λ a. gives record { number = a; is = refl }
+  argued s (Some a) = gives refl
+  argued s None = past _ λ a. gives record { number = a; is = refl }
 
   module _ (phi : Term) where
     traced : (arg : Option Rational) → Yields (λ r. Adds arg p.trace r.trace) (process_disequality l p phi arg)
     unfolding process_disequality
     traced arg = past _ λ d. and_then (argued d.sum arg) λ x adds. past _ λ y. past _ λ z. past _ λ acc. gives adds
 
-    pub trace-given : (a : Rational) (r : Progress) → process_disequality l p phi (some a) ≡ ok r → r.trace ≡ p.trace
-    trace-given a r h = at_ok (traced (some a)) h
+    pub trace-given : (a : Rational) (r : Progress) → process_disequality l p phi (Some a) ≡ Ok r → r.trace ≡ p.trace
+    trace-given a r h = at_ok (traced (Some a)) h
 
 -- ---- the literal at k, with the argument that stands there: given, or to be inferred
 
-at_some : (qs : List Rational) (k : ℕ) (q : Rational) → at qs k ≡ some q → drop k qs ≡ q ∷ drop (suc k) qs
+at_some : (qs : List Rational) (k : ℕ) (q : Rational) → at qs k ≡ Some q → drop k qs ≡ q ∷ drop (suc k) qs
 at_some [] k q h = cc
 at_some (a ∷ qs) zero q h = let e : a ≡ q = cc in rw e
 at_some (a ∷ qs) (suc k) q h = at_some qs k q h
 
-at_none : (qs : List Rational) (k : ℕ) → at qs k ≡ none → drop k qs ≡ []
+at_none : (qs : List Rational) (k : ℕ) → at qs k ≡ None → drop k qs ≡ []
 at_none [] k h = drop-nil k
 at_none (a ∷ qs) zero h = cc
 at_none (a ∷ qs) (suc k) h = at_none qs k h
@@ -129,7 +129,7 @@ at_none (a ∷ qs) (suc k) h = at_none qs k h
 module _ (l : Limits) (p : Progress) (new : p.trace ≡ []) (phi : Term) (ts : Clause) (qs : List Rational) (k : ℕ) where
   abbrev further : Coefficient → Progress → Result (Progress × ℕ)
   further (Of a) q = fold_some l ts (drop (suc k) qs) q (suc k)
-  further Missing q = ok (q, suc k)
+  further Missing q = Ok (q, suc k)
 
   pub some_first :
       (arg : Coefficient) → CoefficientIs arg (at qs k) →
@@ -141,19 +141,19 @@ module _ (l : Limits) (p : Progress) (new : p.trace ≡ []) (phi : Term) (ts : C
   -- a number was inferred
   pub some-inferred :
       (arg : Coefficient) → CoefficientIs arg (at qs k) → (r : Progress) →
-      process_disequality l p phi (given_of arg) ≡ ok r → (x : Rational) → r.trace ≡ x ∷ [] →
-      fold_some l (phi ∷ ts) (drop k qs) p k ≡ ok (r, suc k)
+      process_disequality l p phi (given_of arg) ≡ Ok r → (x : Rational) → r.trace ≡ x ∷ [] →
+      fold_some l (phi ∷ ts) (drop k qs) p k ≡ Ok (r, suc k)
   some-inferred (Of a) is r h x one = let same : r.trace ≡ p.trace = trace-given l p phi a r h in cc
   some-inferred Missing is r h x one = some_first Missing is ∙ next _ h
 
   -- none was
   pub some-again :
       (arg : Coefficient) → CoefficientIs arg (at qs k) → (r : Progress) →
-      process_disequality l p phi (given_of arg) ≡ ok r → r.trace ≡ [] →
+      process_disequality l p phi (given_of arg) ≡ Ok r → r.trace ≡ [] →
       fold_some l (phi ∷ ts) (drop k qs) p k ≡ fold_some l ts (drop (suc k) qs) r (suc k)
   some-again (Of a) is r h nothing = some_first (Of a) is ∙ next _ h
   some-again Missing is r h nothing =
-      let more = at_ok (traced l p phi none) h in
+      let more = at_ok (traced l p phi None) h in
       let one : [] ≡ more.number ∷ [] = sym nothing ∙ more.is ∙ ap (λ z. z ++ more.number ∷ []) new in
       cc
 
@@ -161,14 +161,14 @@ module _ (l : Limits) (p : Progress) (new : p.trace ≡ []) (phi : Term) (ts : C
 
 -- the last progress that it reached, and the refusal that stopped it there
 unfoldable pub fold_end : Limits → Clause → List Rational → Progress → Progress × Option Refusal
-fold_end l [] args p = (p, none)
+fold_end l [] args p = (p, None)
 fold_end l (phi ∷ clause) args p = elim (process_disequality l p phi (at args 0)) [
-  | ok q ↦ fold_end l clause (drop 1 args) q
-  | refused c ↦ (p, some c)
+  | Ok q ↦ fold_end l clause (drop 1 args) q
+  | Err c ↦ (p, Some c)
 ]
 
 abbrev pub result_of : Progress × Option Refusal → Result Progress
-result_of e = elim e.1 [ some c ↦ refused c | none ↦ ok e.0 ]
+result_of e = elim e.1 [ Some c ↦ Err c | None ↦ Ok e.0 ]
 
 abbrev pub end_later : List Rational → Progress × Option Refusal → Progress × Option Refusal
 end_later t e = (later t e.0, e.1)
@@ -176,7 +176,7 @@ end_later t e = (later t e.0, e.1)
 module _ (l : Limits) where
   -- by what the first literal does
   abbrev end_by : Clause → List Rational → Progress → Result Progress → Progress × Option Refusal
-  end_by clause args p z = elim z [ ok q ↦ fold_end l clause (drop 1 args) q | refused c ↦ (p, some c) ]
+  end_by clause args p z = elim z [ Ok q ↦ fold_end l clause (drop 1 args) q | Err c ↦ (p, Some c) ]
 
   pub end_by_lem :
       (phi : Term) (clause : Clause) (args : List Rational) (p : Progress) {z : Result Progress} →
@@ -233,17 +233,17 @@ module _ (l : Limits) where
   pub record Stops (clause : Clause) (args : List Rational) (p : Progress) (c : Refusal) : Type 0 where
     pub last : Progress
     pub same : last.trace ≡ p.trace
-    pub is : fold_end l clause args p ≡ (last, some c)
+    pub is : fold_end l clause args p ≡ (last, Some c)
 
   abbrev pub Goes : Clause → List Rational → Progress → ℕ → Result (Progress × ℕ) → Type 0
-  Goes clause args p j (ok x) = GoesOn clause args p j x.0 x.1
-  Goes clause args p j (refused c) = Stops clause args p c
+  Goes clause args p j (Ok x) = GoesOn clause args p j x.0 x.1
+  Goes clause args p j (Err c) = Stops clause args p c
 
   goes_first :
       (phi : Term) (clause : Clause) (a : Rational) (args : List Rational) (p : Progress) (j : ℕ) (q : Progress) →
-      process_disequality l p phi (some a) ≡ ok q → (d : Result (Progress × ℕ)) →
+      process_disequality l p phi (Some a) ≡ Ok q → (d : Result (Progress × ℕ)) →
       Goes clause args q (suc j) d → Goes (phi ∷ clause) (a ∷ args) p j d
-  goes_first phi clause a args p j q e (ok x) g =
+  goes_first phi clause a args p j q e (Ok x) g =
       record {
         steps = suc g.steps;
         counted = omega (arith, g.counted);
@@ -251,7 +251,7 @@ module _ (l : Limits) where
         some = λ other. omega arith;
         on = end_by_lem phi clause (a ∷ args) p e ∙ g.on;
       }
-  goes_first phi clause a args p j q e (refused c) g =
+  goes_first phi clause a args p j q e (Err c) g =
       record {
         last = g.last;
         same = g.same ∙ trace-given l p phi a q e;
@@ -265,7 +265,7 @@ module _ (l : Limits) where
   some-goes [] args p j =
       record { steps = 0; counted = omega arith; inside = omega arith; some = λ other. absurd (other refl); on = refl }
   some-goes (phi ∷ clause) [] p j =
-      by_outcome (process_disequality l p phi none)
+      by_outcome (process_disequality l p phi None)
       (λ q e.
       rw (next _ e)
       record {
@@ -277,7 +277,7 @@ module _ (l : Limits) where
       })
       (λ c e. rw (ends _ e) record { last = p; same = refl; is = end_by_lem phi clause [] p e })
   some-goes (phi ∷ clause) (a ∷ args) p j =
-      by_outcome (process_disequality l p phi (some a))
+      by_outcome (process_disequality l p phi (Some a))
       (λ q e.
       rw (next _ e)
       (goes_first phi clause a args p j q e (fold_some l clause args q (suc j)) (some-goes clause args q (suc j))))

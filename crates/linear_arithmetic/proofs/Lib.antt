@@ -2,7 +2,7 @@
 pub mod Emptied
 -- steps of the rules in memory
 pub mod ReadParts
-pub mod LastTests
+pub mod NoAtoms
 pub mod FoldedSteps
 pub mod FoldedAreas
 pub mod PartialEnd

@@ -6,7 +6,7 @@
 use mathlib.Core.Path.{◌≡◌, refl, sym, ap, subst, ◌∙◌}
 use mathlib.Core.Bool.{Bool, true, false, ◌&&◌, not, cond}
 use mathlib.Core.List.{List, [], ◌∷◌}
-use mathlib.Core.Option.{Option, some, none}
+use Rattle.std.specs.Prelude.{Option, Some, None}
 use Prim.Native.Nat.{ℕ, suc, ◌/◌}
 use native.Mathlib.Omega.{arith}
 use borrow.Author.Tests.{eq-eqb, ne_eqb}
@@ -17,7 +17,7 @@ use Rattle.numbers.specs.Bytes.{Bytes}
 use Rattle.terms.specs.Operator.{Equals}
 use Rattle.terms.specs.Term.{Term}
 use Rattle.rules.specs.Refusal.{Refusal, Result, ◌>>=◌, assert, number}
-use Rattle.rules.specs.Refusal.Outcome.{ok}
+use Rattle.std.specs.Prelude.{Ok}
 use Rattle.rules.specs.Refusal.Refusal.{wrong_number_of_args, disequality_is_not_contradiction}
 use Rattle.rules.specs.Limits.{Limits, limited}
 use Rattle.index_map.specs.IndexMap.{Map, is_empty, new}
@@ -44,14 +44,14 @@ use Rattle.linear_arithmetic.proofs.FoldedAreas.{Given, limits_of, clause_of}
 
 -- all arguments are read before the first literal
 abbrev pub partial_end : Limits → Clause → List Term → ℕ → Result (Progress × Option Refusal)
-partial_end l clause args n = read_args l args >>= λ qs. ok (fold_end l clause qs (progress Equals new [] n))
+partial_end l clause args n = read_args l args >>= λ qs. Ok (fold_end l clause qs (progress Equals new [] n))
 
 -- the last line
 abbrev pub is_contradiction : Progress → Result Progress
 is_contradiction p =
     assert (is_empty p.acc.entries && not (is_true_at_zero p.operator p.acc.constant))
     disequality_is_not_contradiction
-    >>= λ u. ok p
+    >>= λ u. Ok p
 
 pub partial_ended :
     (l : Limits) (clause : Clause) (args : List Term) (n : ℕ) →
@@ -76,7 +76,7 @@ last_line q m t has =
     go :
         (s : Bool) →
         cond s (verdict.Accepted q.visits) (verdict.Refused (number disequality_is_not_contradiction)) ≡
-        verdict_of (visits_of (assert s disequality_is_not_contradiction >>= λ u. ok (later t (progress_with q m []))))
+        verdict_of (visits_of (assert s disequality_is_not_contradiction >>= λ u. Ok (later t (progress_with q m []))))
     go true = refl
     go false = refl
 
@@ -95,11 +95,11 @@ Judged g v w r = (r ≡ verdict_of (visits_of (partial_of g v))) × (w ≡ g.wor
 pub record Ended (g : Given) (v : ℕ) (t : List Rational) : Type 0 where
   pub last : Progress
   pub stop : Option Refusal
-  pub is : end_of g v ≡ ok (last, stop)
+  pub is : end_of g v ≡ Ok (last, stop)
   pub trace : last.trace ≡ t
 
 pub partial_by :
-    (g : Given) (v : ℕ) {e : Progress × Option Refusal} → end_of g v ≡ ok e →
+    (g : Given) (v : ℕ) {e : Progress × Option Refusal} → end_of g v ≡ Ok e →
     partial_of g v ≡ (result_of e >>= is_contradiction)
 partial_by g v is = partial_ended _ _ _ v ∙ next _ is
 
@@ -110,8 +110,8 @@ ended-trace {g} {v} {t} e =
     (and_then (reached e.stop) λ p same. past _ λ u. gives same)
   where
     reached : (stop : Option Refusal) → Yields (λ p. p.trace ≡ t) (result_of (e.last, stop))
-    reached (some c) = refuses
-    reached none = gives e.trace
+    reached (Some c) = refuses
+    reached None = gives e.trace
 
 -- an argument is no number
 pub part-unread :

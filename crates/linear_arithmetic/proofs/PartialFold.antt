@@ -5,7 +5,7 @@
 --     refused_end, done_end       where it ends
 use mathlib.Core.Path.{◌≡◌, refl, sym, ap, subst, ◌∙◌}
 use mathlib.Core.List.{List, [], ◌∷◌, ◌++◌, append-nil}
-use mathlib.Core.Option.{Option, some, none}
+use Rattle.std.specs.Prelude.{Option, Some, None}
 use Prim.Native.Nat.{ℕ, ◌+◌, ◌*◌, ◌-◌, ◌/◌, ◌≤◌, ◌<◌}
 use native.Mathlib.Omega.{arith}
 use borrow.Author.Rules.{Fits-under}
@@ -19,7 +19,7 @@ use Rattle.numbers.specs.Bytes.{Bytes}
 use Rattle.terms.specs.Operator.{Equals}
 use Rattle.terms.specs.Format.{max_run_bytes}
 use Rattle.rules.specs.Refusal.{Refusal, Result}
-use Rattle.rules.specs.Refusal.Outcome.{ok, refused}
+use Rattle.std.specs.Prelude.{Ok, Err}
 use Rattle.process_disequality.specs.ProcessDisequality.{Progress}
 use Rattle.linear_arithmetic.specs.LinearArithmetic.{read_args}
 use Rattle.rules.specs.Shapes.{Clause}
@@ -50,7 +50,7 @@ use Rattle.linear_arithmetic.proofs.PartialEnd.{last_line, end_of, Judged, Ended
 
 -- where it ends from where it stands, with t inferred
 abbrev onward_with : Given → List Rational → Clause → List Rational → Progress → ℕ → Result (Progress × Option Refusal)
-onward_with g t clause qs p k = ok (fold_end (limits_of g) clause qs (later t p))
+onward_with g t clause qs p k = Ok (fold_end (limits_of g) clause qs (later t p))
 
 -- so many literals are done, from the empty sum to p with the bytes w, and t was inferred
 pub record PartSoFar
@@ -112,7 +112,7 @@ module _
   -- the arguments that are left
   read_on :
       {given : Bytes} → given ≡ drop (4 * done) g.args →
-      read_args (limits_of g) (terms_in g.book given) ≡ ok (drop done numbers)
+      read_args (limits_of g) (terms_in g.book given) ≡ Ok (drop done numbers)
   read_on e =
       ap (λ z. read_args (limits_of g) (terms_in g.book z)) e
       ∙ ap (read_args (limits_of g)) (terms_in-drop g.book g.args done)
@@ -167,8 +167,8 @@ module _
     -- where the rest ends, the whole does
     whole-ends :
         {e : Progress × Option Refusal} → fold_end (limits_of g) clause (drop done numbers) P ≡ e →
-        end_of g v ≡ ok (end_later t e)
-    whole-ends h = far.reached.left ∙ ap ok (end_later_lem (limits_of g) t clause _ P ∙ ap (end_later t) h)
+        end_of g v ≡ Ok (end_later t e)
+    whole-ends h = far.reached.left ∙ ap Ok (end_later_lem (limits_of g) t clause _ P ∙ ap (end_later t) h)
 
     -- the area can be cleared
     pub part_clear : (q : by_value.Progress) → r ≡ folded.Done q → Area 0 w' × (q.acc.len ≤ 4096)
@@ -185,7 +185,7 @@ module _
         let stops = goes _ why.is in
         record {
           last = later t stops.last;
-          stop = some why.reason;
+          stop = Some why.reason;
           is = whole-ends stops.is;
           trace = ap (λ u. t ++ u) stops.same ∙ append-nil t;
         }
@@ -195,7 +195,7 @@ module _
         let is = said (folded.Refused c) e in (
           refused-verdict
               (refused-then _
-              (refuses-as is.0 λ d f. partial_by g v (whole-ends (goes (refused d) f).is) ∙ ends _ refl)),
+              (refuses-as is.0 λ d f. partial_by g v (whole-ends (goes (Err d) f).is) ∙ ends _ refl)),
           emptied far.ready {j = 0} (omega arith) (reached-only far.reached rest-left.only)
               (rest-left.held.bytes ∙ ap (stored slots) is.1),
         )
@@ -203,7 +203,7 @@ module _
     -- ---- all are done
 
     all_done :
-        (q : Progress) → rest_fold ≡ ok (q, length (numbers_in rested.part)) → end_of g v ≡ ok (later t q, none)
+        (q : Progress) → rest_fold ≡ Ok (q, length (numbers_in rested.part)) → end_of g v ≡ Ok (later t q, None)
     unfolding fold_end
     all_done q h =
         let on = goes _ h in
@@ -223,7 +223,7 @@ module _
     done_end q e =
         record {
           last = later t (progress_with q rest-left.map []);
-          stop = none;
+          stop = None;
           is = all_done _ (said (folded.Done q) e).0;
           trace = append-nil t;
         }
@@ -273,7 +273,7 @@ module _
           (progress_with q rest-left.map []) (done + k)
       further =
           let steps : goes_on.steps ≡ k = omega (arith, goes_on.counted) in
-          ap ok
+          ap Ok
           (end_later_lem (limits_of g) t clause _ P ∙ ap (end_later t) goes_on.on
           ∙ sym (end_later_lem (limits_of g) t _ _ (progress_with q rest-left.map (x ∷ [])))
           ∙ rw (steps, drop-drop k done (clause_of g), drop-drop k done numbers, append-nil (t ++ x ∷ [])))

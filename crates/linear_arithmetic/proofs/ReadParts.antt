@@ -2,7 +2,7 @@
 -- a place on.
 use mathlib.Core.Path.{◌≡◌, refl, sym, ap, ◌∙◌}
 use mathlib.Core.List.{List, [], ◌∷◌}
-use mathlib.Core.Option.{Option, some, none}
+use Rattle.std.specs.Prelude.{Option, Some, None}
 use Prim.Native.Nat.{ℕ, zero, suc, ◌+◌, ◌/◌, ◌≤◌, ◌<◌}
 use native.Mathlib.Numerals.{add-one}
 use native.Mathlib.Omega.{arith}
@@ -13,7 +13,7 @@ use Rattle.terms.specs.Term.{Term}
 use Rattle.terms.specs.Book.{tree}
 use Rattle.rules.proofs.Yields.{through}
 use Rattle.rules.specs.Refusal.{Result, ◌>>=◌}
-use Rattle.rules.specs.Refusal.Outcome.{ok, refused}
+use Rattle.std.specs.Prelude.{Ok, Err}
 use Rattle.rules.specs.Limits.{Limits, limited, fraction_err}
 use Rattle.linear_arithmetic.specs.LinearArithmetic.{read_args}
 use Rattle.index_map.specs.Memory.Entries.{CoefficientIs}
@@ -30,15 +30,15 @@ use Rattle.rules.proofs.ExpectedTerms.{number-found, no_number}
 module _ (l : Limits) where
   -- the first is a number, and the others are left; or it is none
   pub read_first :
-      (t : Term) (ts : List Term) (q : Rational) → fraction_err l t ≡ ok q →
+      (t : Term) (ts : List Term) (q : Rational) → fraction_err l t ≡ Ok q →
       asserted_of (read_args l (t ∷ ts)) ≡ asserted_of (read_args l ts)
   unfolding read_args ◌>>=◌
   read_first t ts q h =
-      ap (λ x. asserted_of (x >>= λ q. read_args l ts >>= λ qs. ok (q ∷ qs))) h ∙ go (read_args l ts)
+      ap (λ x. asserted_of (x >>= λ q. read_args l ts >>= λ qs. Ok (q ∷ qs))) h ∙ go (read_args l ts)
     where
-      go : (r : Result (List Rational)) → asserted_of (r >>= λ qs. ok (q ∷ qs)) ≡ asserted_of r
-      go (ok qs) = refl
-      go (refused c) = refl
+      go : (r : Result (List Rational)) → asserted_of (r >>= λ qs. Ok (q ∷ qs)) ≡ asserted_of r
+      go (Ok qs) = refl
+      go (Err c) = refl
 
   pub read_none_first :
       (t : Term) (ts : List Term) {c : ℕ} → Refuses c (fraction_err l t) → Refuses c (read_args l (t ∷ ts))
@@ -50,15 +50,15 @@ module _ (l : Limits) where
     first : Rational
     others : List Rational
     is : qs ≡ first ∷ others
-    reads : fraction_err l t ≡ ok first
-    then : read_args l ts ≡ ok others
+    reads : fraction_err l t ≡ Ok first
+    then : read_args l ts ≡ Ok others
 
-  read_headed : (t : Term) (ts : List Term) (qs : List Rational) → read_args l (t ∷ ts) ≡ ok qs → Headed t ts qs
+  read_headed : (t : Term) (ts : List Term) (qs : List Rational) → read_args l (t ∷ ts) ≡ Ok qs → Headed t ts qs
   unfolding read_args
   read_headed t ts qs h =
       let read = through (fraction_err l t) _ qs h in
       let others = through (read_args l ts) _ qs read.then in
-      let whole : ok (read.middle ∷ others.middle) ≡ ok qs = others.then in
+      let whole : Ok (read.middle ∷ others.middle) ≡ Ok qs = others.then in
       record {
         first = read.middle;
         others = others.middle;
@@ -67,12 +67,12 @@ module _ (l : Limits) where
         then = others.first;
       }
 
-  read_none : (qs : List Rational) → read_args l [] ≡ ok qs → qs ≡ []
+  read_none : (qs : List Rational) → read_args l [] ≡ Ok qs → qs ≡ []
   unfolding read_args
-  read_none qs h = let e : ◌≡◌ {A = Result (List Rational)} (ok []) (ok qs) = h in cc
+  read_none qs h = let e : ◌≡◌ {A = Result (List Rational)} (Ok []) (Ok qs) = h in cc
 
   pub read_args-drop :
-      (ts : List Term) (k : ℕ) (qs : List Rational) → read_args l ts ≡ ok qs → read_args l (drop k ts) ≡ ok (drop k qs)
+      (ts : List Term) (k : ℕ) (qs : List Rational) → read_args l ts ≡ Ok qs → read_args l (drop k ts) ≡ Ok (drop k qs)
   read_args-drop ts zero qs h = h
   read_args-drop [] (suc k) qs h = rw (read_none qs h) (rw (read_none qs h) at h)
   read_args-drop (t ∷ ts) (suc k) qs h =
@@ -82,12 +82,12 @@ module _ (l : Limits) where
   -- argument k of them
   pub record ArgumentAt (t : Term) (a : Option Rational) : Type 0 where
     pub number : Rational
-    pub read : fraction_err l t ≡ ok number
-    pub is : a ≡ some number
+    pub read : fraction_err l t ≡ Ok number
+    pub is : a ≡ Some number
 
   module _ (b : Bytes) where
     pub argument_at_lem :
-        (ns : List ℕ) (qs : List Rational) (k : ℕ) → read_args l (named b ns) ≡ ok qs → k < length ns →
+        (ns : List ℕ) (qs : List Rational) (k : ℕ) → read_args l (named b ns) ≡ Ok qs → k < length ns →
         ArgumentAt (tree b (get_or ns k 0)) (at qs k)
     unfolding named
     argument_at_lem [] qs k h inside = absurd (omega arith)
@@ -99,7 +99,7 @@ module _ (l : Limits) where
         rw head.is (argument_at_lem ns head.others k head.then (omega arith))
 
     pub argument-past :
-        (ns : List ℕ) (qs : List Rational) (k : ℕ) → read_args l (named b ns) ≡ ok qs → length ns ≤ k → at qs k ≡ none
+        (ns : List ℕ) (qs : List Rational) (k : ℕ) → read_args l (named b ns) ≡ Ok qs → length ns ≤ k → at qs k ≡ None
     unfolding named read_args
     argument-past [] qs k h past = rw (read_none qs h)
     argument-past (i ∷ ns) qs zero h past = absurd (omega arith)
@@ -155,19 +155,19 @@ module _ (b p : Bytes) where
           refused_assertion (read_none_first (limited n) (tree b i) _ (no_number (found n) e)) ∙ sym (left-next n)
 
     -- among arguments that are all numbers
-    module _ (n : ℕ) (qs : List Rational) (all : read_args (limited n) (terms_in b p) ≡ ok qs) where
+    module _ (n : ℕ) (qs : List Rational) (all : read_args (limited n) (terms_in b p) ≡ Ok qs) where
       here : ArgumentAt (limited n) (tree b i) (at qs k)
       here = rw i-is (argument_at_lem (limited n) b (numbers_in p) qs k all (rw (length-numbers_in p) h))
 
       pub argument_of_lem : {q : Rational} → x ≡ expected.Value q → CoefficientIs (Of q) (at qs k)
       argument_of_lem {q} e =
-          let read : fraction_err (limited n) (tree b i) ≡ ok q = number-found (found n) e in
+          let read : fraction_err (limited n) (tree b i) ≡ Ok q = number-found (found n) e in
           (cc (here.read, here.is), (found n).proper q e)
 
-      pub argument_none : {c : ℕ} → x ≡ expected.Refused c → at qs k ≡ none
+      pub argument_none : {c : ℕ} → x ≡ expected.Refused c → at qs k ≡ None
       argument_none e = let why = no_number (found n) e in cc (why.is, here.read)
 
   pub argument-beyond :
-      (k : ℕ) → length p / 4 ≤ k → (n : ℕ) (qs : List Rational) → read_args (limited n) (terms_in b p) ≡ ok qs →
-      at qs k ≡ none
+      (k : ℕ) → length p / 4 ≤ k → (n : ℕ) (qs : List Rational) → read_args (limited n) (terms_in b p) ≡ Ok qs →
+      at qs k ≡ None
   argument-beyond k h n qs all = argument-past (limited n) b (numbers_in p) qs k all (rw (length-numbers_in p) h)

@@ -5,7 +5,7 @@
 use mathlib.Core.Path.{◌≡◌, sym, ap, subst, ◌∙◌}
 use mathlib.Core.Bool.{Bool, true, false}
 use mathlib.Core.List.{List, [], ◌∷◌}
-use mathlib.Core.Option.{some, none}
+use Rattle.std.specs.Prelude.{Some, None}
 use Prim.Native.Nat.{ℕ, ◌<◌}
 use native.Mathlib.Omega.{arith}
 use Rattle.numbers.specs.Bytes.{Bytes}
@@ -13,10 +13,8 @@ use Rattle.terms.specs.Operator.{Or}
 use Rattle.terms.specs.Term.{record_number, binary}
 use Rattle.terms.specs.Book.{count, tree, all_below}
 use Rattle.terms.specs.Readers.{Children, found_two}
-use Rattle.terms.specs.declared.term.Two.{Two}
-use Rattle.terms.specs.declared.term.Two.TheVariants.{Both, NotTwo}
 use Rattle.rules.specs.Refusal.{Result, ◌>>=◌, assert, number}
-use Rattle.rules.specs.Refusal.Outcome.{ok, refused}
+use Rattle.std.specs.Prelude.{Ok, Err}
 use Rattle.rules.specs.Refusal.Refusal.{wrong_length_of_clause, disequality_is_not_tautology}
 use Rattle.rules.specs.Limits.{limited}
 use Rattle.linear_shapes.specs.LinearShapes.{tautology_case}
@@ -40,6 +38,7 @@ use Rattle.rules.proofs.RunParts.{below_at}
 use Rattle.rules.proofs.Results.{next, ends, refused-then, refused-verdict}
 use Rattle.linear_comb.proofs.AreaSteps.{kept-sum, sum-entries, only-area}
 use Rattle.linear_arithmetic.proofs.Emptied.{emptied, cleared}
+use Rattle.std.specs.Prelude.{Option}
 
 -- ---- the first form
 
@@ -93,12 +92,12 @@ module _ {b w w' : Bytes} (phi v l : ℕ) (ready : Ready b w) (r : Literal) (lef
 
       asked :
           (s : Bool) → t ≡ s →
-          tautology_of (limited l) (tree b phi) v ≡ (assert s disequality_is_not_tautology >>= λ u. ok d.visits)
+          tautology_of (limited l) (tree b phi) v ≡ (assert s disequality_is_not_tautology >>= λ u. Ok d.visits)
       unfolding tautology_of
       asked s h =
           let is = said (literal.Is d) e in
           next _ is.0
-          ∙ ap (λ z. assert z disequality_is_not_tautology >>= λ u. ok d.visits)
+          ∙ ap (λ z. assert z disequality_is_not_tautology >>= λ u. Ok d.visits)
           (ap (λ m. is_tautology (disequality d.operator (comb_with d.sum m) d.visits))
           (sym (sum-entries left.held is.1))
           ∙ sym (told b (area_of 1 w') kept) ∙ h)
@@ -119,13 +118,13 @@ module _ {b w w' : Bytes} (phi v l : ℕ) (ready : Ready b w) (r : Literal) (lef
 
 -- the only literal is in record phi of the book
 pub phi-inside :
-    (b literals : Bytes) (phi : ℕ) → only_literal (terms_in b literals) ≡ ok (tree b phi) → Inside b literals →
+    (b literals : Bytes) (phi : ℕ) → only_literal (terms_in b literals) ≡ Ok (tree b phi) → Inside b literals →
     phi < count b
 unfolding only_literal named
 phi-inside b literals phi = go (numbers_in literals)
   where
     go :
-        (l : List ℕ) → only_literal (named b l) ≡ ok (tree b phi) → all_below (count b) l ≡ true → phi < count b
+        (l : List ℕ) → only_literal (named b l) ≡ Ok (tree b phi) → all_below (count b) l ≡ true → phi < count b
     go [] e h = let z : ◌≡◌ {A = ℕ} 0 1 = cc in omega arith
     go (i ∷ []) e h =
         let one : tree b i ≡ tree b phi = cc in
@@ -135,36 +134,36 @@ phi-inside b literals phi = go (numbers_in literals)
 
 module _ (b literals : Bytes) (v l : ℕ) where
   pub no_only-literal :
-      only_literal (terms_in b literals) ≡ refused wrong_length_of_clause →
+      only_literal (terms_in b literals) ≡ Err wrong_length_of_clause →
       verdict.Refused (number wrong_length_of_clause) ≡ verdict_of (la_tautology (limited l) (terms_in b literals) v)
   unfolding la_tautology
   no_only-literal e = sym (ap verdict_of (ends _ e))
 
   -- there is one, in record phi
-  module _ (phi : ℕ) (literal_is : only_literal (terms_in b literals) ≡ ok (tree b phi)) where
+  module _ (phi : ℕ) (literal_is : only_literal (terms_in b literals) ≡ Ok (tree b phi)) where
     -- r says whether it is a disjunction of two
-    module _ (r : Two) (two : Children b phi r (binary Or (tree b phi))) where
+    module _ (r : Option (ℕ × ℕ)) (two : Children b phi r (binary Or (tree b phi))) where
       with_two :
-          (x y : ℕ) → r ≡ Both x y →
+          (x y : ℕ) → r ≡ Some (x, y) →
           la_tautology (limited l) (terms_in b literals) v ≡ after v (tautology_case (tree b x) (tree b y))
       unfolding la_tautology
       with_two x y e =
-          let found : binary Or (tree b phi) ≡ some (tree b x, tree b y) = sym two.is ∙ ap (found_two b) e in
+          let found : binary Or (tree b phi) ≡ Some (tree b x, tree b y) = sym two.is ∙ ap (found_two b) e in
           next _ literal_is ∙ rw found
 
       pub two-judged :
-          {x y : ℕ} → r ≡ Both x y → {s : Asserted} → s ≡ asserted_of (tautology_case (tree b x) (tree b y)) →
+          {x y : ℕ} → r ≡ Some (x, y) → {s : Asserted} → s ≡ asserted_of (tautology_case (tree b x) (tree b y)) →
           {a : Verdict} → ((d : Result (Unit {0})) → s ≡ asserted_of d → a ≡ verdict_of (after v d)) →
           a ≡ verdict_of (la_tautology (limited l) (terms_in b literals) v)
       two-judged e s-is a-is = a-is _ s-is ∙ sym (ap verdict_of (with_two _ _ e))
 
-      without-two : r ≡ NotTwo → la_tautology (limited l) (terms_in b literals) v ≡ tautology_of (limited l) (tree b phi) v
+      without-two : r ≡ None → la_tautology (limited l) (terms_in b literals) v ≡ tautology_of (limited l) (tree b phi) v
       unfolding la_tautology tautology_of
       without-two e =
-          let found : binary Or (tree b phi) ≡ none = sym two.is ∙ ap (found_two b) e in
+          let found : binary Or (tree b phi) ≡ None = sym two.is ∙ ap (found_two b) e in
           next _ literal_is ∙ rw found
 
       pub first_form :
-          r ≡ NotTwo → {a : Verdict} → a ≡ verdict_of (tautology_of (limited l) (tree b phi) v) →
+          r ≡ None → {a : Verdict} → a ≡ verdict_of (tautology_of (limited l) (tree b phi) v) →
           a ≡ verdict_of (la_tautology (limited l) (terms_in b literals) v)
       first_form e a-is = a-is ∙ sym (ap verdict_of (without-two e))

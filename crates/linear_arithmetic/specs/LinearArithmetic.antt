@@ -2,13 +2,13 @@
 -- the list of a step's literals. Rules 1 to 3 are among the definitions of the crate `linear_shapes`, and what is done
 -- with one literal is among those of `process_disequality`.
 use Rattle.std.specs.Prelude.{Bool, false, ◌&&◌, ◌||◌, not, List, [], ◌∷◌, ℕ, eqb, length}
-use Rattle.std.proofs.Math.Option.{some, none}
+use Rattle.std.specs.Prelude.{Some, None}
 use Rattle.numbers.specs.Rational.{Rational, is_zero, is_positive}
 use Rattle.terms.specs.Operator.{Or, Equals, GreaterThan}
 use Rattle.terms.specs.Term.{Term, binary}
 use Rattle.numbers.specs.Choice.{when◌then◌else◌}
 use Rattle.rules.specs.Refusal.{Result, ◌>>=◌, assert}
-use Rattle.rules.specs.Refusal.Outcome.{ok}
+use Rattle.std.specs.Prelude.{Ok}
 use Rattle.rules.specs.Refusal.Refusal.{wrong_number_of_args, disequality_is_not_contradiction}
 use Rattle.rules.specs.Refusal.Refusal.{disequality_is_not_tautology}
 use Rattle.rules.specs.Limits.{Limits, fraction_err}
@@ -22,20 +22,20 @@ use Rattle.process_disequality.specs.ProcessDisequality.{Progress, progress, pro
 
 -- all arguments are read before the first literal
 unfoldable pub read_args : Limits → List Term → Result (List Rational)
-read_args l [] = ok []
+read_args l [] = Ok []
 read_args l (a ∷ args) = do
   q ← fraction_err l a
   qs ← read_args l args
-  ok (q ∷ qs)
+  Ok (q ∷ qs)
 
 -- `try_fold`; arguments that are missing are none, surplus ones are ignored
 unfoldable pub fold_literals : Limits → Clause → List Rational → Progress → Result Progress
-fold_literals l [] args p = ok p
+fold_literals l [] args p = Ok p
 fold_literals l (phi ∷ clause) [] p = do
-  q ← process_disequality l p phi none
+  q ← process_disequality l p phi None
   fold_literals l clause [] q
 fold_literals l (phi ∷ clause) (a ∷ args) p = do
-  q ← process_disequality l p phi (some a)
+  q ← process_disequality l p phi (Some a)
   fold_literals l clause args q
 
 -- whether 0 stands in the relation to the right side: only =, > and >= arise
@@ -51,7 +51,7 @@ la_generic_partial l conclusion args n = do
   p ← fold_literals l conclusion qs (progress Equals new [] n)
   _ ← assert (is_empty p.acc.entries && not (is_true_at_zero p.operator p.acc.constant))
       disequality_is_not_contradiction
-  ok p
+  Ok p
 
 unfoldable pub la_generic : Limits → Clause → List Term → ℕ → Result Progress
 la_generic l conclusion args n = do
@@ -68,11 +68,11 @@ is_tautology d =
 -- the visits made
 unfoldable pub la_tautology : Limits → Clause → ℕ → Result ℕ
 la_tautology l conclusion n = only_literal conclusion >>= λ phi. elim (binary Or phi) [
-  | some p ↦ (do
+  | Some p ↦ (do
     _ ← tautology_case p.0 p.1
-    ok n)
-  | none ↦ (do
+    Ok n)
+  | None ↦ (do
     d ← disequality_of l phi n
     _ ← assert (is_tautology d) disequality_is_not_tautology
-    ok d.visits)
+    Ok d.visits)
 ]

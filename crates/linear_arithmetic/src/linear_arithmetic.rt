@@ -4,7 +4,7 @@ ghost use Rattle.std.specs.Prelude.{◌≡◌, List, ℕ, ◌<◌, length};
 ghost use Rattle.numbers.specs.Rational.{Rational};
 ghost use Rattle.numbers.specs.Bytes.{Bytes};
 ghost use Rattle.terms.specs.Book.{count, tree};
-ghost use Rattle.rules.specs.Refusal.Outcome.{ok};
+ghost use Rattle.std.specs.Prelude.{Ok};
 ghost use Rattle.rules.specs.Limits.{limited};
 ghost use Rattle.linear_arithmetic.specs.LinearArithmetic.{read_args, is_true_at_zero, la_generic_partial, la_generic};
 ghost use Rattle.linear_arithmetic.specs.LinearArithmetic.{is_tautology, la_tautology};
@@ -34,7 +34,7 @@ use terms::refusal::{
     DISEQUALITY_IS_NOT_CONTRADICTION, DISEQUALITY_IS_NOT_TAUTOLOGY, WRONG_LENGTH_OF_CLAUSE,
     WRONG_NUMBER_OF_ARGS,
 };
-use terms::term::{Only, Two, binary};
+use terms::term::binary;
 use work_area::work_area::{ACCUMULATED, LEFT, clear_in};
 
 // ---- la_generic
@@ -44,13 +44,10 @@ pub fn read_args(book: &[u8], args: &[u8]) -> Asserted
     ensures { (l : ℕ) →
         result ≡ asserted_of (read_args (limited l) (terms_in book.now args.now)) }
 {
-    let n = args.len() / RUN_RECORD_BYTES;
-    let mut k = 0;
-    while k < n {
+    for k in 0..args.len() / RUN_RECORD_BYTES {
         if let Expected::Refused(code) = as_fraction_err(book, number_in(args, k)) {
             return Asserted::Refused(code);
         }
-        k += 1;
     }
     Asserted::Holds
 }
@@ -58,7 +55,7 @@ pub fn read_args(book: &[u8], args: &[u8]) -> Asserted
 // Argument k, of arguments that are all numbers.
 fn argument_at(book: &[u8], args: &[u8], k: usize) -> Coefficient
     ensures by_index { (l : ℕ) (qs : List Rational) →
-        read_args (limited l) (terms_in book.now args.now) ≡ ok qs →
+        read_args (limited l) (terms_in book.now args.now) ≡ Ok qs →
         CoefficientIs result (at qs k) }
     ensures coefficient_proper { CoefficientProper result }
 {
@@ -97,21 +94,18 @@ pub fn fold_literals(
         (fold_read (limited limit) (terms_in book.now literals.now)
         (terms_in book.now args.now) (progress_of book.now work.old p)) }
 {
-    let n = literals.len() / RUN_RECORD_BYTES;
     let mut q = p;
-    let mut k = 0;
-    while k < n {
+    for k in 0..literals.len() / RUN_RECORD_BYTES {
         let phi = number_in(literals, k);
         let arg = argument_at(book, args, k);
         let processed = process_disequality(book, work, q, phi, arg, limit);
         let Processed::Accumulated(next, found) = processed else {
             return Folded::Refused(processed_refusal(processed));
         };
-        q = next;
-        k += 1;
         if let Coefficient::Of(a) = found {
-            return Folded::Inferred(q, a, k);
+            return Folded::Inferred(next, a, k + 1);
         }
+        q = next;
     }
     Folded::Done(q)
 }
@@ -137,19 +131,11 @@ pub fn contradiction(work: &mut [u8], p: Progress) -> Verdict
     ensures work_after { work.new ≡ with_area accumulated
         (blanked p.acc.len (area_of accumulated work.old)) work.old }
 {
-    let acc = p.acc;
-    let n = acc.len;
-    let right = acc.constant;
-    let o = p.operator;
-    let visits = p.visits;
-    clear_in(work, ACCUMULATED, n);
-    if n != 0 {
+    clear_in(work, ACCUMULATED, p.acc.len);
+    if p.acc.len != 0 || is_true_at_zero(p.operator, p.acc.constant) {
         return Verdict::Refused(DISEQUALITY_IS_NOT_CONTRADICTION);
     }
-    if is_true_at_zero(o, right) {
-        return Verdict::Refused(DISEQUALITY_IS_NOT_CONTRADICTION);
-    }
-    Verdict::Accepted(visits)
+    Verdict::Accepted(p.visits)
 }
 
 // All arguments are read before the first literal. The arguments that are inferred are passed over.
@@ -232,23 +218,13 @@ pub fn bounded_farkas(
 // ---- la_tautology
 
 // The first form: a disequality without atoms that is always true.
+#[tactic(auto, using(crate::proofs::NoAtoms::empty_entries))]
 fn is_tautology(d: Disequality) -> bool
     ensures { (b w : Bytes) → Kept b w d.sum.len →
         result ≡ is_tautology (disequality d.operator (comb_of b w d.sum) d.visits) }
 {
-    let s = d.sum;
-    let n = s.len;
-    let right = s.constant;
-    let o = d.operator;
-    if n == 0 {
-        if right.is_positive() {
-            return true;
-        }
-        if o == GREATER_THAN {
-            return right.is_zero();
-        }
-    }
-    false
+    let right = d.sum.constant;
+    d.sum.len == 0 && (right.is_positive() || d.operator == GREATER_THAN && right.is_zero())
 }
 
 fn tautology(book: &[u8], work: &mut [u8], phi: usize, visits: u32, limit: u32) -> Verdict
@@ -260,12 +236,9 @@ fn tautology(book: &[u8], work: &mut [u8], phi: usize, visits: u32, limit: u32) 
     let Literal::Is(d) = literal else {
         return Verdict::Refused(literal_refusal(literal));
     };
-    let s = d.sum;
-    let n = s.len;
-    let seen = d.visits;
-    clear_in(work, LEFT, n);
+    clear_in(work, LEFT, d.sum.len);
     if is_tautology(d) {
-        return Verdict::Accepted(seen);
+        return Verdict::Accepted(d.visits);
     }
     Verdict::Refused(DISEQUALITY_IS_NOT_TAUTOLOGY)
 }
@@ -282,10 +255,10 @@ pub fn la_tautology(
         ≡ verdict_of (la_tautology (limited limit) (terms_in book.now literals.now) visits) }
     ensures work_unchanged { work.new ≡ work.old }
 {
-    let Only::Of(phi) = only_literal(literals) else {
+    let Some(phi) = only_literal(literals) else {
         return Verdict::Refused(WRONG_LENGTH_OF_CLAUSE);
     };
-    let Two::Both(first, second) = binary(book, phi, OR) else {
+    let Some((first, second)) = binary(book, phi, OR) else {
         return tautology(book, work, phi, visits, limit);
     };
     verdict_after(tautology_case(book, first, second), visits)

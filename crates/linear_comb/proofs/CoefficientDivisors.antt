@@ -1,19 +1,20 @@
 -- The loop of `gcd_from`: before entry k, the definition's result is what it yields of the entries that are left, from
 -- the divisor so far. That divisor is in range, and the machine has its bits.
 use mathlib.Core.Path.{◌≡◌, refl, sym, ◌∙◌, ap, ap₂, subst}
-use mathlib.Core.Bool.{Bool, true, false}
+use mathlib.Core.Bool.{true, false}
 use mathlib.Core.List.{[], ◌∷◌}
 use Prim.Native.Nat.{ℕ, zero, suc, ◌+◌, ◌*◌, ◌≤◌, ◌<◌}
 use native.Mathlib.Nat.{le_of_dvd, le_trans, zero-lt-suc}
 use native.Mathlib.Omega.{arith}
-use borrow.Author.Tests.{eq-eqb, ne_eqb, ltb-true, ltb-false, le-leb, lt-leb}
+use borrow.Author.Tests.{eq-eqb, ne_eqb}
 use lib.Dec.{eqb}
+use Rattle.std.proofs.lemmas.Bool.Decides.{nat_tests}
 use lib.ListN.{drop}
 use lib.IntN.{ℤ, pos, negsuc, nat_abs}
-use lib.Signed.{lt_z}
 use mir.Syntax.{w64}
 use mir.Val.{Fits, to_z}
 use mir.Facts.{sfits_lit, of_z-to_z}
+use Rattle.std.specs.Int.{int_max}
 use Rattle.numbers.specs.Pair.{eq_z}
 use Rattle.numbers.specs.Rational.{Rational, Proper, limit, whole, gcd, is_integer}
 use Rattle.numbers.specs.Bytes.{Bytes, number_at}
@@ -26,7 +27,7 @@ use Rattle.linear_comb.specs.LinearComb.{gcd_from, coefficients_gcd}
 use Rattle.linear_comb.specs.Memory.WorkArea.{Sum, comb_of}
 use Rattle.index_map.specs.Memory.Entries.{entries_of, Kept}
 use Rattle.linear_comb.proofs.EntryPlaces.{kept_at, all_behind}
-use Rattle.index_map.proofs.CheckedNumbers.{whole-proper, small-back, small-fits}
+use Rattle.index_map.proofs.CheckedNumbers.{small-back, small-fits}
 
 -- ---- the definition
 
@@ -44,12 +45,14 @@ module _ (g : ℤ) (e : Term × Rational) (r : Map Term) where
     unfolding gcd_from
     stops_at_fraction fraction = rw (other, fraction, gcd_from)
 
-at_the_end : (g : ℤ) (t : Bool) → lt_z g (pos 1) ≡ t → gcd_from g [] ≡ elim t as (λ x. ℤ) [ true ↦ pos 1 | false ↦ g ]
+at_the_end : (g : ℤ) → int_max g (pos 1) ≡ gcd_from g []
 unfolding gcd_from when◌then◌else◌
-at_the_end (pos m) true e = let h : m < 1 = ltb-true m 1 e in rw (lt-leb 1 m h)
-at_the_end (pos m) false e = let h : 1 ≤ m = ltb-false m 1 e in rw (le-leb 1 m h)
-at_the_end (negsuc m) true e = refl
-at_the_end (negsuc m) false e = cc
+at_the_end (pos m) = grind (arith, nat_tests)
+at_the_end (negsuc m) = refl
+
+at-least-small : (g : ℤ) → nat_abs g ≤ limit → nat_abs (int_max g (pos 1)) ≤ limit
+at-least-small (pos m) h = grind (arith, nat_tests)
+at-least-small (negsuc m) h = omega arith
 
 gcd-le : (a b m : ℕ) → a ≤ m → b ≤ m → gcd a b ≤ m
 gcd-le a zero m h k = rw (gcd-zero a) h
@@ -57,7 +60,7 @@ gcd-le a (suc b) m h k = le_trans (le_of_dvd (zero-lt-suc b) (gcd_dvd_right a (s
 
 -- r is the divisor from s on
 abbrev pub DivisorFrom : Bytes → ℕ → ℤ → ℤ → Type 0
-DivisorFrom w n s r = Proper (whole r) × ((b : Bytes) → Kept b w n → r ≡ gcd_from s (entries_of b w n))
+DivisorFrom w n s r = (b : Bytes) → Kept b w n → r ≡ gcd_from s (entries_of b w n)
 
 pub record Dividing (w : Bytes) (n : ℕ) (s divisor : ℤ) (k : ℕ) : Type 0 where
   pub range : nat_abs divisor ≤ limit
@@ -65,10 +68,6 @@ pub record Dividing (w : Bytes) (n : ℕ) (s divisor : ℤ) (k : ℕ) : Type 0 w
   pub left : (b : Bytes) → Kept b w n → gcd_from s (entries_of b w n) ≡ gcd_from divisor (drop k (entries_of b w n))
 
 -- the machine's start is s
-pub dividing_none : (w : Bytes) (n : ℕ) (s : ℤ) → nat_abs s ≤ limit → Dividing w n (R s) (R s) 0
-dividing_none w n s h =
-    record { range = rw (small-back s h) h; inside = omega arith; left = λ b kept. refl }
-
 pub from_start :
     {w : Bytes} {n : ℕ} {r : ℤ} (s : ℤ) → nat_abs s ≤ limit → DivisorFrom w n (R s) r → DivisorFrom w n s r
 from_start {w} {n} {r} s h = subst (λ z. DivisorFrom w n z r) (small-back s h)
@@ -106,11 +105,8 @@ module _
       (at.here ∙ ap (λ q. (at.entry.0, q) ∷ drop (k + 1) (entries_of b w n)) value)
 
   pub divided_one : k < n → bits ≡ 1 → DivisorFrom w n s (pos 1)
-  divided_one below one = (
-    whole-proper (pos 1) (omega arith),
-    λ b kept.
-        sym (left_at below refl b kept ∙ stops_at_one _ _ _ (sym tested ∙ eq-eqb bits 1 one)),
-  )
+  divided_one below one b kept =
+      sym (left_at below refl b kept ∙ stops_at_one _ _ _ (sym tested ∙ eq-eqb bits 1 one))
 
   module _ (below : k < n) {v : Rational} (is : v ≡ number_at w (10 * k + 2)) (other : bits ≡ 1 → ⊥) where
     pub dividing_more :
@@ -128,41 +124,26 @@ module _
         }
 
     pub divided-fraction : is_integer v ≡ false → DivisorFrom w n s (pos 1)
-    divided-fraction fraction = (
-      whole-proper (pos 1) (omega arith),
-      λ b kept.
-          sym (left_at below is b kept ∙ stops_at_fraction _ _ _ (sym tested ∙ ne_eqb bits 1 other) fraction),
-    )
+    divided-fraction fraction b kept =
+        sym (left_at below is b kept ∙ stops_at_fraction _ _ _ (sym tested ∙ ne_eqb bits 1 other) fraction)
 
-  module _ (above : n ≤ k) where
-    at_end :
-        (t : Bool) → lt_z (to_z w64 bits) (pos 1) ≡ t → (b : Bytes) → Kept b w n →
-        gcd_from s (entries_of b w n) ≡ elim t as (λ x. ℤ) [ true ↦ pos 1 | false ↦ divisor ]
-    at_end t e b kept =
-        dividing.left b kept
-        ∙ ap (gcd_from divisor) (all_behind {k = k} kept above)
-        ∙ at_the_end divisor t e
-
-    pub divided-low : lt_z (to_z w64 bits) (pos 1) ≡ true → DivisorFrom w n s (pos 1)
-    divided-low e = (whole-proper (pos 1) (omega arith), λ b kept. sym (at_end true e b kept))
-
-    pub divided-high : lt_z (to_z w64 bits) (pos 1) ≡ false → DivisorFrom w n s (to_z w64 bits)
-    divided-high e =
-        (whole-proper divisor dividing.range, λ b kept. sym (at_end false e b kept))
+  pub divided-end : n ≤ k → {r : ℤ} → r ≡ int_max divisor (pos 1) → DivisorFrom w n s (R r)
+  divided-end above {r} e b kept =
+      small-back r (rw e (at-least-small divisor dividing.range))
+      ∙ e ∙ at_the_end divisor
+      ∙ sym (dividing.left b kept ∙ ap (gcd_from divisor) (all_behind {k = k} kept above))
 
 -- ---- with the constant
 
-abbrev pub DivisorOf : Bytes → Sum → ℤ → Type 0
-DivisorOf w s r = Proper (whole r) × ((b : Bytes) → Kept b w s.len → r ≡ coefficients_gcd (comb_of b w s))
-
 pub constant-integer :
-    {w : Bytes} (s : Sum) → Proper s.constant → is_integer s.constant ≡ true → {r : ℤ} →
-    DivisorFrom w s.len (R s.constant.num) r → DivisorOf w s (R r)
+    {w : Bytes} (s : Sum) → Proper s.constant → is_integer s.constant ≡ true → {r : ℤ} → Proper (whole r) →
+    DivisorFrom w s.len (R s.constant.num) r → (b : Bytes) → Kept b w s.len → R r ≡ coefficients_gcd (comb_of b w s)
 unfolding coefficients_gcd
-constant-integer s proper integer {r} from =
-    let divisor = from_start s.constant.num proper.numerator from in
-    rw (small-back r divisor.0.numerator) (divisor.0, λ b kept. divisor.1 b kept ∙ rw (integer, coefficients_gcd))
+constant-integer s proper integer {r} small from b kept =
+    small-back r small.numerator ∙ from_start s.constant.num proper.numerator from b kept
+    ∙ rw (integer, coefficients_gcd)
 
-pub constant-fraction : {w : Bytes} (s : Sum) → is_integer s.constant ≡ false → DivisorOf w s (pos 1)
+pub constant-fraction :
+    (w : Bytes) (s : Sum) → is_integer s.constant ≡ false → (b : Bytes) → pos 1 ≡ coefficients_gcd (comb_of b w s)
 unfolding coefficients_gcd
-constant-fraction s fraction = (whole-proper (pos 1) (omega arith), λ b kept. rw (fraction, coefficients_gcd))
+constant-fraction w s fraction b = rw (fraction, coefficients_gcd)

@@ -7,15 +7,15 @@ use lib.Seq.{append_snoc}
 use Rattle.numbers.specs.Rational.{Rational, mul_q, neg_q, checked}
 use Rattle.numbers.specs.Bytes.{Bytes}
 use Rattle.terms.specs.Term.{Term}
-use Rattle.numbers.specs.declared.number.Checked.TheVariants as answer
 use Rattle.rules.specs.Refusal.{Result, ◌>>=◌}
-use Rattle.rules.specs.Refusal.Outcome.{ok, refused}
+use Rattle.std.specs.Prelude.{Ok, Err}
 use Rattle.rules.specs.Limits.{limited}
 use Rattle.index_map.specs.IndexMap.{Map, neg_all, scale_all}
 use Rattle.index_map.specs.Memory.Entries.{Held, Inserts}
 use Rattle.index_map.specs.declared.index_map.Inserted.TheVariants.{Length, OutOfRange}
 use Rattle.linear_comb.proofs.EntryLoops.{Over}
 use Rattle.index_map.proofs.CheckedNumbers.{times-value, times_out}
+use Rattle.std.specs.Prelude.{Some, None}
 
 -- ---- neg
 
@@ -35,38 +35,38 @@ negates_all M o = rw (o.stands, append-nil o.map) o.held
 -- ---- scale_all
 
 abbrev pub Scales : Rational → Map Term → Map Term → Map Term → Type 0
-Scales q M d r = (l : ℕ) → scale_all (limited l) q M ≡ (scale_all (limited l) q r >>= λ m. ok (d ++ m))
+Scales q M d r = (l : ℕ) → scale_all (limited l) q M ≡ (scale_all (limited l) q r >>= λ m. Ok (d ++ m))
 
 pub scales_first : (q : Rational) (M : Map Term) → Scales q M [] M
 unfolding ◌>>=◌
 scales_first q M l = go (scale_all (limited l) q M)
   where
-    go : (x : Result (Map Term)) → x ≡ (x >>= λ m. ok m)
-    go (ok m) = refl
-    go (refused c) = refl
+    go : (x : Result (Map Term)) → x ≡ (x >>= λ m. Ok m)
+    go (Ok m) = refl
+    go (Err c) = refl
 
 pub scales_all :
     {b w : Bytes} {n : ℕ} (q : Rational) (M : Map Term) → Over (Scales q M) b w n → (l : ℕ) →
     Inserts b w (Length n) (scale_all (limited l) q M)
 unfolding scale_all ◌>>=◌
 scales_all q M o l =
-    record { map = o.map; held = o.held; is = (o.stands l ∙ ap ok (append-nil o.map), o.size) }
+    record { map = o.map; held = o.held; is = (o.stands l ∙ ap Ok (append-nil o.map), o.size) }
 
 -- an entry behind d
 behind :
     (d : Map Term) (e : Term × Rational) (x : Result (Map Term)) →
-    (x >>= (λ m. ok (e ∷ m)) >>= λ m. ok (d ++ m)) ≡ (x >>= λ m. ok (d ++ (e ∷ []) ++ m))
+    (x >>= (λ m. Ok (e ∷ m)) >>= λ m. Ok (d ++ m)) ≡ (x >>= λ m. Ok (d ++ (e ∷ []) ++ m))
 unfolding ◌>>=◌
-behind d e (ok m) = ap ok (sym (append_snoc d e m))
-behind d e (refused c) = refl
+behind d e (Ok m) = ap Ok (sym (append_snoc d e m))
+behind d e (Err c) = refl
 
 module _ (p : Rational) (M d : Map Term) (t : Term) (v : Rational) (r : Map Term) (h : Scales p M d ((t, v) ∷ r)) where
-  pub scales_next : (q : Rational) → checked (mul_q v p) ≡ answer.Value q → Scales p M (d ++ (t, q) ∷ []) r
+  pub scales_next : (q : Rational) → checked (mul_q v p) ≡ Some q → Scales p M (d ++ (t, q) ∷ []) r
   unfolding scale_all ◌>>=◌
   scales_next q e l = h l ∙ rw (times-value l v p q e) (behind d (t, q) (scale_all (limited l) p r))
 
   pub scales_out :
-      {b w : Bytes} → checked (mul_q v p) ≡ answer.OutOfRange → Held b w [] → (l : ℕ) →
+      {b w : Bytes} → checked (mul_q v p) ≡ None → Held b w [] → (l : ℕ) →
       Inserts b w OutOfRange (scale_all (limited l) p M)
   unfolding scale_all ◌>>=◌
   scales_out e held l = record { map = []; held = held; is = (h l ∙ rw (times_out l v p e), refl) }

@@ -10,7 +10,6 @@ use lib.ListN.{length}
 use Rattle.numbers.specs.Rational.{Rational, Proper, whole, mul_q, is_zero, eq_q, checked}
 use Rattle.numbers.specs.Bytes.{Bytes}
 use Rattle.terms.specs.Term.{Term}
-use Rattle.numbers.specs.declared.number.Checked.TheVariants as answer
 use Rattle.rules.specs.Refusal.{◌>>=◌}
 use Rattle.rules.specs.Limits.{Limits, limited, times}
 use Rattle.index_map.specs.IndexMap.{Map, scale_all}
@@ -23,6 +22,7 @@ use Rattle.index_map.proofs.CheckedNumbers.{times-value, times_out, whole-proper
 use Rattle.index_map.proofs.StoredEntries.{kept-entries, clear_all}
 use Rattle.linear_comb.proofs.AreaSteps.{kept-cleared}
 use Rattle.rules.proofs.Yields.{Yields, gives, and_then, past, at_ok}
+use Rattle.std.specs.Prelude.{None, Some}
 
 -- an entry for an entry
 scaled-length :
@@ -71,7 +71,7 @@ module _ {b w : Bytes} {s : Sum} (kept : KeptSum b w s) (q : Rational) (l : ℕ)
             sym (at_ok (scaled-length (limited l) q (entries_of b w s.len)) all.is.0 ∙ kept-length kept.kept)
 
         pub constant_out :
-            {w'' : Bytes} → checked (mul_q s.constant q) ≡ answer.OutOfRange → w'' ≡ blanked s.len w' →
+            {w'' : Bytes} → checked (mul_q s.constant q) ≡ None → w'' ≡ blanked s.len w' →
             Combines b w'' combined.OutOfRange (mul (limited l) (comb_of b w s) q)
         unfolding mul ◌>>=◌
         constant_out out clear =
@@ -82,7 +82,7 @@ module _ {b w : Bytes} {s : Sum} (kept : KeptSum b w s) (q : Rational) (l : ℕ)
             }
 
         pub scaled :
-            {c : Rational} → checked (mul_q s.constant q) ≡ answer.Value c → Proper c →
+            {c : Rational} → checked (mul_q s.constant q) ≡ Some c → Proper c →
             Combines b w' (combined.Is (record { len = s.len; constant = c })) (mul (limited l) (comb_of b w s) q)
         unfolding mul ◌>>=◌
         scaled {c} is proper =

@@ -6,7 +6,7 @@ use Rattle.numbers.specs.Rational.{Rational, whole, gcd, is_zero, is_integer, eq
 use Rattle.terms.specs.Term.{Term, sort, same_sort}
 use Rattle.numbers.specs.Choice.{when◌then◌else◌}
 use Rattle.rules.specs.Refusal.{Result, ◌>>=◌}
-use Rattle.rules.specs.Refusal.Outcome.{ok}
+use Rattle.std.specs.Prelude.{Ok}
 use Rattle.rules.specs.Limits.{Limits, times}
 use Rattle.index_map.specs.IndexMap.{Map, Combination, combination, scale_all, new}
 use Rattle.terms.specs.Term.Sort.{int}
@@ -18,13 +18,13 @@ LinearComb = Combination Term
 
 unfoldable pub mul : Limits → LinearComb → Rational → Result LinearComb
 mul l s q = elim (is_zero q) [
-  | true ↦ ok new
+  | true ↦ Ok new
   | false ↦ elim (eq_q q (whole (pos 1))) [
-    | true ↦ ok s
+    | true ↦ Ok s
     | false ↦ (do
       m ← scale_all l q s.entries
       c ← times l s.constant q
-      ok (combination m c))
+      Ok (combination m c))
   ]
 ]
 

@@ -11,7 +11,7 @@ ghost use Rattle.linear_comb.specs.Memory.WorkArea.{comb_of, KeptSum, negated, C
 ghost use Rattle.linear_comb.specs.Memory.WorkArea.{SumFits, SumScales};
 
 use index_map::index_map::{Inserted, clear, key_at, put_entry, value_at};
-use numbers::number::{Checked, Number, gcd, magnitude};
+use numbers::number::{Number, gcd, magnitude};
 
 #[derive(Clone, Copy)]
 pub struct LinearComb {
@@ -34,18 +34,14 @@ pub fn neg(entries: &mut [u8], s: LinearComb) -> LinearComb
     ensures held { (b : Bytes) → KeptSum b entries.old s →
         Held b entries.new (neg_all (entries_of b entries.old s.len)) }
 {
-    let n = s.len;
-    let c = s.constant;
-    let mut k = 0;
-    while k < n {
+    for k in 0..s.len {
         let key = key_at(entries, k);
         let value = value_at(entries, k);
         put_entry(entries, k, key, value.neg());
-        k += 1;
     }
     LinearComb {
-        len: n,
-        constant: c.neg(),
+        len: s.len,
+        constant: s.constant.neg(),
     }
 }
 
@@ -55,16 +51,14 @@ fn scale_all(entries: &mut [u8], n: usize, q: Number) -> Inserted
     ensures { (b : Bytes) → Kept b entries.old n → (l : ℕ) →
         Inserts b entries.new result (scale_all (limited l) q (entries_of b entries.old n)) }
 {
-    let mut k = 0;
-    while k < n {
+    for k in 0..n {
         let key = key_at(entries, k);
         let value = value_at(entries, k);
-        let Checked::Value(scaled) = value.mul(q) else {
+        let Some(scaled) = value.mul(q) else {
             clear(entries, n);
             return Inserted::OutOfRange;
         };
         put_entry(entries, k, key, scaled);
-        k += 1;
     }
     Inserted::Length(n)
 }
@@ -75,10 +69,8 @@ pub fn mul(entries: &mut [u8], s: LinearComb, q: Number) -> Combined
     ensures { (b : Bytes) → KeptSum b entries.old s → (l : ℕ) →
         Combines b entries.new result (mul (limited l) (comb_of b entries.old s) q) }
 {
-    let n = s.len;
-    let c = s.constant;
     if q.is_zero() {
-        clear(entries, n);
+        clear(entries, s.len);
         return Combined::Is(LinearComb {
             len: 0,
             constant: Number::whole(0),
@@ -87,14 +79,17 @@ pub fn mul(entries: &mut [u8], s: LinearComb, q: Number) -> Combined
     if q.eq(Number::whole(1)) {
         return Combined::Is(s);
     }
-    let Inserted::Length(_) = scale_all(entries, n, q) else {
+    let Inserted::Length(_) = scale_all(entries, s.len, q) else {
         return Combined::OutOfRange;
     };
-    let Checked::Value(constant) = c.mul(q) else {
-        clear(entries, n);
+    let Some(constant) = s.constant.mul(q) else {
+        clear(entries, s.len);
         return Combined::OutOfRange;
     };
-    Combined::Is(LinearComb { len: n, constant })
+    Combined::Is(LinearComb {
+        len: s.len,
+        constant,
+    })
 }
 
 // The loop over the coefficients, with the result so far.
@@ -105,21 +100,17 @@ fn gcd_from(entries: &[u8], n: usize, start: i64) -> i64
         result ≡ gcd_from start (entries_of b entries.now n) }
 {
     let mut result = start;
-    let mut k = 0;
-    while k < n {
+    for k in 0..n {
         if result == 1 {
             return 1;
         }
         let value = value_at(entries, k);
-        if value.is_integer() {
-            let c = value.num;
-            result = gcd(magnitude(result), magnitude(c)) as i64;
-            k += 1;
-        } else {
+        if !value.is_integer() {
             return 1;
         }
+        result = gcd(magnitude(result), magnitude(value.num)) as i64;
     }
-    if result < 1 { 1 } else { result }
+    result.max(1)
 }
 
 // The greatest common divisor of the coefficients and the constant; 1 where one of them is not whole, and where all are
@@ -130,11 +121,8 @@ pub fn coefficients_gcd(entries: &[u8], s: LinearComb) -> i64
     ensures value { (b : Bytes) → Kept b entries.now s.len →
         result ≡ coefficients_gcd (comb_of b entries.now s) }
 {
-    let n = s.len;
-    let constant = s.constant;
-    if constant.is_integer() {
-        let c = constant.num;
-        return gcd_from(entries, n, c);
+    if !s.constant.is_integer() {
+        return 1;
     }
-    1
+    gcd_from(entries, s.len, s.constant.num)
 }

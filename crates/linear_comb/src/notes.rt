@@ -22,9 +22,7 @@ fn is_noted(noted: &[u64; NOTE_WORDS], x: usize) -> bool
     requires { x < max_records }
     ensures { result ≡ is_noted noted.now x }
 {
-    let q = x / WORD_BITS;
-    let k = x % WORD_BITS;
-    (noted[q] >> k) % 2 == 1
+    (noted[x / WORD_BITS] >> (x % WORD_BITS)) % 2 == 1
 }
 
 // Notes record x.
@@ -32,9 +30,7 @@ pub fn note(noted: &mut [u64; NOTE_WORDS], x: usize)
     requires { x < max_records }
     ensures { noted.new ≡ with_note noted.old x }
 {
-    let q = x / WORD_BITS;
-    let k = x % WORD_BITS;
-    noted[q] = noted[q] | (1 << k);
+    noted[x / WORD_BITS] |= 1 << (x % WORD_BITS);
 }
 
 // Adds `value` times the atom of record x to the n entries, and notes it. All atoms so far are noted.

@@ -2,7 +2,7 @@
 -- tried in turn (`first_case` to `fifth_case`, `no_case`).
 use mathlib.Core.Path.{◌≡◌, sym, ◌∙◌, ap, subst}
 use mathlib.Core.Bool.{Bool, true, false}
-use mathlib.Core.Option.{some, none}
+use Rattle.std.specs.Prelude.{Some, None}
 use Prim.Native.Nat.{ℕ}
 use Rattle.numbers.specs.Rational.{Rational}
 use Rattle.terms.specs.Operator.{LessEq, GreaterEq}
@@ -59,45 +59,45 @@ module _
 
 module _ (s t : Term) where
   pub first_case :
-      {r : Asserted} {p : (Term × Term) × (Term × Term)} → both (negated_binary LessEq s) (binary LessEq t) ≡ some p →
+      {r : Asserted} {p : (Term × Term) × (Term × Term)} → both (negated_binary LessEq s) (binary LessEq t) ≡ Some p →
       r ≡ asserted_of (bounds_case assert_less_eq p) → r ≡ asserted_of (tautology_case s t)
   unfolding tautology_case
   first_case e h = rw (e, tautology_case) h
 
-  module _ (not_first : both (negated_binary LessEq s) (binary LessEq t) ≡ none) where
+  module _ (not_first : both (negated_binary LessEq s) (binary LessEq t) ≡ None) where
     pub second_case :
-        {r : Asserted} {p : (Term × Term) × (Term × Term)} → both (binary LessEq s) (negated_binary LessEq t) ≡ some p →
+        {r : Asserted} {p : (Term × Term) × (Term × Term)} → both (binary LessEq s) (negated_binary LessEq t) ≡ Some p →
         r ≡ asserted_of (bounds_case assert_eq p) → r ≡ asserted_of (tautology_case s t)
     unfolding tautology_case
     second_case e h = rw (not_first, tautology_case, e) h
 
-    module _ (not-second : both (binary LessEq s) (negated_binary LessEq t) ≡ none) where
+    module _ (not-second : both (binary LessEq s) (negated_binary LessEq t) ≡ None) where
       pub third_case :
           {r : Asserted} {p : (Term × Term) × (Term × Term)} →
-          both (negated_binary GreaterEq s) (binary GreaterEq t) ≡ some p →
+          both (negated_binary GreaterEq s) (binary GreaterEq t) ≡ Some p →
           r ≡ asserted_of (bounds_case assert_less_eq ((p.0.0, p.1.1), (p.1.0, p.0.1))) →
           r ≡ asserted_of (tautology_case s t)
       unfolding tautology_case bounds_case
       third_case e h = rw (not_first, tautology_case, not-second, e) h
 
-      module _ (not_third : both (negated_binary GreaterEq s) (binary GreaterEq t) ≡ none) where
+      module _ (not_third : both (negated_binary GreaterEq s) (binary GreaterEq t) ≡ None) where
         pub fourth_case :
             {r : Asserted} {p : (Term × Term) × (Term × Term)} →
-            both (binary GreaterEq s) (negated_binary GreaterEq t) ≡ some p →
+            both (binary GreaterEq s) (negated_binary GreaterEq t) ≡ Some p →
             r ≡ asserted_of (bounds_case assert_eq p) → r ≡ asserted_of (tautology_case s t)
         unfolding tautology_case
         fourth_case e h = rw (not_first, tautology_case, not-second, not_third, e) h
 
-        module _ (not-fourth : both (binary GreaterEq s) (negated_binary GreaterEq t) ≡ none) where
+        module _ (not-fourth : both (binary GreaterEq s) (negated_binary GreaterEq t) ≡ None) where
           pub fifth_case :
               {r : Asserted} {p : (Term × Term) × (Term × Term)} →
-              both (negated_binary LessEq s) (negated_binary GreaterEq t) ≡ some p →
+              both (negated_binary LessEq s) (negated_binary GreaterEq t) ≡ Some p →
               r ≡ asserted_of (bounds_case assert_less_than p) → r ≡ asserted_of (tautology_case s t)
           unfolding tautology_case
           fifth_case e h = rw (not_first, tautology_case, not-second, not_third, not-fourth, e) h
 
           pub no_case :
-              both (negated_binary LessEq s) (negated_binary GreaterEq t) ≡ none →
+              both (negated_binary LessEq s) (negated_binary GreaterEq t) ≡ None →
               asserted.Refused (number not_valid_tautology_case) ≡ asserted_of (tautology_case s t)
           unfolding tautology_case
           no_case e = rw (not_first, tautology_case, not-second, not_third, not-fourth, e)

@@ -1,12 +1,12 @@
 -- Rules 1 to 3 of src/checker/rules/linear_arithmetic.rs on one step, and the second form of `la_tautology`, with the
 -- assertions of src/checker/rules/mod.rs that they use. A conclusion is the list of a step's literals.
-use Rattle.std.proofs.Math.Option.{some, none}
+use Rattle.std.specs.Prelude.{Some, None}
 use Rattle.std.specs.Prelude.{[], ◌∷◌}
 use Rattle.numbers.specs.Rational.{less_q, less_eq_q}
 use Rattle.terms.specs.Operator.{Not, And, Or, Equals, LessEq, GreaterEq}
 use Rattle.terms.specs.Term.{Term, binary}
 use Rattle.rules.specs.Refusal.{Result, ◌>>=◌, assert}
-use Rattle.rules.specs.Refusal.Outcome.{refused}
+use Rattle.std.specs.Prelude.{Err}
 use Rattle.rules.specs.Refusal.Refusal.{expected_less_than, expected_less_eq, not_valid_tautology_case}
 use Rattle.rules.specs.Limits.{signed_number_err}
 use Rattle.rules.specs.Shapes.{Clause, Form, ◌≔◌of◌, has_form, assert_eq, negated_binary, both, bounds_case}
@@ -68,16 +68,16 @@ assert_less_eq a b = do
 unfoldable pub tautology_case : Term → Term → Result (Unit {0})
 tautology_case first second =
     elim (both (negated_binary LessEq first) (binary LessEq second)) [
-      | some p ↦ bounds_case assert_less_eq p
-      | none ↦ elim (both (binary LessEq first) (negated_binary LessEq second)) [
-        | some p ↦ bounds_case assert_eq p
-        | none ↦ elim (both (negated_binary GreaterEq first) (binary GreaterEq second)) [
-          | some p ↦ bounds_case (λ d1 d2. assert_less_eq d2 d1) p
-          | none ↦ elim (both (binary GreaterEq first) (negated_binary GreaterEq second)) [
-            | some p ↦ bounds_case assert_eq p
-            | none ↦ elim (both (negated_binary LessEq first) (negated_binary GreaterEq second)) [
-              | some p ↦ bounds_case assert_less_than p
-              | none ↦ refused not_valid_tautology_case
+      | Some p ↦ bounds_case assert_less_eq p
+      | None ↦ elim (both (binary LessEq first) (negated_binary LessEq second)) [
+        | Some p ↦ bounds_case assert_eq p
+        | None ↦ elim (both (negated_binary GreaterEq first) (binary GreaterEq second)) [
+          | Some p ↦ bounds_case (λ d1 d2. assert_less_eq d2 d1) p
+          | None ↦ elim (both (binary GreaterEq first) (negated_binary GreaterEq second)) [
+            | Some p ↦ bounds_case assert_eq p
+            | None ↦ elim (both (negated_binary LessEq first) (negated_binary GreaterEq second)) [
+              | Some p ↦ bounds_case assert_less_than p
+              | None ↦ Err not_valid_tautology_case
             ]
           ]
         ]

@@ -11,7 +11,7 @@ use Rattle.terms.specs.Smtlib.{divs_even}
 use Rattle.numbers.proofs.Truths.{both, never}
 use Rattle.book.proofs.BookTerms.{Closed}
 use Rattle.rules.specs.Refusal.{Refusal, assert}
-use Rattle.rules.specs.Refusal.Outcome.{ok}
+use Rattle.std.specs.Prelude.{Ok}
 use Rattle.rules.specs.Limits.{Limits, the_rust}
 use Rattle.linear_arithmetic.specs.LinearArithmetic.{read_args}
 use Rattle.rules.specs.Shapes.{Clause}
@@ -66,12 +66,12 @@ pub arguments-length : {args : List Term} {qs : List Rational} → Arguments arg
 arguments-length Arguments.end = refl
 arguments-length (Arguments.argument w h) = rw (arguments-length h)
 
-pub arguments-accepted : {args : List Term} {qs : List Rational} → Arguments args qs → read_args the_rust args ≡ ok qs
+pub arguments-accepted : {args : List Term} {qs : List Rational} → Arguments args qs → read_args the_rust args ≡ Ok qs
 unfolding read_args
 arguments-accepted Arguments.end = refl
 arguments-accepted (Arguments.argument w h) = next _ (written-accepted w) ∙ next _ (arguments-accepted h)
 
-pub asserted-true : (t : Bool) (r : Refusal) (u : Unit {0}) → assert t r ≡ ok u → t ≡ true
+pub asserted-true : (t : Bool) (r : Refusal) (u : Unit {0}) → assert t r ≡ Ok u → t ≡ true
 unfolding assert
 asserted-true true r u e = refl
 asserted-true false r u e = cc

@@ -4,7 +4,7 @@
 --     form-says       why it is true
 use mathlib.Core.Path.{◌≡◌, refl, sym, ◌∙◌, ap, ap₂}
 use mathlib.Core.Bool.{Bool, true, false, not, ◌||◌, or-not_self}
-use mathlib.Core.Option.{Option, some, none}
+use Rattle.std.specs.Prelude.{Option, Some, None}
 use Prim.Native.Nat.{ℕ}
 use lib.Dec.{T}
 use lib.Signed.{clash_ℤ}
@@ -15,8 +15,6 @@ use Rattle.terms.specs.Operator.{LessEq, GreaterEq}
 use Rattle.terms.specs.Term.{Term}
 use Rattle.terms.specs.Readers.{as_signed_number}
 use Rattle.terms.specs.Smtlib.{Assignment}
-use Rattle.terms.specs.declared.term.Reading.{Reading}
-use Rattle.terms.specs.declared.term.Reading.TheVariants.{Value, NotNumber, OutOfRange}
 use Rattle.numbers.proofs.Pairs.{≤P_trans, ≤P_resp, <P_resp}
 use Rattle.numbers.proofs.Rationals.{less-value, less_eq-value}
 use Rattle.book.proofs.WellFormed.{WellFormed}
@@ -38,28 +36,31 @@ use Rattle.rules_theory.proofs.Shapes.{arguments-formed}
 use Rattle.numbers.proofs.Truths.{T_true, true-T}
 use Rattle.numbers.proofs.Comparisons.{of_less_p, of_less_eq_p, less_eq_p-true}
 use Rattle.alethe.proofs.Literals.{at, says, relation-says, negated-says}
+use Rattle.terms.specs.Readers.{Reading}
+use Rattle.std.specs.Prelude.{Ok, Err}
+use Rattle.terms.specs.declared.term.NotRead.TheVariants.{NotNumber, OutOfRange}
 
 -- ---- tests along the steps
 
 -- an option that is found, or what comes next
 pub by_found :
     {A B : Type 0} {Q : A → Type 0} (o : Option B) {f : B → Result A} {y : Result A} →
-    ((b : B) → o ≡ some b → Yields Q (f b)) → Yields Q y →
-    Yields {E = Refusal} Q (elim o as (λ z. Result A) [ some b ↦ f b | none ↦ y ])
-by_found (some b) h k = h b refl
-by_found none h k = k
+    ((b : B) → o ≡ Some b → Yields Q (f b)) → Yields Q y →
+    Yields {E = Refusal} Q (elim o as (λ z. Result A) [ Some b ↦ f b | None ↦ y ])
+by_found (Some b) h k = h b refl
+by_found None h k = k
 
 -- what is found of each of two
 both_found :
-    {A B : Type 0} (o q : Option (Term × Term)) (r : (Term × Term) × (Term × Term)) → (o ≡ some r.0 → A) →
-    (q ≡ some r.1 → B) → Form.both o q ≡ some r → A × B
-both_found (some a) (some b) r f g e =
+    {A B : Type 0} (o q : Option (Term × Term)) (r : (Term × Term) × (Term × Term)) → (o ≡ Some r.0 → A) →
+    (q ≡ Some r.1 → B) → Form.both o q ≡ Some r → A × B
+both_found (Some a) (Some b) r f g e =
     let h : ◌≡◌ {A = (Term × Term) × (Term × Term)} (a, b) r = cc in (
-      f (ap (λ (r : (Term × Term) × (Term × Term)). some r.0) h),
-      g (ap (λ (r : (Term × Term) × (Term × Term)). some r.1) h),
+      f (ap (λ (r : (Term × Term) × (Term × Term)). Some r.0) h),
+      g (ap (λ (r : (Term × Term) × (Term × Term)). Some r.1) h),
     )
-both_found (some a) none r f g e = nothing-found e
-both_found none q r f g e = nothing-found e
+both_found (Some a) None r f g e = nothing-found e
+both_found None q r f g e = nothing-found e
 
 -- a and b are signed numbers, and a test says true of them
 record Compared (test : Rational → Rational → Bool) (a b : Term) : Type 0 where
@@ -76,9 +77,9 @@ signed-yields t = go (as_signed_number t) refl
     go :
         (r : Reading) → as_signed_number t ≡ r →
         Yields (Written t) (number_or r >>= λ q. or_else q expected_any_number)
-    go (Value q) e = gives (signed-written (read-signed t q e))
-    go NotNumber e = refuses
-    go OutOfRange e = refuses
+    go (Ok q) e = gives (signed-written (read-signed t q e))
+    go (Err NotNumber) e = refuses
+    go (Err OutOfRange) e = refuses
 
 module _ (a b : Term) where
   less-yields : Yields (λ u. Compared less_q a b) (assert_less_than a b)

@@ -19,7 +19,7 @@ use Rattle.numbers.proofs.Ring.{◌⊕◌, ◌⊖◌, neg, 𝟘, 𝟙, ◌≐◌
 use Rattle.numbers.proofs.Quotient.{ℚ, mk, ℚring, mk-eq}
 use Rattle.terms.proofs.Sums.{meant}
 use Rattle.book.proofs.BookTerms.{Each, Closed}
-use Rattle.rules.specs.Refusal.Outcome.{ok}
+use Rattle.std.specs.Prelude.{Ok}
 use Rattle.rules.specs.Limits.{Limits, the_rust}
 use Rattle.index_map.specs.IndexMap.{combination, sub}
 use Rattle.linear_walk.specs.LinearTerms.{from_term}
@@ -221,7 +221,7 @@ module _ {P : Term → Type 0} (closed : Closed P) (phi : Term) (p : P phi) wher
         let g = apart-kept h.left h.right left-kept right_kept in
         (rw h.terms g.0, rw h.bound g.1)
 
-    pub states-agree : (l : Limits) (n : ℕ) (d : Disequality) → disequality_of l phi n ≡ ok d → Agrees P d k
+    pub states-agree : (l : Limits) (n : ℕ) (d : Disequality) → disequality_of l phi n ≡ Ok d → Agrees P d k
     states-agree l n d e =
         let ps = opposite-inside closed phi p h.opposite in
         let w = literal_walks l h.o h.a h.b n phi h.opposite d e in
@@ -241,7 +241,7 @@ module _ {P : Term → Type 0} (closed : Closed P) (phi : Term) (p : P phi) wher
           entries = states-kept.0;
         }
 
-    pub states-answered : (n : ℕ) → (d : Disequality) × (disequality_of the_rust phi n ≡ ok d)
+    pub states-answered : (n : ℕ) → (d : Disequality) × (disequality_of the_rust phi n ≡ Ok d)
     states-answered n = let (d, (e, t)) = answer_of (literal-free h.opposite n) in (d, e)
 
     pub states-false : (ρ : Assignment) → is_true (value ρ phi) ≡ false →

@@ -18,7 +18,7 @@ use Rattle.numbers.proofs.Quotient.{ℚ, ℚring, sum, ι}
 use Rattle.numbers.proofs.LowestTerms.{whole_is_lowest}
 use Rattle.book.proofs.BookTerms.{Closed}
 use Rattle.rules.specs.Refusal.{Refusal}
-use Rattle.rules.specs.Refusal.Outcome.{ok, refused}
+use Rattle.std.specs.Prelude.{Ok, Err}
 use Rattle.rules.specs.Limits.{Limits, the_rust}
 use Rattle.index_map.specs.IndexMap.{is_empty, new}
 use Rattle.index_map.specs.Memory.Entries as Entry
@@ -159,7 +159,7 @@ module _ {P : Term → Type 0} (closed : Closed P) where
   pub generic_accepted : (by : Departures) (c : Clause) → EachOf P c → (args : List Term) (qs : List Rational) →
       EachOf P args → Arguments args qs → LaGeneric by c qs → by Departure.whole_product ⊎ WholeBounds by c →
       by Departure.argument_zero ⊎ NoZeroArgument by c qs → (n : ℕ) →
-      (p : Progress) × (la_generic the_rust c args n ≡ ok p)
+      (p : Progress) × (la_generic the_rust c args n ≡ Ok p)
   unfolding la_generic la_generic_partial
   generic_accepted by c ps args qs of-P given g whole zero n =
       let ks = g.constraints in
@@ -180,6 +180,6 @@ module _ {P : Term → Type 0} (closed : Closed P) where
   pub generic_not-refused : (by : Departures) (c : Clause) → EachOf P c → (args : List Term) (qs : List Rational) →
       EachOf P args → Arguments args qs → LaGeneric by c qs → by Departure.whole_product ⊎ WholeBounds by c →
       by Departure.argument_zero ⊎ NoZeroArgument by c qs → (l : Limits) (n : ℕ) (r : Refusal) →
-      la_generic l c args n ≡ refused r → IsLimit r
+      la_generic l c args n ≡ Err r → IsLimit r
   generic_not-refused by c ps args qs of-P given g whole zero l n r =
       limit-alone (la_generic-limited l c args n) (generic_accepted by c ps args qs of-P given g whole zero n).1

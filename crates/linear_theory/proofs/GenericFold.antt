@@ -6,14 +6,14 @@
 --     Assigned       which arguments the literals take
 --     Folded       the arguments, the numbers inferred, the lines, and their sum
 use mathlib.Core.Path.{◌≡◌, sym, ◌∙◌, ap, subst}
-use mathlib.Core.Option.{some, none}
+use Rattle.std.specs.Prelude.{Some, None}
 use mathlib.Core.List.{List, [], ◌∷◌, ◌++◌, append_assoc, append-nil}
 use lib.IntN.{pos}
 use Rattle.numbers.specs.Rational.{Rational, Lowest}
 use Rattle.terms.specs.Term.{Term}
 use Rattle.numbers.proofs.Quotient.{ℚring, sum}
 use Rattle.book.proofs.BookTerms.{Closed}
-use Rattle.rules.specs.Refusal.Outcome.{ok}
+use Rattle.std.specs.Prelude.{Ok}
 use Rattle.rules.specs.Limits.{Limits}
 use Rattle.process_disequality.specs.ProcessDisequality.{Progress, process_disequality}
 use Rattle.linear_arithmetic.specs.LinearArithmetic.{fold_literals}
@@ -83,7 +83,7 @@ module _ {P : Term → Type 0} (closed : Closed P) (l : Limits) where
     pub left : CombinationOf P Lowest r.acc
     pub summed : Summed P p r constraints
 
-  after-inferred : (phi : Term) (c : Clause) (p q r : Progress) → Taken P p phi none q → Folded c [] q r →
+  after-inferred : (phi : Term) (c : Clause) (p q r : Progress) → Taken P p phi None q → Folded c [] q r →
       Folded (phi ∷ c) [] p r
   after-inferred phi c p q r t f =
       record {
@@ -100,7 +100,7 @@ module _ {P : Term → Type 0} (closed : Closed P) (l : Limits) where
       }
 
   after-given : (phi : Term) (c : Clause) (a : Rational) (qs : List Rational) (p q r : Progress) →
-      Taken P p phi (some a) q → Folded c qs q r → Folded (phi ∷ c) (a ∷ qs) p r
+      Taken P p phi (Some a) q → Folded c qs q r → Folded (phi ∷ c) (a ∷ qs) p r
   after-given phi c a qs p q r t f =
       record {
         taken = a ∷ f.taken;
@@ -118,7 +118,7 @@ module _ {P : Term → Type 0} (closed : Closed P) (l : Limits) where
       }
 
   pub fold-lines : (c : Clause) → EachOf P c → (qs : List Rational) → EachLowest qs → (p r : Progress) →
-      fold_literals l c qs p ≡ ok r → CombinationOf P Lowest p.acc → Folded c qs p r
+      fold_literals l c qs p ≡ Ok r → CombinationOf P Lowest p.acc → Folded c qs p r
   unfolding fold_literals
   fold-lines [] ps qs ls p r e h =
       subst (Folded [] qs p) (let k : p ≡ r = cc in k)
@@ -135,10 +135,10 @@ module _ {P : Term → Type 0} (closed : Closed P) (l : Limits) where
         summed = nothing-summed P p;
       })
   fold-lines (phi ∷ c) (k, ps) [] ls p r e h =
-      let t = through (process_disequality l p phi none) _ r e in
-      let s = literal-taken closed l p phi none t.middle t.first k tt h in
+      let t = through (process_disequality l p phi None) _ r e in
+      let s = literal-taken closed l p phi None t.middle t.first k tt h in
       after-inferred phi c p t.middle r s (fold-lines c ps [] tt t.middle r t.then s.left)
   fold-lines (phi ∷ c) (k, ps) (a ∷ qs) (la, ls) p r e h =
-      let t = through (process_disequality l p phi (some a)) _ r e in
-      let s = literal-taken closed l p phi (some a) t.middle t.first k la h in
+      let t = through (process_disequality l p phi (Some a)) _ r e in
+      let s = literal-taken closed l p phi (Some a) t.middle t.first k la h in
       after-given phi c a qs p t.middle r s (fold-lines c ps qs ls t.middle r t.then s.left)

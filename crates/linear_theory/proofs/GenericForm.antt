@@ -20,7 +20,7 @@ use Rattle.numbers.proofs.Ring.{◌⊕◌, 𝟘, 𝟙, neg, ◌≐◌, ◌·◌,
 use Rattle.numbers.proofs.Quotient.{ℚring}
 use Rattle.book.proofs.BookTerms.{Closed}
 use Rattle.rules.specs.Refusal.{assert}
-use Rattle.rules.specs.Refusal.Outcome.{ok}
+use Rattle.std.specs.Prelude.{Ok}
 use Rattle.rules.specs.Refusal.Refusal.{wrong_number_of_args, disequality_is_not_contradiction}
 use Rattle.rules.specs.Limits.{Limits}
 use Rattle.index_map.specs.IndexMap.{is_empty, new}
@@ -110,7 +110,7 @@ module _ {P : Term → Type 0} (closed : Closed P) (l : Limits) where
     pub form : LaGeneric carcara c taken
 
   pub accepted : (c : Clause) → EachOf P c → (args : List Term) → EachOf P args → (n : ℕ) (r : Progress) →
-      la_generic_partial l c args n ≡ ok r → Accepted c args r
+      la_generic_partial l c args n ≡ Ok r → Accepted c args r
   unfolding la_generic_partial
   accepted c ps args fs n r e =
       let t = through (read_args l args) _ r e in
@@ -153,10 +153,10 @@ pub record GenericStep (c : Clause) (args : List Term) (p : Progress) : Type 0 w
 
 module _ {P : Term → Type 0} (closed : Closed P) (c : Clause) (terms-of-P : EachOf P c) (l : Limits) (args : List Term)
     (args-of-P : EachOf P args) (n : ℕ) (p : Progress) where
-  step : la_generic_partial l c args n ≡ ok p → Accepted closed l c args p
+  step : la_generic_partial l c args n ≡ Ok p → Accepted closed l c args p
   step = accepted closed l c terms-of-P args args-of-P n p
 
-  pub la_generic_partial-form : la_generic_partial l c args n ≡ ok p → BoundedFarkas carcara c args p.trace
+  pub la_generic_partial-form : la_generic_partial l c args n ≡ Ok p → BoundedFarkas carcara c args p.trace
   la_generic_partial-form e =
       let a = step e in
       ⊎_elim (λ all. completed a.numbers a.arguments (subst (LaGeneric carcara c) all a.form))
@@ -164,10 +164,10 @@ module _ {P : Term → Type 0} (closed : Closed P) (c : Clause) (terms-of-P : Ea
       surplus_arguments tt a.taken a.surplus (subst (Arguments args) left.1 a.arguments) left.0 a.form)
       (all_or_surplus a.assigned)
 
-  pub trace-lowest : la_generic_partial l c args n ≡ ok p → EachLowest p.trace
+  pub trace-lowest : la_generic_partial l c args n ≡ Ok p → EachLowest p.trace
   trace-lowest e = (step e).lowest
 
-  pub la_generic-form : la_generic l c args n ≡ ok p → GenericStep c args p
+  pub la_generic-form : la_generic l c args n ≡ Ok p → GenericStep c args p
   unfolding la_generic
   la_generic-form e =
       let t = through (assert (eqb (length args) (length c)) wrong_number_of_args) _ p e in

@@ -4,7 +4,7 @@
 --     Added       what a literal adds to the sum is the constraint
 --     Taken       the argument, the constraint and the line
 use mathlib.Core.Path.{◌≡◌, refl, sym, ◌∙◌, ap, ap₂, subst}
-use mathlib.Core.Option.{Option}
+use Rattle.std.specs.Prelude.{Option}
 use mathlib.Core.Logic.{inl}
 use Prim.Native.Nat.{ℕ}
 use lib.IntN.{pos}
@@ -12,7 +12,7 @@ use Rattle.numbers.specs.Rational.{Rational, Lowest, mul_q}
 use Rattle.terms.specs.Term.{Term}
 use Rattle.numbers.proofs.Quotient.{ℚ, ℚring, sum, product}
 use Rattle.book.proofs.BookTerms.{Closed}
-use Rattle.rules.specs.Refusal.Outcome.{ok}
+use Rattle.std.specs.Prelude.{Ok}
 use Rattle.rules.specs.Limits.{Limits}
 use Rattle.index_map.specs.IndexMap.{combination}
 use Rattle.linear_comb.specs.LinearComb.{LinearComb, mul}
@@ -48,7 +48,7 @@ module _ (P : Term → Type 0) where
     pub added : Added p q constraint
 
 module _ {P : Term → Type 0} (closed : Closed P) (l : Limits) (p : Progress) (phi : Term) (arg : Option Rational)
-    (q : Progress) (e : process_disequality l p phi arg ≡ ok q) (of-P : P phi) (given : LowestGiven arg)
+    (q : Progress) (e : process_disequality l p phi arg ≡ Ok q) (of-P : P phi) (given : LowestGiven arg)
     (h : CombinationOf P Lowest p.acc) where
   abbrev t : Steps l p phi arg q
   t = steps l p phi arg q e

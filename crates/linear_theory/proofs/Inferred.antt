@@ -5,7 +5,7 @@
 --     la_generic-again       the step, with the inferred numbers appended as real constants
 use mathlib.Core.Path.{◌≡◌, refl, sym, subst}
 use mathlib.Core.Bool.{◌&&◌, not}
-use mathlib.Core.Option.{Option, some, none}
+use Rattle.std.specs.Prelude.{Option, Some, None}
 use mathlib.Core.List.{List, [], ◌∷◌, ◌++◌, append_assoc, append-nil}
 use Prim.Native.Nat.{ℕ, ◌≤◌}
 use native.Mathlib.Omega.{arith}
@@ -18,7 +18,7 @@ use Rattle.terms.specs.Operator.{Equals}
 use Rattle.terms.specs.Readers.{as_fraction, as_unsigned_fraction, as_signed_number, as_number, quotient_of}
 use Rattle.rules.specs.Refusal.{◌>>=◌, assert, or_else}
 use Rattle.rules.specs.Refusal.Refusal.{disequality_is_not_contradiction}
-use Rattle.rules.specs.Refusal.Outcome.{ok}
+use Rattle.std.specs.Prelude.{Ok}
 use Rattle.rules.specs.Limits.{Limits, fraction_of, fraction_err}
 use Rattle.index_map.specs.IndexMap.{add, new, is_empty}
 use Rattle.linear_comb.specs.LinearComb.{LinearComb, mul}
@@ -37,8 +37,8 @@ retraced t p = progress p.operator p.acc t p.visits
 
 -- what a literal's argument and trace are: those given, or one more number in the trace
 abbrev pub Supplied : Progress → Option Rational → Rational → List Rational → Type 0
-Supplied p (some b) a t = (a ≡ b) × (t ≡ p.trace)
-Supplied p none a t = t ≡ p.trace ++ a ∷ []
+Supplied p (Some b) a t = (a ≡ b) × (t ≡ p.trace)
+Supplied p None a t = t ≡ p.trace ++ a ∷ []
 
 -- real constants of these numbers, whatever their record numbers
 pub data Reals : List Term → List Rational → Type 0 where
@@ -53,14 +53,14 @@ module _ (l : Limits) where
     pub argument : Rational
     pub supplied : Supplied p arg argument q.trace
     pub again :
-        (t : List Rational) → process_disequality l (retraced t p) phi (some argument) ≡ ok (retraced t q)
+        (t : List Rational) → process_disequality l (retraced t p) phi (Some argument) ≡ Ok (retraced t q)
 
   argument-supplied :
       (p : Progress) (s : LinearComb) (arg : Option Rational) →
       Yields (λ x. Supplied p arg x.0 x.1) (argument_of l p s arg)
   unfolding argument_of
-  argument-supplied p s (some a) = gives (refl, refl)
-  argument-supplied p s none = past (inferred l p.acc.entries s.entries) λ a. gives refl
+  argument-supplied p s (Some a) = gives (refl, refl)
+  argument-supplied p s None = past (inferred l p.acc.entries s.entries) λ a. gives refl
 
   pub literal-again :
       (p : Progress) (phi : Term) (arg : Option Rational) → Yields (Again p phi arg) (process_disequality l p phi arg)
@@ -80,11 +80,11 @@ module _ (l : Limits) where
     pub numbers : List Rational
     pub supplied : q.trace ≡ p.trace ++ numbers
     pub complete : length (args ++ numbers) ≡ length c
-    pub again : (t : List Rational) → fold_literals l c (args ++ numbers) (retraced t p) ≡ ok (retraced t q)
+    pub again : (t : List Rational) → fold_literals l c (args ++ numbers) (retraced t p) ≡ Ok (retraced t q)
 
   -- behind a literal whose argument is inferred, and behind one whose argument is given
   after-inferred :
-      (phi : Term) (c : Clause) (p q r : Progress) → Again p phi none q → FoldAgain c [] q r →
+      (phi : Term) (c : Clause) (p q r : Progress) → Again p phi None q → FoldAgain c [] q r →
       FoldAgain (phi ∷ c) [] p r
   unfolding fold_literals ◌>>=◌
   after-inferred phi c p q r x y =
@@ -96,14 +96,14 @@ module _ (l : Limits) where
       }
 
   after-given :
-      (phi : Term) (c : Clause) (a : Rational) (args : List Rational) (p q r : Progress) → Again p phi (some a) q →
+      (phi : Term) (c : Clause) (a : Rational) (args : List Rational) (p q r : Progress) → Again p phi (Some a) q →
       FoldAgain c args q r → FoldAgain (phi ∷ c) (a ∷ args) p r
   unfolding fold_literals ◌>>=◌
   after-given phi c a args p q r x y =
       let e : x.argument ≡ a = x.supplied.0 in
       let f : q.trace ≡ p.trace = x.supplied.1 in
-      let g : (t : List Rational) → process_disequality l (retraced t p) phi (some a) ≡ ok (retraced t q) =
-      subst (λ b. (t : List Rational) → process_disequality l (retraced t p) phi (some b) ≡ ok (retraced t q)) e x.again in
+      let g : (t : List Rational) → process_disequality l (retraced t p) phi (Some a) ≡ Ok (retraced t q) =
+      subst (λ b. (t : List Rational) → process_disequality l (retraced t p) phi (Some b) ≡ Ok (retraced t q)) e x.again in
       record {
         numbers = y.numbers;
         supplied = rw (y.supplied, f);
@@ -118,19 +118,19 @@ module _ (l : Limits) where
   fold-again [] [] p h =
       gives {a = p} record { numbers = []; supplied = sym (append-nil p.trace); complete = refl; again = λ t. refl }
   fold-again (phi ∷ c) [] p h =
-      and_then (literal-again p phi none) λ q x. weaker (λ r y. after-inferred phi c p q r x y) (fold-again c [] q (omega arith))
+      and_then (literal-again p phi None) λ q x. weaker (λ r y. after-inferred phi c p q r x y) (fold-again c [] q (omega arith))
   fold-again (phi ∷ c) (a ∷ args) p h =
-      and_then (literal-again p phi (some a)) λ q x.
+      and_then (literal-again p phi (Some a)) λ q x.
       weaker (λ r y. after-given phi c a args p q r x y) (fold-again c args q (omega (arith, h)))
   fold-again [] (a ∷ args) p h = elim h [ ]
 
   -- ---- the step
 
-  reads-real : (i : ℕ) (q : Rational) → fraction_err l (rational i q) ≡ ok q
+  reads-real : (i : ℕ) (q : Rational) → fraction_err l (rational i q) ≡ Ok q
   unfolding fraction_err fraction_of as_fraction as_unsigned_fraction as_signed_number as_number quotient_of unary binary ◌>>=◌ or_else
   reads-real i q = refl
 
-  reads-reals : {ts : List Term} {qs : List Rational} → Reals ts qs → read_args l ts ≡ ok qs
+  reads-reals : {ts : List Term} {qs : List Rational} → Reals ts qs → read_args l ts ≡ Ok qs
   unfolding read_args ◌>>=◌
   reads-reals end = refl
   reads-reals (also {q} i h) = rw (reads-real i q, reads-reals h)
@@ -143,7 +143,7 @@ module _ (l : Limits) where
   abbrev ReadAgain : List Term → List Rational → Type 0
   ReadAgain args qs =
       (length qs ≡ length args)
-      × ((ts : List Term) (rs : List Rational) → Reals ts rs → read_args l (args ++ ts) ≡ ok (qs ++ rs))
+      × ((ts : List Term) (rs : List Rational) → Reals ts rs → read_args l (args ++ ts) ≡ Ok (qs ++ rs))
 
   read_args-again : (args : List Term) → Yields (ReadAgain args) (read_args l args)
   unfolding read_args ◌>>=◌
@@ -155,7 +155,7 @@ module _ (l : Limits) where
 
   pub la_generic-again :
       (c : Clause) (args : List Term) (n : ℕ) → length args ≤ length c →
-      Yields (λ p. (ts : List Term) → Reals ts p.trace → la_generic l c (args ++ ts) n ≡ ok (retraced [] p))
+      Yields (λ p. (ts : List Term) → Reals ts p.trace → la_generic l c (args ++ ts) n ≡ Ok (retraced [] p))
       (la_generic_partial l c args n)
   unfolding la_generic_partial la_generic ◌>>=◌ assert
   la_generic-again c args n h =
@@ -163,8 +163,8 @@ module _ (l : Limits) where
       and_then (fold-again c qs (progress Equals new [] n) (omega (arith, h, r.0))) λ p f.
       known (assert (is_empty p.acc.entries && not (is_true_at_zero p.operator p.acc.constant)) disequality_is_not_contradiction) λ u e.
       gives λ ts g. (
-      let a : read_args l (args ++ ts) ≡ ok (qs ++ f.numbers) =
-      subst (λ x. read_args l (args ++ ts) ≡ ok (qs ++ x)) f.supplied (r.1 ts p.trace g) in
+      let a : read_args l (args ++ ts) ≡ Ok (qs ++ f.numbers) =
+      subst (λ x. read_args l (args ++ ts) ≡ Ok (qs ++ x)) f.supplied (r.1 ts p.trace g) in
       let b : length (args ++ ts) ≡ length c =
       rw (length-append args ts, reals-length g, f.supplied, sym r.0, sym (length-append qs f.numbers)) f.complete in
       rw (eq-eqb (length (args ++ ts)) (length c) b, a, f.again [], e)

@@ -2,7 +2,7 @@
 use mathlib.Core.Path.{◌≡◌, refl}
 use mathlib.Core.Bool.{Bool, true, false, ◌&&◌, cond}
 use mathlib.Core.List.{List, [], ◌∷◌, ◌++◌}
-use mathlib.Core.Option.{Option, some, none}
+use Rattle.std.specs.Prelude.{Option, Some, None}
 use Prim.Native.Nat.{ℕ, ◌≤◌}
 use borrow.Author.Tests.{leb-true}
 use lib.Dec.{leb}
@@ -10,7 +10,6 @@ use lib.IntN.{nat_abs}
 use Rattle.numbers.specs.Rational.{Rational, limit}
 use Rattle.terms.specs.Term.{Term}
 use Rattle.terms.specs.Readers.{bounded}
-use Rattle.terms.specs.declared.term.Reading.TheVariants.{Value, OutOfRange}
 use Rattle.numbers.proofs.Truths.{both}
 use Rattle.rules.specs.Refusal.{or_else}
 use Rattle.rules.specs.Limits.{limited, in_limit, ranged, over}
@@ -22,6 +21,8 @@ use Rattle.linear_arithmetic.specs.LinearArithmetic.{fold_literals, la_generic_p
 use Rattle.rules.specs.Shapes.{Clause}
 use Rattle.disequality.specs.Disequality.{disequality_of}
 use Rattle.rules.proofs.Yields.{Yields, gives, refuses, and_then, past, weaker, guarded}
+use Rattle.std.specs.Prelude.{Ok, Err}
+use Rattle.terms.specs.declared.term.NotRead.TheVariants.{OutOfRange}
 
 pub record InRange (q : Rational) : Type 0 where
   pub numerator : nat_abs q.num ≤ limit
@@ -42,7 +43,7 @@ module _ (n : ℕ) where
     where
       go :
           (t : Bool) → (leb (nat_abs q.num) limit && leb (nat_abs q.den) limit) ≡ t →
-          Yields InRange (in_limit (cond t (Value q) OutOfRange))
+          Yields InRange (in_limit (cond t (Ok q) (Err OutOfRange)))
       go true e =
           let h = both (leb (nat_abs q.num) limit) (leb (nat_abs q.den) limit) e in
           gives (record { numerator = leb-true _ _ h.0; denominator = leb-true _ _ h.1 })
@@ -62,8 +63,8 @@ module _ (n : ℕ) where
       (p : Progress) (s : LinearComb) (arg : Option Rational) →
       Yields (λ x. AllInRange p.trace → AllInRange x.1) (argument_of (limited n) p s arg)
   unfolding argument_of
-  argument_in p s (some a) = gives λ h. h
-  argument_in p s none = and_then (inferred_in p.acc.entries s.entries) λ a g. gives λ h. one_more p.trace a h g
+  argument_in p s (Some a) = gives λ h. h
+  argument_in p s None = and_then (inferred_in p.acc.entries s.entries) λ a g. gives λ h. one_more p.trace a h g
 
   literal_in :
       (p : Progress) (phi : Term) (arg : Option Rational) →
@@ -80,9 +81,9 @@ module _ (n : ℕ) where
   unfolding fold_literals
   fold_in [] args p = gives λ h. h
   fold_in (phi ∷ c) [] p =
-      and_then (literal_in p phi none) λ q g. weaker (λ r k h. k (g h)) (fold_in c [] q)
+      and_then (literal_in p phi None) λ q g. weaker (λ r k h. k (g h)) (fold_in c [] q)
   fold_in (phi ∷ c) (a ∷ args) p =
-      and_then (literal_in p phi (some a)) λ q g. weaker (λ r k h. k (g h)) (fold_in c args q)
+      and_then (literal_in p phi (Some a)) λ q g. weaker (λ r k h. k (g h)) (fold_in c args q)
 
   pub partial_in_range :
       (c : Clause) (args : List Term) (k : ℕ) →

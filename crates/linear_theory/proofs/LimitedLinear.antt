@@ -2,7 +2,7 @@
 -- `la_generic_partial-limited`. Rules 1 to 3 are under no limit.
 use mathlib.Core.Path.{refl}
 use mathlib.Core.Bool.{◌&&◌, ◌||◌}
-use mathlib.Core.Option.{Option, some, none}
+use Rattle.std.specs.Prelude.{Option, Some, None}
 use mathlib.Core.List.{List, [], ◌∷◌}
 use Prim.Native.Nat.{ℕ}
 use lib.Dec.{eqb}
@@ -149,8 +149,8 @@ module _ (l : Limits) where
   argument_of-limited : (p : Progress) (s : LinearComb) (arg : Option Rational) →
       argument_of l p s arg ≼ argument_of the_rust p s arg
   unfolding argument_of
-  argument_of-limited p s (some a) = equal _
-  argument_of-limited p s none = bind (inferred-limited p.acc.entries s.entries) λ a. equal _
+  argument_of-limited p s (Some a) = equal _
+  argument_of-limited p s None = bind (inferred-limited p.acc.entries s.entries) λ a. equal _
 
   process_disequality-limited : (p : Progress) (phi : Term) (arg : Option Rational) →
       process_disequality l p phi arg ≼ process_disequality the_rust p phi arg
@@ -172,9 +172,9 @@ module _ (l : Limits) where
   unfolding fold_literals
   fold_literals-limited [] args p = equal _
   fold_literals-limited (phi ∷ c) [] p =
-      bind (process_disequality-limited p phi none) (fold_literals-limited c [])
+      bind (process_disequality-limited p phi None) (fold_literals-limited c [])
   fold_literals-limited (phi ∷ c) (a ∷ args) p =
-      bind (process_disequality-limited p phi (some a)) (fold_literals-limited c args)
+      bind (process_disequality-limited p phi (Some a)) (fold_literals-limited c args)
 
   pub la_generic_partial-limited : (c : Clause) (args : List Term) (n : ℕ) →
       la_generic_partial l c args n ≼ la_generic_partial the_rust c args n

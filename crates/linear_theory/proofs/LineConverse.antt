@@ -5,7 +5,7 @@
 --     Added       what a literal adds to the sum
 use mathlib.Core.Path.{◌≡◌, refl, sym, ◌∙◌, ap, ap₂, subst, subst₂}
 use mathlib.Core.Bool.{true, false}
-use mathlib.Core.Option.{some}
+use Rattle.std.specs.Prelude.{Some}
 use mathlib.Core.List.{List}
 use mathlib.Core.Logic.{◌⊎◌, inl, inr, ⊎_elim}
 use Prim.Native.Nat.{ℕ}
@@ -61,7 +61,7 @@ pub record Added (P : Term → Type 0) (p q : Progress) (k : Constraint) : Type 
 
 argument-given : {A : Type 0} {Q : A → Type 0} (p : Progress) (s : LinearComb) (a : Rational)
     (f : Rational × List Rational → Result A) → Answers Q (f (a, p.trace)) →
-    Answers Q (argument_of the_rust p s (some a) >>= f)
+    Answers Q (argument_of the_rust p s (Some a) >>= f)
 unfolding argument_of ◌>>=◌
 argument-given p s a f h = h
 
@@ -174,7 +174,7 @@ module _ {P : Term → Type 0} (closed : Closed P) (by : Departures) (phi : Term
             }
 
     pub literal-answers : WholeBound by phi → NoZero by phi a →
-        Answers (λ q. Added P p q k) (process_disequality the_rust p phi (some a))
+        Answers (λ q. Added P p q k) (process_disequality the_rust p phi (Some a))
     unfolding process_disequality
     literal-answers whole zero =
         let (d, answer) = states-answered closed phi of-P by negated line.states p.visits in

@@ -13,7 +13,7 @@ use Rattle.numbers.proofs.Ring.{◌⊕◌, ◌⊗◌, neg, 𝟘, 𝟙, ◌≐◌
 use Rattle.numbers.proofs.Quotient.{ℚ, ℚring}
 use Rattle.terms.proofs.Sums.{meant}
 use Rattle.book.proofs.BookTerms.{Closed}
-use Rattle.rules.specs.Refusal.Outcome.{ok}
+use Rattle.std.specs.Prelude.{Ok}
 use Rattle.rules.specs.Limits.{Limits}
 use Rattle.index_map.specs.IndexMap.{Map, Walked, walked, new}
 use Rattle.linear_walk.specs.LinearTerms.{from_term}
@@ -100,7 +100,7 @@ module _ {P : Term → Type 0} (closed : Closed P) (t : Term) (p : P t) where
       pub normal : Normal P s.terms w.sum.entries
       pub constant : w.sum.constant ≡ s.constant
 
-    module _ (l : Limits) (n : ℕ) (w : Walked Term) (e : from_term l t n ≡ ok w) where
+    module _ (l : Limits) (n : ℕ) (w : Walked Term) (e : from_term l t n ≡ Ok w) where
       abbrev one : ℚ
       one = numberℚ (whole (pos 1))
 

@@ -9,7 +9,7 @@
 use mathlib.Core.Path.{◌≡◌, refl, sym, ◌∙◌, ap, ap₂}
 use mathlib.Core.Bool.{Bool, true, false, ◌&&◌}
 use mathlib.Core.Logic.{◌⊎◌, inl, inr, ⊎_elim}
-use mathlib.Core.Option.{none}
+use Rattle.std.specs.Prelude.{None}
 use Prim.Native.Nat.{ℕ}
 use native.Mathlib.Omega.{arith}
 use borrow.Author.Tests.{eqb-true}
@@ -22,8 +22,6 @@ use Rattle.numbers.specs.Choice.{when◌then◌else◌}
 use Rattle.terms.specs.Term.Term.{atom, op}
 use Rattle.terms.specs.Term.Terms.{nil, ◌▹◌}
 use Rattle.terms.specs.Readers.{unbounded, as_number, quotient_of, as_unsigned_fraction, as_fraction, as_op}
-use Rattle.terms.specs.declared.term.Reading.{Reading}
-use Rattle.terms.specs.declared.term.Reading.TheVariants.{Value, NotNumber, OutOfRange}
 use Rattle.numbers.proofs.Truths.{never}
 use Rattle.numbers.proofs.Quotient.{ℚ, ℚring}
 use Rattle.book.proofs.Fractions.{fraction_means}
@@ -37,6 +35,9 @@ use Rattle.rules.proofs.Valuations.{numberℚ, rationals}
 use Rattle.rules_theory.proofs.IndexMaps.{Values}
 use Rattle.rules_theory.proofs.Shapes.{nothing-found, operation_of_lem, is_itself}
 use Rattle.rules_theory.proofs.WrittenNumbers.{written_read, read-written, Unwritten}
+use Rattle.terms.specs.Readers.{Reading}
+use Rattle.std.specs.Prelude.{Ok, Err}
+use Rattle.terms.specs.declared.term.NotRead.TheVariants.{NotNumber, OutOfRange}
 open ℚring use {add as ◌+◌, mul as ◌*◌, neg as -◌, ι}
 
 infixl 6 ◌+◌
@@ -80,9 +81,9 @@ pub written? : (t : Term) → ((q : Rational) × Written t q) ⊎ Unwritten t
 written? t = go (as_fraction unbounded t) refl
   where
     go : (r : Reading) → as_fraction unbounded t ≡ r → ((q : Rational) × Written t q) ⊎ Unwritten t
-    go (Value q) e = inl (q, read-written t q e)
-    go NotNumber e = inr λ q w. not-number (sym e ∙ written_read w)
-    go OutOfRange e = inr λ q w. out_of_range (sym e ∙ written_read w)
+    go (Ok q) e = inl (q, read-written t q e)
+    go (Err NotNumber) e = inr λ q w. not-number (sym e ∙ written_read w)
+    go (Err OutOfRange) e = inr λ q w. out_of_range (sym e ∙ written_read w)
 
 pub written-lowest : {P : Term → Type 0} → Closed P → (t : Term) → P t → {q : Rational} → Written t q → Lowest q
 written-lowest closed t p {q} w = (fraction_means t (closed.formed t p) q (written_read w)).lowest
@@ -104,7 +105,7 @@ plain-atom t h w =
       not_product = λ a b q s r. h.not_product a b s;
     }
 
-pub no_operation : (t : Term) → as_op t ≡ none → Plain t
+pub no_operation : (t : Term) → as_op t ≡ None → Plain t
 no_operation t e =
     record {
       not_sum = λ us h. nothing-found (sym e ∙ operation_of_lem h);

@@ -4,7 +4,7 @@
 use mathlib.Core.Path.{◌≡◌, refl, sym, ◌∙◌, ap}
 use mathlib.Core.List.{[], ◌∷◌}
 use mathlib.Core.Logic.{inl, inr}
-use mathlib.Core.Option.{Option, some, none}
+use Rattle.std.specs.Prelude.{Option, Some, None}
 use Prim.Native.Nat.{ℕ}
 use lib.IntN.{pos}
 use Rattle.numbers.specs.Rational.{Rational, Lowest, neg_q}
@@ -17,7 +17,7 @@ use Rattle.numbers.proofs.Ring.{◌⊕◌, ◌⊖◌, ◌⊗◌, neg, 𝟘, 𝟙
 use Rattle.numbers.proofs.Quotient.{ℚ, ℚring}
 use Rattle.book.proofs.BookTerms.{Each, Closed}
 use Rattle.rules.specs.Refusal.{Refusal, Result, ◌>>=◌}
-use Rattle.rules.specs.Refusal.Outcome.{ok}
+use Rattle.std.specs.Prelude.{Ok}
 use Rattle.rules.specs.Limits.{Limits, times}
 use Rattle.index_map.specs.IndexMap.{Walked, add_entry, add_constant}
 use Rattle.linear_walk.specs.LinearTerms.{Arm, arm_of, add_leaf, Factors, chosen, factors_of, add_term, add_args}
@@ -84,9 +84,9 @@ module _ {P : Term → Type 0} (closed : Closed P) (L : LinearReading P) where
         go :
             (o : Option Rational) → Reads t o →
             Yields {E = Refusal} (Adds S w (numberℚ c * at t))
-            (elim o [ some q ↦ times l q c >>= λ r. add_constant l r w | none ↦ add_entry terms l t c w ])
-        go none h = atom-adds t p (plain-atom t plain h) c lc w g
-        go (some q) h =
+            (elim o [ Some q ↦ times l q c >>= λ r. add_constant l r w | None ↦ add_entry terms l t c w ])
+        go None h = atom-adds t p (plain-atom t plain h) c lc w g
+        go (Some q) h =
             scaled-adds q c lc w (at t) (ι (pos 1)) (at t) (written_stands t p q h)
             (solve ℚring (at t ∷ []) (λ t. t ≐ t ⊗ 𝟙) tt)
             (λ r lr.
@@ -127,9 +127,9 @@ module _ {P : Term → Type 0} (closed : Closed P) (L : LinearReading P) where
         (λ p hp. and_then (fraction-written l b) (λ q hq. gives (choice p q hp hq)))
       where
         choice : (p q : Option Rational) → Reads a p → Reads b q → Split a b (chosen p q)
-        choice (some p) q hp hq = hp
-        choice none (some q) hp hq = hq
-        choice none none hp hq = (hp, hq)
+        choice (Some p) q hp hq = hp
+        choice None (Some q) hp hq = hq
+        choice None None hp hq = (hp, hq)
 
     module _ (i o : ℕ) (c : Rational) (lc : Lowest c) (w : Walked Term) (g : Kept S w) where
       -- the walk by the factor that is a number, and by the arm
@@ -198,7 +198,7 @@ module _ {P : Term → Type 0} (closed : Closed P) (L : LinearReading P) where
 
     zero-adds :
         (c : Rational) (w : Walked Term) → Kept S w →
-        Yields {E = Refusal} (Adds S w (numberℚ c * ι (pos 0))) (ok w)
+        Yields {E = Refusal} (Adds S w (numberℚ c * ι (pos 0))) (Ok w)
     zero-adds c w g =
         adds-as S (solve ℚring (numberℚ c ∷ []) (λ c. 𝟘 ≐ c ⊗ 𝟘) tt) (gives (adds_none S w g))
 

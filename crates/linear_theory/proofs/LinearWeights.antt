@@ -17,8 +17,6 @@ use Rattle.numbers.specs.Choice.{when◌then◌else◌}
 use Rattle.terms.specs.Term.Term.{integer, rational, bitvector, atom, op}
 use Rattle.terms.specs.Term.Terms.{nil, ◌▹◌}
 use Rattle.terms.specs.Readers.{unbounded, as_fraction}
-use Rattle.terms.specs.declared.term.Reading.{Reading}
-use Rattle.terms.specs.declared.term.Reading.TheVariants.{Value, NotNumber, OutOfRange}
 use Rattle.numbers.proofs.Ring.{◌⊕◌, ◌⊗◌, neg, 𝟘, 𝟙, ◌≐◌, ◌·◌, ◌from◌, solve, derive}
 use Rattle.numbers.proofs.Truths.{never}
 use Rattle.numbers.proofs.Quotient.{ℚ, ℚring}
@@ -31,6 +29,9 @@ use Rattle.rules.proofs.Valuations.{numberℚ, rationals}
 use Rattle.rules_theory.proofs.WrittenNumbers.{written_read, read-written}
 use Rattle.linear_theory.proofs.LinearReadings.{Armed, a_sum, a_negation, a_difference, a_product, a_leaf, armed}
 use Rattle.linear_theory.proofs.LinearReadings.{two-terms, written-lowest, sum_at, difference_at, LinearReading}
+use Rattle.terms.specs.Readers.{Reading}
+use Rattle.std.specs.Prelude.{Ok, Err}
+use Rattle.terms.specs.declared.term.NotRead.TheVariants.{NotNumber, OutOfRange}
 open ℚring use {add as ◌+◌, mul as ◌*◌, neg as -◌, ι}
 
 infixl 6 ◌+◌
@@ -39,18 +40,18 @@ infix 8 -◌
 -- ---- the number
 
 abbrev pub is_read : Reading → Bool
-is_read (Value q) = true
-is_read NotNumber = false
-is_read OutOfRange = false
+is_read (Ok q) = true
+is_read (Err NotNumber) = false
+is_read (Err OutOfRange) = false
 
 unfoldable pub any_read : Terms → Bool
 any_read nil = false
 any_read (t ▹ ts) = is_read (as_fraction unbounded t) || any_read ts
 
 abbrev pub read_or : ℚ → Reading → ℚ
-read_or x (Value q) = numberℚ q
-read_or x NotNumber = x
-read_or x OutOfRange = x
+read_or x (Ok q) = numberℚ q
+read_or x (Err NotNumber) = x
+read_or x (Err OutOfRange) = x
 
 abbrev pub if_read : ℚ → ℚ → Bool → ℚ
 if_read x y true = x
@@ -95,9 +96,9 @@ is_read-written : (t : Term) → is_read (as_fraction unbounded t) ≡ true → 
 is_read-written t = go (as_fraction unbounded t) refl
   where
     go : (r : Reading) → as_fraction unbounded t ≡ r → is_read r ≡ true → (q : Rational) × Written t q
-    go (Value q) e h = (q, read-written t q e)
-    go NotNumber e h = never h
-    go OutOfRange e h = never h
+    go (Ok q) e h = (q, read-written t q e)
+    go (Err NotNumber) e h = never h
+    go (Err OutOfRange) e h = never h
 
 factor-read : (a b : Term) {q : Rational} → Written a q ⊎ Written b q → any_read (a ▹ b ▹ nil) ≡ true
 unfolding any_read
@@ -193,9 +194,9 @@ module _ (v : ℕ → ℚ) where
   operation-leaf i o ts h = go (arm_of o ts) (armed o ts)
     where
       read : (r : Reading) → as_fraction unbounded (op i o ts) ≡ r → read_or (v i) r ≡ v i
-      read (Value q) e = absurd (h.no_number q (read-written (op i o ts) q e))
-      read NotNumber e = refl
-      read OutOfRange e = refl
+      read (Ok q) e = absurd (h.no_number q (read-written (op i o ts) q e))
+      read (Err NotNumber) e = refl
+      read (Err OutOfRange) e = refl
 
       go : (k : Arm) → Armed o ts k →
           at_arm (sum_with v ts) (difference_with v ts) (if_read (product_with v ts) (v i) (any_read ts))

@@ -2,7 +2,7 @@
 -- `disequality_of` walks both sides and takes one walk from the other (`literal_walks`), which without limits it
 -- always answers (`literal-free`).
 use mathlib.Core.Path.{◌≡◌, refl, sym, ◌∙◌, subst}
-use mathlib.Core.Option.{some}
+use Rattle.std.specs.Prelude.{Some}
 use Prim.Native.Nat.{ℕ}
 use Rattle.numbers.specs.Rational.{neg_q}
 use Rattle.terms.specs.Term.{Term, Terms, unary}
@@ -11,7 +11,7 @@ use Rattle.terms.specs.Term.Terms.{nil, ◌▹◌}
 use Rattle.terms.specs.Readers.{as_op, remove_negation}
 use Rattle.book.proofs.BookTerms.{Each, Closed}
 use Rattle.rules.specs.Refusal.{Result, ◌>>=◌, or_else}
-use Rattle.rules.specs.Refusal.Outcome.{ok}
+use Rattle.std.specs.Prelude.{Ok}
 use Rattle.rules.specs.Limits.{Limits, the_rust}
 use Rattle.index_map.specs.IndexMap.{Walked, combination, sub}
 use Rattle.linear_walk.specs.LinearTerms.{from_term}
@@ -28,7 +28,7 @@ use Rattle.linear_theory.proofs.Oppositions.{inner-opposite}
 use Rattle.rules_theory.proofs.Unlimited.{Free, answers, freely, sub-free}
 use Rattle.linear_theory.proofs.UnlimitedLinear.{from_term-free}
 
-pub opposite-inner : {ts : Terms} {phi : Term} {o : ℕ} → Opposite ts phi o → inner phi ≡ some (o, ts)
+pub opposite-inner : {ts : Terms} {phi : Term} {o : ℕ} → Opposite ts phi o → inner phi ≡ Some (o, ts)
 unfolding inner negate_operator remove_negation unary as_op when◌then◌else◌
 opposite-inner (negation body equals (is i) (is j)) = refl
 opposite-inner (negation body less_than (is i) (is j)) = refl
@@ -45,7 +45,7 @@ pub opposite-inside :
     {P : Term → Type 0} → Closed P → (phi : Term) → P phi → {ts : Terms} {o : ℕ} → Opposite ts phi o → Each P ts
 opposite-inside closed phi p {ts} {o} h = (inner-opposite closed phi p (o, ts) (opposite-inner h)).inside
 
-one_answer : {A : Type 0} {x y : A} → ◌≡◌ {A = Result A} (ok x) (ok y) → y ≡ x
+one_answer : {A : Type 0} {x y : A} → ◌≡◌ {A = Result A} (Ok x) (Ok y) → y ≡ x
 one_answer e = cc
 
 abbrev Walk : Type 0
@@ -53,20 +53,20 @@ Walk = ℕ × LinearComb × LinearComb × ℕ
 
 module _ (l : Limits) (o : ℕ) (a b : Term) (n : ℕ) where
   abbrev walk_both : Result Walk
-  walk_both = from_term l a n >>= λ s1. from_term l b s1.visits >>= λ s2. ok (o, s1.sum, s2.sum, s2.visits)
+  walk_both = from_term l a n >>= λ s1. from_term l b s1.visits >>= λ s2. Ok (o, s1.sum, s2.sum, s2.visits)
 
   abbrev take_away : Walk → Result Disequality
   take_away r =
-      sub terms l r.1 r.2 >>= λ s. ok (Literal.turned r.0 (combination s.entries (neg_q s.constant)) r.3)
+      sub terms l r.1 r.2 >>= λ s. Ok (Literal.turned r.0 (combination s.entries (neg_q s.constant)) r.3)
 
   -- d is what two walks and their difference make
   pub record SideWalks (d : Disequality) : Type 0 where
     pub left : Walked Term
     pub right : Walked Term
     pub difference : LinearComb
-    pub first : from_term l a n ≡ ok left
-    pub second : from_term l b left.visits ≡ ok right
-    pub apart : sub terms l left.sum right.sum ≡ ok difference
+    pub first : from_term l a n ≡ Ok left
+    pub second : from_term l b left.visits ≡ Ok right
+    pub apart : sub terms l left.sum right.sum ≡ Ok difference
     pub is : d ≡ Literal.turned o (combination difference.entries (neg_q difference.constant)) right.visits
 
   module _ (phi : Term) (h : Opposite (a ▹ b ▹ nil) phi o) where
@@ -74,14 +74,14 @@ module _ (l : Limits) (o : ℕ) (a b : Term) (n : ℕ) where
     unfolding disequality_of negate_disequality or_else ◌>>=◌
     literal_is = rw (opposite-inner h)
 
-    pub literal_walks : (d : Disequality) → disequality_of l phi n ≡ ok d → SideWalks d
+    pub literal_walks : (d : Disequality) → disequality_of l phi n ≡ Ok d → SideWalks d
     literal_walks d e =
         let t = through walk_both take_away d (sym literal_is ∙ e) in
         let u = through (from_term l a n) _ t.middle t.first in
         let v = through (from_term l b u.middle.visits) _ t.middle u.then in
         let walks : Walk = (o, u.middle.sum, v.middle.sum, v.middle.visits) in
         let r : t.middle ≡ walks = one_answer v.then in
-        let taken = subst (λ (r : Walk). take_away r ≡ ok d) r t.then in
+        let taken = subst (λ (r : Walk). take_away r ≡ Ok d) r t.then in
         let x = through (sub terms l u.middle.sum v.middle.sum) _ d taken in
         record {
           left = u.middle;

@@ -3,7 +3,7 @@
 -- (`steps-argued`), in lowest terms (`argument-lowest`).
 use mathlib.Core.Path.{◌≡◌, refl, sym, ap, subst}
 use mathlib.Core.Bool.{Bool, true, false, not, ◌&&◌, ◌||◌}
-use mathlib.Core.Option.{Option, some, none}
+use Rattle.std.specs.Prelude.{Option, Some, None}
 use mathlib.Core.List.{List, [], ◌∷◌, ◌++◌}
 use Prim.Native.Nat.{ℕ}
 use native.Mathlib.Omega.{arith}
@@ -12,7 +12,7 @@ use Rattle.terms.specs.Term.{Term}
 use Rattle.numbers.proofs.Truths.{both, never}
 use Rattle.numbers.proofs.Rationals.{neg-lowest, div-lowest}
 use Rattle.rules.specs.Refusal.{Refusal, Result, or_else}
-use Rattle.rules.specs.Refusal.Outcome.{ok, refused}
+use Rattle.std.specs.Prelude.{Ok, Err}
 use Rattle.rules.specs.Limits.{Limits}
 use Rattle.index_map.specs.IndexMap.{Map, get, add}
 use Rattle.linear_comb.specs.LinearComb.{LinearComb, mul, all_int}
@@ -40,8 +40,8 @@ implied true t e h = e
 implied false t e h = never h
 
 premise_of : (a : Rational) {x y : Result Disequality} → Follows SameTerms x y → (d : Disequality) →
-    x ≡ ok d →
-    (elim y as (λ u. Bool) [ ok d ↦ whole_sum d.sum a | refused r ↦ true ]) ≡ true →
+    x ≡ Ok d →
+    (elim y as (λ u. Bool) [ Ok d ↦ whole_sum d.sum a | Err r ↦ true ]) ≡ true →
     WholeOf d.sum a
 premise_of a (answers {a = c} {b} h) d e w i =
     let same : b.sum ≡ d.sum = cc in
@@ -50,7 +50,7 @@ premise_of a (answers {a = c} {b} h) d e w i =
 premise_of a stops d e w i = let z : ◌≡◌ {A = ℕ} 0 1 = cc in absurd (omega arith)
 
 module _ (l : Limits) where
-  pub literal-whole : (phi : Term) (n : ℕ) (d : Disequality) → disequality_of l phi n ≡ ok d → (a : Rational) →
+  pub literal-whole : (phi : Term) (n : ℕ) (d : Disequality) → disequality_of l phi n ≡ Ok d → (a : Rational) →
       whole_literal phi a ≡ true → WholeOf d.sum a
   unfolding whole_literal
   literal-whole phi n d e a w = premise_of a (disequality_of-free l phi n 0) d e w
@@ -63,13 +63,13 @@ not-true false e = refl
 
 -- an argument that is given is in lowest terms
 abbrev pub LowestGiven : Option Rational → Type 0
-LowestGiven (some a) = Lowest a
-LowestGiven none = Unit {0}
+LowestGiven (Some a) = Lowest a
+LowestGiven None = Unit {0}
 
 -- which argument is used, and the trace after it
 abbrev pub Argued : Option Rational → List Rational → Rational → List Rational → Type 0
-Argued (some b) before a after = (b ≡ a) × (after ≡ before)
-Argued none before a after = after ≡ before ++ a ∷ []
+Argued (Some b) before a after = (b ≡ a) × (after ≡ before)
+Argued None before a after = after ≡ before ++ a ∷ []
 
 module _ (l : Limits) where
   module _ (P : Term → Type 0) where
@@ -81,7 +81,7 @@ module _ (l : Limits) where
       where
         go : (b : Bool) → Yields Lowest (or_else (get terms m t) r) →
             Yields Lowest
-            (or_else (elim b as (λ x. Option Rational) [ true ↦ some e.1 | false ↦ get terms m t ]) r)
+            (or_else (elim b as (λ x. Option Rational) [ true ↦ Some e.1 | false ↦ get terms m t ]) r)
         go true h = gives g.good
         go false h = h
 
@@ -99,16 +99,16 @@ module _ (l : Limits) where
   argument-argued : (p : Progress) (s : LinearComb) (arg : Option Rational) →
       Yields (λ x. Argued arg p.trace x.0 x.1) (argument_of l p s arg)
   unfolding argument_of
-  argument-argued p s (some a) = gives (refl, refl)
-  argument-argued p s none =
+  argument-argued p s (Some a) = gives (refl, refl)
+  argument-argued p s None =
       and_then (by_answer (inferred l p.acc.entries s.entries) (λ a e. e)) λ a e. gives refl
 
   pub argument-lowest : (P : Term → Type 0) (p : Progress) (s : LinearComb) (arg : Option Rational) →
       EntriesOf P Lowest p.acc.entries → EntriesOf P Lowest s.entries → LowestGiven arg →
       Yields (λ x. Lowest x.0) (argument_of l p s arg)
   unfolding argument_of
-  argument-lowest P p s (some a) g h la = gives la
-  argument-lowest P p s none g h la =
+  argument-lowest P p s (Some a) g h la = gives la
+  argument-lowest P p s None g h la =
       and_then (inferred-lowest P p.acc.entries s.entries g h) λ a la. gives la
 
   -- ---- what an accepted step goes through
@@ -119,18 +119,18 @@ module _ (l : Limits) where
     pub stronger : ℕ × LinearComb
     pub scaled : LinearComb
     pub acc : LinearComb
-    pub of_literal : disequality_of l phi p.visits ≡ ok literal
-    pub of_argument : argument_of l p literal.sum arg ≡ ok argument
-    pub of_stronger : strengthened l literal.operator literal.sum argument.0 ≡ ok stronger
-    pub of_scaled : mul l stronger.1 (scalar stronger.0 argument.0) ≡ ok scaled
-    pub of_acc : add terms l p.acc scaled ≡ ok acc
+    pub of_literal : disequality_of l phi p.visits ≡ Ok literal
+    pub of_argument : argument_of l p literal.sum arg ≡ Ok argument
+    pub of_stronger : strengthened l literal.operator literal.sum argument.0 ≡ Ok stronger
+    pub of_scaled : mul l stronger.1 (scalar stronger.0 argument.0) ≡ Ok scaled
+    pub of_acc : add terms l p.acc scaled ≡ Ok acc
     pub is :
         progress (join_operators p.operator (weakened stronger.0 argument.0)) acc argument.1
         literal.visits
         ≡ q
 
   module _ (p : Progress) (phi : Term) (arg : Option Rational) (q : Progress)
-      (e : process_disequality l p phi arg ≡ ok q) where
+      (e : process_disequality l p phi arg ≡ Ok q) where
     pub steps : Steps p phi arg q
     unfolding process_disequality
     steps =

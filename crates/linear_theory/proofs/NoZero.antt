@@ -4,7 +4,7 @@
 -- never refuses (`inferred-untested`, `literal-untested`).
 use mathlib.Core.Path.{◌≡◌, refl, ◌∙◌}
 use mathlib.Core.Bool.{false, ◌&&◌, ◌||◌}
-use mathlib.Core.Option.{Option, some, none}
+use Rattle.std.specs.Prelude.{Option, Some, None}
 use mathlib.Core.List.{List, [], ◌∷◌}
 use Prim.Native.Nat.{ℕ, suc}
 use lib.Dec.{eqb}
@@ -17,7 +17,7 @@ use Rattle.terms.specs.Operator.{LessThan, LessEq, GreaterThan, GreaterEq}
 use Rattle.terms.specs.Readers.{within}
 use Rattle.numbers.proofs.Truths.{if_either}
 use Rattle.rules.specs.Refusal.{Result, ◌>>=◌, assert, or_else}
-use Rattle.rules.specs.Refusal.Outcome.{refused}
+use Rattle.std.specs.Prelude.{Err}
 use Rattle.rules.specs.Refusal.Refusal.{visit_limit, polynomial_size, invalid_disequality_op, not_unit, coeff_not_found}
 use Rattle.rules.specs.Limits.{Limits, times, plus, over, fraction_of}
 use Rattle.index_map.specs.IndexMap.{Map, Combination, Keys, Walked, walked, new, combination, last_first, swap_remove}
@@ -273,19 +273,19 @@ module _ (l : Limits) where
   unfolding fold_literals
   fold_literals-nonzero [] args p h = gives h
   fold_literals-nonzero (phi ∷ c) [] p h =
-      and_then (process_disequality-nonzero p phi none h) λ q g. fold_literals-nonzero c [] q g
+      and_then (process_disequality-nonzero p phi None h) λ q g. fold_literals-nonzero c [] q g
   fold_literals-nonzero (phi ∷ c) (a ∷ args) p h =
-      and_then (process_disequality-nonzero p phi (some a) h) λ q g. fold_literals-nonzero c args q g
+      and_then (process_disequality-nonzero p phi (Some a) h) λ q g. fold_literals-nonzero c args q g
 
   -- ---- the division
 
   -- `inferred` as the Rust has it, with no test
   abbrev pub untested : Map Term → Map Term → Result Rational
-  untested acc [] = refused not_unit
+  untested acc [] = Err not_unit
   untested acc ((var, coeff1) ∷ []) = do
     coeff2 ← or_else (get terms acc var) coeff_not_found
     over l (neg_q coeff2) coeff1
-  untested acc (e ∷ f ∷ m) = refused not_unit
+  untested acc (e ∷ f ∷ m) = Err not_unit
 
   pub inferred-untested : (acc m : Map Term) → NoZero terms m → inferred l acc m ≡ untested acc m
   unfolding inferred ◌>>=◌ assert

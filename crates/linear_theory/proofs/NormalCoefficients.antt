@@ -15,7 +15,7 @@ use Rattle.terms.specs.Term.{Term, record_number}
 use Rattle.numbers.proofs.Ring.{◌⊕◌, 𝟙, ◌≐◌, ◌·◌, ◌from◌, ◌and◌, derive}
 use Rattle.numbers.proofs.Truths.{never}
 use Rattle.numbers.proofs.Quotient.{ℚ, ℚring, sum, product}
-use Rattle.rules.specs.Refusal.Outcome.{ok}
+use Rattle.std.specs.Prelude.{Ok}
 use Rattle.rules.specs.Limits.{Limits, the_rust}
 use Rattle.index_map.specs.IndexMap.{Map, insert}
 use Rattle.index_map.specs.Memory.Entries.{terms}
@@ -84,7 +84,7 @@ module _ {P : Term → Type 0} (es : Entries) (of : EntriesFor P es) (m : Map Te
 -- an entry more is inserted
 pub normal-insert :
     {P : Term → Type 0} (l : Limits) {es : Entries} {m : Map Term} → Normal P es m → (t : Term) → P t → (q : Rational) →
-    Lowest q → {r : Map Term} → insert terms l m t q ≡ ok r → Normal P ((q, t) ∷ es) r
+    Lowest q → {r : Map Term} → insert terms l m t q ≡ Ok r → Normal P ((q, t) ∷ es) r
 unfolding weigh
 normal-insert {P} l {es} {m} n t p q lq {r} e =
     record {

@@ -4,7 +4,7 @@
 --     opposite-says       the literal is true where the relation is false
 use mathlib.Core.Path.{◌≡◌, refl, ◌∙◌, subst}
 use mathlib.Core.Bool.{Bool, true, false, not}
-use mathlib.Core.Option.{Option, some, none}
+use Rattle.std.specs.Prelude.{Option, Some, None}
 use Prim.Native.Nat.{ℕ}
 use borrow.Author.Tests.{eqb-true}
 use lib.Dec.{eqb}
@@ -25,14 +25,14 @@ use Rattle.rules_theory.proofs.Shapes.{found, unary-found, nothing-found, as-op-
 use Rattle.numbers.proofs.Comparisons.{less_p-not, less_eq_p-not}
 use Rattle.alethe.proofs.Literals.{test, at, says, relation-says, negated-says}
 
-turns : (p o : ℕ) → negate_operator p ≡ some o → Turns p o
+turns : (p o : ℕ) → negate_operator p ≡ Some o → Turns p o
 unfolding negate_operator when◌then◌else◌
 turns p o e = go (eqb p LessThan) (eqb p GreaterThan) (eqb p LessEq) (eqb p GreaterEq) refl refl refl refl e
   where
     go :
         (s t u v : Bool) → eqb p LessThan ≡ s → eqb p GreaterThan ≡ t → eqb p LessEq ≡ u →
         eqb p GreaterEq ≡ v →
-        (when s then some GreaterEq else when t then some LessEq else when u then some GreaterThan else when v then some LessThan else none) ≡ some o →
+        (when s then Some GreaterEq else when t then Some LessEq else when u then Some GreaterThan else when v then Some LessThan else None) ≡ Some o →
         Turns p o
     go true t u v es et eu ev e = let h : GreaterEq ≡ o = cc in rw (eqb-true p LessThan es, ← h) less
     go false true u v es et eu ev e = let h : LessEq ≡ o = cc in rw (eqb-true p GreaterThan et, ← h) greater
@@ -48,10 +48,10 @@ pub record Opposed (P : Term → Type 0) (phi : Term) (q : ℕ × Terms) : Type 
 
 module _ {P : Term → Type 0} (closed : Closed P) (phi : Term) (p : P phi) (q : ℕ × Terms) where
   -- under a negation
-  negated_opposed : (r : ℕ × Terms) → negated_op phi ≡ some r → is_relation r.0 ≡ true → Opposed P phi r
+  negated_opposed : (r : ℕ × Terms) → negated_op phi ≡ Some r → is_relation r.0 ≡ true → Opposed P phi r
   unfolding remove_negation
   negated_opposed r e i =
-      by_option (remove_negation phi) as_op none (some r)
+      by_option (remove_negation phi) as_op None (Some r)
       (λ u f g.
       let h = unary-found closed Not phi p u f in
       let k = found closed r.0 r.1 u h.inside.0 (as-op-shape u r g) in
@@ -59,18 +59,18 @@ module _ {P : Term → Type 0} (closed : Closed P) (phi : Term) (p : P phi) (q :
       (λ f. nothing-found) e
 
   turned_opposed :
-      (r : ℕ × Terms) (o : ℕ) → as_op phi ≡ some r → negate_operator r.0 ≡ some o → Opposed P phi (o, r.1)
+      (r : ℕ × Terms) (o : ℕ) → as_op phi ≡ Some r → negate_operator r.0 ≡ Some o → Opposed P phi (o, r.1)
   turned_opposed r o e f =
       let k = found closed r.0 r.1 phi p (as-op-shape phi r e) in
       record { literal = turned r.0 (turns r.0 o f) k.shape; inside = k.inside }
 
   relation-only :
-      (r : ℕ × Terms) → negated_op phi ≡ some r → (t : Bool) → is_relation r.0 ≡ t →
-      elim t as (λ z. Option (ℕ × Terms)) [ true ↦ some r | false ↦ none ] ≡ some q → Opposed P phi q
+      (r : ℕ × Terms) → negated_op phi ≡ Some r → (t : Bool) → is_relation r.0 ≡ t →
+      elim t as (λ z. Option (ℕ × Terms)) [ true ↦ Some r | false ↦ None ] ≡ Some q → Opposed P phi q
   relation-only r e true i f = let h : r ≡ q = cc in subst (Opposed P phi) h (negated_opposed r e i)
   relation-only r e false i f = nothing-found f
 
-  pub inner-opposite : inner phi ≡ some q → Opposed P phi q
+  pub inner-opposite : inner phi ≡ Some q → Opposed P phi q
   unfolding inner
   inner-opposite =
       by_option (negated_op phi) _ _ _ (λ r e. relation-only r e (is_relation r.0) refl)

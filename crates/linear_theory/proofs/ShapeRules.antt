@@ -10,7 +10,7 @@ use Rattle.numbers.specs.Pair.{Pair, eq_p, less_eq_p}
 use Rattle.terms.specs.Term.{Term}
 use Rattle.terms.specs.Smtlib.{as_pair, is_true, truth, value}
 use Rattle.book.proofs.BookTerms.{Closed}
-use Rattle.rules.specs.Refusal.Outcome.{ok}
+use Rattle.std.specs.Prelude.{Ok}
 use Rattle.linear_shapes.specs.LinearShapes.{la_rw_eq, la_disequality, la_totality, rw_eq_form, disequality_form, totality_form}
 use Rattle.rules.specs.Shapes.{has_form}
 use Rattle.alethe.specs.Alethe.{Clause, Valid, LaRwEq, LaDisequality, LaTotality, equals, less_eq}
@@ -23,20 +23,20 @@ use Rattle.alethe.proofs.Literals.{valid-literal}
 -- ---- what an accepted step is
 
 module _ (c : Clause) where
-  pub rw_eq-literal : la_rw_eq c ≡ ok tt → (phi : Term) × (c ≡ phi ∷ [])
+  pub rw_eq-literal : la_rw_eq c ≡ Ok tt → (phi : Term) × (c ≡ phi ∷ [])
   unfolding la_rw_eq has_form
   rw_eq-literal = one_literal c _
 
-  pub disequality-literal : la_disequality c ≡ ok tt → (phi : Term) × (c ≡ phi ∷ [])
+  pub disequality-literal : la_disequality c ≡ Ok tt → (phi : Term) × (c ≡ phi ∷ [])
   unfolding la_disequality has_form
   disequality-literal = one_literal c _
 
-  pub totality-literal : la_totality c ≡ ok tt → (phi : Term) × (c ≡ phi ∷ [])
+  pub totality-literal : la_totality c ≡ Ok tt → (phi : Term) × (c ≡ phi ∷ [])
   unfolding la_totality has_form
   totality-literal = one_literal c _
 
 module _ {P : Term → Type 0} (closed : Closed P) (phi : Term) (p : P phi) where
-  pub rw_eq-shape : la_rw_eq (phi ∷ []) ≡ ok tt → LaRwEq phi
+  pub rw_eq-shape : la_rw_eq (phi ∷ []) ≡ Ok tt → LaRwEq phi
   unfolding la_rw_eq
   rw_eq-shape e =
       let (σ, f) = has-form closed rw_eq_form phi p e in
@@ -55,7 +55,7 @@ module _ {P : Term → Type 0} (closed : Closed P) (phi : Term) (p : P phi) wher
         conclusion = rw f.whole at h.0;
       }
 
-  pub disequality-shape : la_disequality (phi ∷ []) ≡ ok tt → LaDisequality phi
+  pub disequality-shape : la_disequality (phi ∷ []) ≡ Ok tt → LaDisequality phi
   unfolding la_disequality
   disequality-shape e =
       let (σ, f) = has-form closed disequality_form phi p e in
@@ -72,7 +72,7 @@ module _ {P : Term → Type 0} (closed : Closed P) (phi : Term) (p : P phi) wher
         conclusion = rw f.whole at h.0;
       }
 
-  pub totality-shape : la_totality (phi ∷ []) ≡ ok tt → LaTotality phi
+  pub totality-shape : la_totality (phi ∷ []) ≡ Ok tt → LaTotality phi
   unfolding la_totality
   totality-shape e =
       let (σ, f) = has-form closed totality_form phi p e in

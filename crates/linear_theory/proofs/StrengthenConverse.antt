@@ -21,7 +21,7 @@ use Rattle.numbers.proofs.LowestTerms.{whole_is_lowest}
 use Rattle.numbers.proofs.Ring.{◌⊕◌, ◌⊖◌, neg, 𝟙, ◌≐◌, ◌·◌, ◌and◌, ◌from◌, derive}
 use Rattle.numbers.proofs.Quotient.{ℚring, sum, ι}
 use Rattle.book.proofs.BookTerms.{Closed}
-use Rattle.rules.specs.Refusal.Outcome.{ok}
+use Rattle.std.specs.Prelude.{Ok}
 use Rattle.rules.specs.Limits.{the_rust}
 use Rattle.index_map.specs.IndexMap.{combination}
 use Rattle.linear_comb.specs.LinearComb.{LinearComb, coefficients_gcd}
@@ -92,28 +92,28 @@ module _ (s : LinearComb) (a : Rational) where
   abbrev raised_to : ℕ → ℕ × LinearComb
   raised_to n = (GreaterEq, combination s.entries (add_q (floor_q s.constant) (whole (pos n))))
 
-  not_all_stays : (o : ℕ) → Linear.all_int s.entries ≡ false → strengthened the_rust o s a ≡ ok (o, s)
+  not_all_stays : (o : ℕ) → Linear.all_int s.entries ≡ false → strengthened the_rust o s a ≡ Ok (o, s)
   not_all_stays o e = passed _ _ _ e
 
-  equals-stays : strengthened the_rust Equals s a ≡ ok (Equals, s)
+  equals-stays : strengthened the_rust Equals s a ≡ Ok (Equals, s)
   unfolding strengthen
   equals-stays = ⊎_elim (taken _ _ _) (passed _ _ _) (true_or_false (Linear.all_int s.entries))
 
   module _ (all : Linear.all_int s.entries ≡ true) where
-    whole-stays : is_integer_times s.constant a ≡ true → strengthened the_rust GreaterEq s a ≡ ok (GreaterEq, s)
+    whole-stays : is_integer_times s.constant a ≡ true → strengthened the_rust GreaterEq s a ≡ Ok (GreaterEq, s)
     unfolding strengthen
     whole-stays e = taken _ _ _ all ∙ taken _ _ _ e
 
-    fraction-raised : is_integer_times s.constant a ≡ false → strengthened the_rust GreaterEq s a ≡ ok (raised_to 1)
+    fraction-raised : is_integer_times s.constant a ≡ false → strengthened the_rust GreaterEq s a ≡ Ok (raised_to 1)
     unfolding strengthen
     fraction-raised e = taken _ _ _ all ∙ passed _ _ _ e ∙ raised-free (floored s) (pos 1)
 
-    greater-raised : is_integer_times s.constant a ≡ false → strengthened the_rust GreaterThan s a ≡ ok (raised_to 1)
+    greater-raised : is_integer_times s.constant a ≡ false → strengthened the_rust GreaterThan s a ≡ Ok (raised_to 1)
     unfolding strengthen
     greater-raised e = taken _ _ _ all ∙ passed _ _ _ e ∙ raised-free (floored s) (pos 1)
 
     greater_by : is_integer_times s.constant a ≡ true → (g : ℕ) → coefficients_gcd (floored s) ≡ pos g →
-        strengthened the_rust GreaterThan s a ≡ ok (raised_to g)
+        strengthened the_rust GreaterThan s a ≡ Ok (raised_to g)
     unfolding strengthen
     greater_by e g h =
         taken _ _ _ all ∙ taken _ _ _ e ∙ ap (raised the_rust (floored s)) h ∙ raised-free (floored s) (pos g)
@@ -148,8 +148,8 @@ module _ {P : Term → Type 0} (closed : Closed P) (d : Disequality) (k : Constr
   all_is : Linear.all_int s.entries ≡ all_int k
   all_is = normal-all_int closed k.terms agrees.entries s.entries agrees.normal
 
-  at_operator : {p : ℕ} {r : ℕ × LinearComb} → o ≡ p → strengthened the_rust p s a ≡ ok r →
-      strengthened the_rust o s a ≡ ok r
+  at_operator : {p : ℕ} {r : ℕ × LinearComb} → o ≡ p → strengthened the_rust p s a ≡ Ok r →
+      strengthened the_rust o s a ≡ Ok r
   at_operator e h = ap (λ x. strengthened the_rust x s a) e ∙ h
 
   operator_is : {r : Relation} → k.relation ≡ r → o ≡ operator_of r

@@ -11,7 +11,7 @@ use Rattle.numbers.specs.Rational.{Rational, Lowest, add_q, neg_q}
 use Rattle.terms.specs.Term.{Term}
 use Rattle.numbers.proofs.Ring.{◌⊕◌, ◌⊗◌, neg, 𝟙, ◌≐◌, ◌·◌, ◌and◌, ◌from◌, lit, derive}
 use Rattle.numbers.proofs.Quotient.{ℚ, ℚring}
-use Rattle.rules.specs.Refusal.Outcome.{ok}
+use Rattle.std.specs.Prelude.{Ok}
 use Rattle.rules.specs.Limits.{Limits, plus}
 use Rattle.index_map.specs.IndexMap as IndexMap
 use Rattle.index_map.specs.IndexMap.{combination, neg_all, insert_all, add, sub}
@@ -87,7 +87,7 @@ module _ {P : Term → Type 0} where
         past (plus l a.constant (neg_q b.constant)) λ c.
         gives (record { good = h.good; is = h.is ∙ ap (◌+◌ (total (weights P v) a.entries)) t.is })
 
-    difference-total : (c : LinearComb) → sub terms l a b ≡ ok c → (v : ℕ → ℚ) →
+    difference-total : (c : LinearComb) → sub terms l a b ≡ Ok c → (v : ℕ → ℚ) →
         Totals (weights P v) c.entries (total (weights P v) a.entries + - total (weights P v) b.entries)
     difference-total c e v = at_ok (difference_totals v) e
 
@@ -99,7 +99,7 @@ module _ {P : Term → Type 0} where
 
   module _ (left right : Sum) where
     pub sub-apart : (l : Limits) (a b : LinearComb) → Gathers P left a → Gathers P right b → (c : LinearComb) →
-        sub terms l a b ≡ ok c → Apart P left right (combination c.entries (neg_q c.constant))
+        sub terms l a b ≡ Ok c → Apart P left right (combination c.entries (neg_q c.constant))
     sub-apart l a b ga gb c e =
         let k = at_ok (difference-constant l a b ga.kept gb.kept) e in
         let nb = neg_q b.constant in

@@ -4,7 +4,7 @@
 -- the five forms of bounds each fits one of the Rust's matches only.
 use mathlib.Core.Path.{◌≡◌, refl, sym, ◌∙◌, ap}
 use mathlib.Core.Bool.{Bool, true, false, ◌&&◌, ◌||◌}
-use mathlib.Core.Option.{none}
+use Rattle.std.specs.Prelude.{None}
 use mathlib.Core.List.{[], ◌∷◌}
 use mathlib.Core.Logic.{◌⊎◌, inl, inr, ⊎_elim}
 use Prim.Native.Nat.{ℕ}
@@ -15,13 +15,11 @@ use Rattle.terms.specs.Term.{Term, Terms, binary, unary}
 use Rattle.terms.specs.Term.Term.{op}
 use Rattle.terms.specs.Term.Terms.{nil, ◌▹◌}
 use Rattle.terms.specs.Readers.{as_signed_number, remove_negation}
-use Rattle.terms.specs.declared.term.Reading.{Reading}
-use Rattle.terms.specs.declared.term.Reading.TheVariants.{Value, NotNumber, OutOfRange}
 use Rattle.numbers.proofs.Truths.{T_true}
 use Rattle.terms.proofs.Readings.{not-number, out_of_range}
 use Rattle.book.proofs.BookTerms.{Closed}
 use Rattle.rules.specs.Refusal.{Refusal, Result, ◌>>=◌, assert, or_else}
-use Rattle.rules.specs.Refusal.Outcome.{ok, refused}
+use Rattle.std.specs.Prelude.{Ok, Err}
 use Rattle.rules.specs.Refusal.Refusal.{expected_any_number}
 use Rattle.rules.specs.Limits.{Limits, the_rust, number_or, signed_number_err}
 use Rattle.linear_shapes.specs.LinearShapes.{assert_less_than, assert_less_eq, tautology_case}
@@ -46,11 +44,13 @@ use Rattle.rules_theory.proofs.WrittenNumbers.{signed-read, read-signed, signed-
 use Rattle.linear_theory.proofs.NormalForms.{normal-empty}
 use Rattle.linear_theory.proofs.Disequalities.{Upward, is_equals, is_greater, is_greater_eq, relation_of}
 use Rattle.linear_theory.proofs.Disequalities.{states-agree, states-answered}
+use Rattle.terms.specs.Readers.{Reading}
+use Rattle.terms.specs.declared.term.NotRead.TheVariants.{NotNumber, OutOfRange}
 
 -- ---- a comparison
 
 -- a literal that states a constraint is no disjunction
-no_disjunction : {ts : Terms} {phi : Term} {o : ℕ} → Opposite ts phi o → binary Or phi ≡ none
+no_disjunction : {ts : Terms} {phi : Term} {o : ℕ} → Opposite ts phi o → binary Or phi ≡ None
 unfolding binary
 no_disjunction (negation body r h (is i)) = refl
 no_disjunction (turned p less (is i)) = refl
@@ -71,24 +71,24 @@ refuted is_greater_eq c e = inl (rw e)
 refuted is_greater c e = inl e
 
 -- the rule by its two forms
-literal-only : (phi : Term) → only_literal (phi ∷ []) ≡ ok phi
+literal-only : (phi : Term) → only_literal (phi ∷ []) ≡ Ok phi
 unfolding only_literal
 literal-only phi = refl
 
-one_accepted : (phi : Term) (n : ℕ) → binary Or phi ≡ none → (d : Disequality) → disequality_of the_rust phi n ≡ ok d →
-    is_tautology d ≡ true → la_tautology the_rust (phi ∷ []) n ≡ ok d.visits
+one_accepted : (phi : Term) (n : ℕ) → binary Or phi ≡ None → (d : Disequality) → disequality_of the_rust phi n ≡ Ok d →
+    is_tautology d ≡ true → la_tautology the_rust (phi ∷ []) n ≡ Ok d.visits
 unfolding la_tautology assert ◌>>=◌
 one_accepted phi n e d answer t = next _ (literal-only phi) ∙ rw e (next _ answer ∙ rw t)
 
-two-accepted : {phi1 phi2 phi : Term} (n : ℕ) → Is2 Or phi1 phi2 phi → tautology_case phi1 phi2 ≡ ok tt →
-    la_tautology the_rust (phi ∷ []) n ≡ ok n
+two-accepted : {phi1 phi2 phi : Term} (n : ℕ) → Is2 Or phi1 phi2 phi → tautology_case phi1 phi2 ≡ Ok tt →
+    la_tautology the_rust (phi ∷ []) n ≡ Ok n
 unfolding la_tautology binary
 two-accepted n (is i) e = next _ (literal-only (op i Or (_ ▹ _ ▹ nil))) ∙ next _ e
 
 module _ {P : Term → Type 0} (closed : Closed P) (by : Departures) (phi : Term) (p : P phi) (n : ℕ) where
   -- what the Rust accepts, or why it does not
   abbrev Accepted : Type 0
-  Accepted = ((m : ℕ) × (la_tautology the_rust (phi ∷ []) n ≡ ok m)) ⊎ (NegativeEquality by phi ⊎ QuotientBound phi)
+  Accepted = ((m : ℕ) × (la_tautology the_rust (phi ∷ []) n ≡ Ok m)) ⊎ (NegativeEquality by phi ⊎ QuotientBound phi)
 
   comparison-accepted : (k : Constraint) → States by phi k → Cancels k.terms →
       contradicts k.relation k.bound ≡ true → Accepted
@@ -115,24 +115,24 @@ module _ {P : Term → Type 0} (closed : Closed P) (by : Departures) (phi : Term
 -- ---- bounds
 
 -- a bound that is written is a signed constant, or none
-signed_or_not : (d : Term) (q : Rational) → Written d q → (signed_number_err d ≡ ok q) ⊎ ((r : Rational) → Signed d r → ⊥)
+signed_or_not : (d : Term) (q : Rational) → Written d q → (signed_number_err d ≡ Ok q) ⊎ ((r : Rational) → Signed d r → ⊥)
 unfolding signed_number_err or_else ◌>>=◌
 signed_or_not d q w = at (as_signed_number d) refl
   where
     at : (r : Reading) → as_signed_number d ≡ r →
-        ((number_or r >>= λ x. or_else x expected_any_number) ≡ ok q) ⊎ ((r : Rational) → Signed d r → ⊥)
-    at (Value r) e =
-        let read : Value r ≡ Value q = sym (written_read (signed-written (read-signed d r e))) ∙ written_read w in
+        ((number_or r >>= λ x. or_else x expected_any_number) ≡ Ok q) ⊎ ((r : Rational) → Signed d r → ⊥)
+    at (Ok r) e =
+        let read : Ok r ≡ Ok q = sym (written_read (signed-written (read-signed d r e))) ∙ written_read w in
         inl cc
-    at NotNumber e = inr λ r h. not-number (sym e ∙ signed-read h)
-    at OutOfRange e = inr λ r h. out_of_range (sym e ∙ signed-read h)
+    at (Err NotNumber) e = inr λ r h. not-number (sym e ∙ signed-read h)
+    at (Err OutOfRange) e = inr λ r h. out_of_range (sym e ∙ signed-read h)
 
 -- two bounds are compared, or one is no signed constant
 module _ (d1 d2 : Term) (q1 q2 : Rational) (w1 : Written d1 q1) (w2 : Written d2 q2) where
   abbrev Compared : Result (Unit {0}) → Type 0
-  Compared x = (x ≡ ok tt) ⊎ (((r : Rational) → Signed d1 r → ⊥) ⊎ ((r : Rational) → Signed d2 r → ⊥))
+  Compared x = (x ≡ Ok tt) ⊎ (((r : Rational) → Signed d1 r → ⊥) ⊎ ((r : Rational) → Signed d2 r → ⊥))
 
-  by_numbers : (f : Rational → Rational → Result (Unit {0})) → f q1 q2 ≡ ok tt →
+  by_numbers : (f : Rational → Rational → Result (Unit {0})) → f q1 q2 ≡ Ok tt →
       Compared (signed_number_err d1 >>= λ p. signed_number_err d2 >>= λ q. f p q)
   by_numbers f e =
       ⊎_elim (λ r1. ⊎_elim (λ r2. inl (next _ r1 ∙ next _ r2 ∙ e)) (λ u. inr (inr u)) (signed_or_not d2 q2 w2))
@@ -173,12 +173,12 @@ module _ {s t d1 d2 : Term} where
   unfolding tautology_case negated_binary remove_negation unary binary
   apart_case (is j) (is i) (is k) (is l) = refl
 
-equal_passes : (t : Term) → assert_eq t t ≡ ok tt
+equal_passes : (t : Term) → assert_eq t t ≡ Ok tt
 unfolding assert_eq assert
 equal_passes t = rw (same_self t)
 
-bounds_pass : (test : Term → Term → Result (Unit {0})) (s d1 d2 : Term) → test d1 d2 ≡ ok tt →
-    bounds_case test ((s, d1), (s, d2)) ≡ ok tt
+bounds_pass : (test : Term → Term → Result (Unit {0})) (s d1 d2 : Term) → test d1 d2 ≡ Ok tt →
+    bounds_case test ((s, d1), (s, d2)) ≡ Ok tt
 unfolding bounds_case
 bounds_pass test s d1 d2 e = next _ (equal_passes s) ∙ e
 
@@ -189,7 +189,7 @@ record Unsigned (phi1 phi2 : Term) : Type 0 where
   unsigned : (q : Rational) → Signed bound q → ⊥
 
 form-accepted : {by : Departures} {phi1 phi2 : Term} → BoundsForm by phi1 phi2 →
-    (tautology_case phi1 phi2 ≡ ok tt) ⊎ Unsigned phi1 phi2
+    (tautology_case phi1 phi2 ≡ Ok tt) ⊎ Unsigned phi1 phi2
 form-accepted (below s d1 d2 q1 q2 f g n1 n2 c) =
     ⊎_elim (λ e. inl (below_case f.relation f.negation g ∙ bounds_pass assert_less_eq s d1 d2 e))
     (⊎_elim (λ u. inr (record { bound = d1; inside = not_below s f; unsigned = u }))
@@ -216,7 +216,7 @@ form-accepted (apart s d1 d2 q1 q2 f g n1 n2 c) =
 
 module _ {P : Term → Type 0} (closed : Closed P) where
   pub tautology-accepted : (by : Departures) (phi : Term) → P phi → LaTautology by phi → (n : ℕ) →
-      ((m : ℕ) × (la_tautology the_rust (phi ∷ []) n ≡ ok m)) ⊎ (NegativeEquality by phi ⊎ QuotientBound phi)
+      ((m : ℕ) × (la_tautology the_rust (phi ∷ []) n ≡ Ok m)) ⊎ (NegativeEquality by phi ⊎ QuotientBound phi)
   tautology-accepted by phi p (comparison k states cancels e) n =
       comparison-accepted closed by phi p n k states cancels e
   tautology-accepted by phi p (bounds phi1 phi2 h f) n =
@@ -236,7 +236,7 @@ module _ {P : Term → Type 0} (closed : Closed P) where
 
   -- under limits it is refused by these alone
   pub tautology-not-refused : (by : Departures) (phi : Term) → P phi → LaTautology by phi → (l : Limits) (n : ℕ)
-      (r : Refusal) → la_tautology l (phi ∷ []) n ≡ refused r → IsLimit r ⊎ (NegativeEquality by phi ⊎ QuotientBound phi)
+      (r : Refusal) → la_tautology l (phi ∷ []) n ≡ Err r → IsLimit r ⊎ (NegativeEquality by phi ⊎ QuotientBound phi)
   tautology-not-refused by phi p h l n r e =
       ⊎_elim (λ a. inl (limit-alone (la_tautology-limited l (phi ∷ []) n) a.1 e)) inr
       (tautology-accepted by phi p h n)

@@ -16,7 +16,7 @@ use Rattle.numbers.proofs.Truths.{both, true_or_false}
 use Rattle.book.proofs.WellFormed.{WellFormed}
 use Rattle.book.proofs.BookTerms.{Closed}
 use Rattle.rules.specs.Refusal.{◌>>=◌}
-use Rattle.rules.specs.Refusal.Outcome.{ok}
+use Rattle.std.specs.Prelude.{Ok}
 use Rattle.rules.specs.Limits.{Limits}
 use Rattle.index_map.specs.IndexMap.{is_empty}
 use Rattle.linear_arithmetic.specs.LinearArithmetic.{is_true_at_zero, is_tautology, la_tautology}
@@ -75,12 +75,12 @@ module _ {P : Term → Type 0} (closed : Closed P) where
 -- ---- what an accepted step is
 
 pub tautology-literal :
-    (l : Limits) (c : Clause) (n m : ℕ) → la_tautology l c n ≡ ok m → (phi : Term) × (c ≡ phi ∷ [])
+    (l : Limits) (c : Clause) (n m : ℕ) → la_tautology l c n ≡ Ok m → (phi : Term) × (c ≡ phi ∷ [])
 unfolding la_tautology
 tautology-literal l c n m = one_literal c _
 
 module _ {P : Term → Type 0} (closed : Closed P) where
-  pub tautology-form : (l : Limits) (phi : Term) → P phi → (n m : ℕ) → la_tautology l (phi ∷ []) n ≡ ok m →
+  pub tautology-form : (l : Limits) (phi : Term) → P phi → (n m : ℕ) → la_tautology l (phi ∷ []) n ≡ Ok m →
       LaTautology carcara phi
   unfolding la_tautology only_literal ◌>>=◌
   tautology-form l phi p n m =

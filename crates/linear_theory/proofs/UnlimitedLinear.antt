@@ -4,7 +4,7 @@
 --     from_term-free       the walk
 use mathlib.Core.Path.{◌≡◌, refl}
 use mathlib.Core.Bool.{Bool, true, false}
-use mathlib.Core.Option.{Option, some, none}
+use Rattle.std.specs.Prelude.{Option, Some, None}
 use Prim.Native.Nat.{ℕ}
 use lib.IntN.{ℤ, pos}
 use Rattle.numbers.specs.Rational.{Rational, whole, add_q, neg_q, is_zero, eq_q}
@@ -15,10 +15,8 @@ use Rattle.terms.specs.Term.Terms.{nil, ◌▹◌}
 use Rattle.terms.specs.Readers as Readers
 use Rattle.terms.specs.Readers.{unbounded, bounded, as_number, negated, as_signed_number, quotient_of, divided}
 use Rattle.terms.specs.Readers.{as_unsigned_fraction, as_fraction}
-use Rattle.terms.specs.declared.term.Reading.{Reading}
-use Rattle.terms.specs.declared.term.Reading.TheVariants.{Value, NotNumber, OutOfRange}
 use Rattle.rules.specs.Refusal.{◌>>=◌}
-use Rattle.rules.specs.Refusal.Outcome.{ok}
+use Rattle.std.specs.Prelude.{Ok}
 use Rattle.rules.specs.Limits.{the_rust, number_or, fraction_of}
 use Rattle.index_map.specs.IndexMap.{Walked, walked, combination, new}
 use Rattle.linear_walk.specs.LinearTerms.{arm_of, add_leaf, factors_of, add_term, add_args, add_difference}
@@ -29,18 +27,21 @@ use Rattle.disequality.specs.Disequality.{raised}
 use Rattle.linear_theory.proofs.LinearCases.{by_arm, by_factors_lem}
 use Rattle.rules_theory.proofs.Unlimited.{Free, answers, freely, free_of, either-free, option_free, times-free}
 use Rattle.rules_theory.proofs.Unlimited.{plus-free, scale_all-free, visit-free, add_entry-free, add_constant-free}
+use Rattle.terms.specs.Readers.{Reading}
+use Rattle.std.specs.Prelude.{Err}
+use Rattle.terms.specs.declared.term.NotRead.TheVariants.{NotNumber, OutOfRange}
 
 -- ---- numbers that are read
 
 data InRange : Reading → Type 0 where
-  read : {q : Rational} → InRange (Value q)
-  unread : InRange NotNumber
+  read : {q : Rational} → InRange (Ok q)
+  unread : InRange (Err NotNumber)
 
 module _ {A : Type 0} where
   option_in_range : (o : Option A) {f : A → Reading} {r : Reading} → ((a : A) → InRange (f a)) → InRange r →
-      InRange (elim o as (λ z. Reading) [ some a ↦ f a | none ↦ r ])
-  option_in_range (some a) h k = h a
-  option_in_range none h k = k
+      InRange (elim o as (λ z. Reading) [ Some a ↦ f a | None ↦ r ])
+  option_in_range (Some a) h k = h a
+  option_in_range None h k = k
 
 negated_in_range : {r : Reading} → InRange r → InRange (negated r)
 negated_in_range read = read
@@ -56,19 +57,19 @@ number_in_range (op i o ts) = unread
 
 over_in_range : (r : Reading) (d : Rational) → InRange (Readers.over unbounded r d)
 unfolding bounded
-over_in_range (Value n) d = read
-over_in_range NotNumber d = unread
-over_in_range OutOfRange d = unread
+over_in_range (Ok n) d = read
+over_in_range (Err NotNumber) d = unread
+over_in_range (Err OutOfRange) d = unread
 
 divided_in_range : (a : Term) (r : Reading) → InRange (divided unbounded a r)
-divided_in_range a (Value d) = go (is_zero d)
+divided_in_range a (Ok d) = go (is_zero d)
   where
     go : (z : Bool) →
-        InRange (elim z as (λ x. Reading) [ true ↦ NotNumber | false ↦ Readers.over unbounded (as_signed_number a) d ])
+        InRange (elim z as (λ x. Reading) [ true ↦ Err NotNumber | false ↦ Readers.over unbounded (as_signed_number a) d ])
     go true = unread
     go false = over_in_range (as_signed_number a) d
-divided_in_range a NotNumber = unread
-divided_in_range a OutOfRange = unread
+divided_in_range a (Err NotNumber) = unread
+divided_in_range a (Err OutOfRange) = unread
 
 unsigned_in_range : (t : Term) → InRange (as_unsigned_fraction unbounded t)
 unfolding as_unsigned_fraction
@@ -98,7 +99,7 @@ mul-free s q =
     freely (free_of (times-free s.constant q)) λ c. answers tt))
 
 pub raised-free : (s : LinearComb) (z : ℤ) →
-    raised the_rust s z ≡ ok (GreaterEq, combination s.entries (add_q s.constant (whole z)))
+    raised the_rust s z ≡ Ok (GreaterEq, combination s.entries (add_q s.constant (whole z)))
 unfolding raised ◌>>=◌
 raised-free s z = rw (plus-free s.constant (whole z))
 

@@ -3,7 +3,7 @@
 -- after any visits (`disequality_of-free`). Demand 3's premise on whole numbers reads it so.
 use mathlib.Core.Path.{◌≡◌, refl, subst}
 use mathlib.Core.Bool.{Bool, true, false}
-use mathlib.Core.Option.{Option, some, none}
+use Rattle.std.specs.Prelude.{Option, Some, None}
 use Prim.Native.Nat.{ℕ}
 use lib.Dec.{eqb}
 use lib.IntN.{pos}
@@ -14,7 +14,7 @@ use Rattle.numbers.specs.Choice.{when◌then◌else◌}
 use Rattle.terms.specs.Term.Term.{integer, rational, bitvector, atom, op}
 use Rattle.terms.specs.Term.Terms.{nil, ◌▹◌}
 use Rattle.rules.specs.Refusal.{Refusal, Result, ◌>>=◌, assert}
-use Rattle.rules.specs.Refusal.Outcome.{ok, refused}
+use Rattle.std.specs.Prelude.{Ok, Err}
 use Rattle.rules.specs.Limits.{Limits, the_rust, times}
 use Rattle.index_map.specs.IndexMap as IndexMap
 use Rattle.index_map.specs.IndexMap.{combination, Walked, walked, new, visit, add_entry, add_constant}
@@ -32,8 +32,8 @@ use Rattle.linear_theory.proofs.LimitedLinear.{from_term-limited}
 -- ---- where the first answers, the second answers in the relation R
 
 pub data Follows {A B : Type 0} (R : A → B → Type 0) : Result A → Result B → Type 0 where
-  answers : {a : A} {b : B} → R a b → Follows R (ok a) (ok b)
-  stops : {r : Refusal} {u : Result B} → Follows R (refused r) u
+  answers : {a : A} {b : B} → R a b → Follows R (Ok a) (Ok b)
+  stops : {r : Refusal} {u : Result B} → Follows R (Err r) u
 
 module _ {A B C D : Type 0} {R : A → B → Type 0} {S : C → D → Type 0} where
   chained : {x : Result A} {y : Result B} {f : A → Result C} {g : B → Result D} → Follows R x y →
@@ -47,8 +47,8 @@ module _ {A C D : Type 0} {S : C → D → Type 0} where
   limited-then : {x y : Result A} {f : A → Result C} {g : A → Result D} → x ≼ y →
       ((a : A) → Follows S (f a) (g a)) → Follows S (x >>= f) (y >>= g)
   unfolding ◌>>=◌
-  limited-then (equal (ok a)) k = k a
-  limited-then (equal (refused r)) k = stops
+  limited-then (equal (Ok a)) k = k a
+  limited-then (equal (Err r)) k = stops
   limited-then (stopped p) k = stops
 
 -- ---- walks
@@ -92,8 +92,8 @@ constant-free q s n k = limited-then (equal _) λ c. answers refl
 -- the last arm of the walk, by what was read
 abbrev leaf_as : Term → Rational → Walked Term → Option Rational → Result (Walked Term)
 leaf_as t c w o = elim o [
-  | some q ↦ times the_rust q c >>= λ r. add_constant the_rust r w
-  | none ↦ add_entry terms the_rust t c w
+  | Some q ↦ times the_rust q c >>= λ r. add_constant the_rust r w
+  | None ↦ add_entry terms the_rust t c w
 ]
 
 leaf-free : (t : Term) (c : Rational) → Free (add_leaf the_rust t c)
@@ -102,8 +102,8 @@ leaf-free t c s n k = limited-then (equal _) at
   where
     at : (o : Option Rational) →
         leaf_as t c (walked s n) o ↝ leaf_as t c (walked s k) o
-    at (some q) = limited-then (equal _) λ r. constant-free r s n k
-    at none = entry_free t c s n k
+    at (Some q) = limited-then (equal _) λ r. constant-free r s n k
+    at None = entry_free t c s n k
 
 mutual
   unfolding add_term
@@ -166,7 +166,7 @@ SameSides p q = (p.0 ≡ q.0) × (p.1 ≡ q.1) × (p.2 ≡ q.2)
 
 -- the constant goes to the right, and the disequality is turned
 abbrev moved : ℕ → ℕ → LinearComb → Result Disequality
-moved o n s = ok (turned o (combination s.entries (neg_q s.constant)) n)
+moved o n s = Ok (turned o (combination s.entries (neg_q s.constant)) n)
 
 -- the Rust bounds the number of entries by nothing
 free : Unbounded terms

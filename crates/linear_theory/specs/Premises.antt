@@ -5,14 +5,14 @@ use Rattle.numbers.specs.Rational.{Rational, is_integer}
 use Rattle.terms.specs.Term.{Term}
 use Rattle.terms.specs.Readers.{as_fraction, unbounded}
 use Rattle.terms.specs.Smtlib.{divs_even}
-use Rattle.terms.specs.declared.term.Reading.{Reading}
-use Rattle.terms.specs.declared.term.Reading.TheVariants.{Value, NotNumber, OutOfRange}
-use Rattle.rules.specs.Refusal.Outcome.{ok, refused}
+use Rattle.std.specs.Prelude.{Ok, Err}
 use Rattle.rules.specs.Limits.{the_rust}
 use Rattle.index_map.specs.IndexMap.{Map}
 use Rattle.disequality.specs.Disequality.{disequality_of}
 use Rattle.linear_comb.specs.LinearComb.{all_int}
 use Rattle.rules.specs.Shapes.{Clause}
+use Rattle.terms.specs.Readers.{Reading}
+use Rattle.terms.specs.declared.term.NotRead.TheVariants.{NotNumber, OutOfRange}
 
 -- 'each div of two written numbers with a nonzero divisor comes out even'
 unfoldable pub all_even : List Term → Bool
@@ -26,15 +26,15 @@ whole_coefficients (e ∷ m) = is_integer e.1 && whole_coefficients m
 
 unfoldable pub whole_literal : Term → Rational → Bool
 whole_literal phi a = elim (disequality_of the_rust phi 0) [
-  | ok d ↦ not (all_int d.sum.entries) || (whole_coefficients d.sum.entries && is_integer a)
-  | refused r ↦ true
+  | Ok d ↦ not (all_int d.sum.entries) || (whole_coefficients d.sum.entries && is_integer a)
+  | Err r ↦ true
 ]
 
 -- an argument that is given
 unfoldable pub whole_given : Term → Reading → Bool
-whole_given phi (Value q) = whole_literal phi q
-whole_given phi NotNumber = true
-whole_given phi OutOfRange = true
+whole_given phi (Ok q) = whole_literal phi q
+whole_given phi (Err NotNumber) = true
+whole_given phi (Err OutOfRange) = true
 
 -- 'given or inferred': literal by literal, the arguments given and then those inferred
 unfoldable pub whole_literals : Clause → List Term → List Rational → Bool

@@ -14,7 +14,7 @@ use Rattle.terms.specs.Term.{Term, Terms}
 use Rattle.terms.specs.Term.Terms.{◌▹◌}
 use Rattle.terms.specs.Book.{tree, forest, numbers, arguments, argument_at}
 use Rattle.rules.specs.Refusal.{Refusal, Result, ◌>>=◌}
-use Rattle.rules.specs.Refusal.Outcome.{ok, refused}
+use Rattle.std.specs.Prelude.{Ok, Err}
 use Rattle.rules.specs.Limits.{Limits, limited}
 use Rattle.index_map.specs.IndexMap.{Walked, walked}
 use Rattle.linear_walk.specs.LinearTerms.{add_term}
@@ -32,11 +32,11 @@ use Rattle.linear_walk.proofs.WalkSteps.{done, done-kept, done_is, filled_at, fi
 -- ---- one argument and the others
 
 module _ (t : Term) (ts : Terms) (l : Limits) (p q : Rational) (w : Walked Term) where
-  each_after : {w' : Walked Term} → add_term t l p w ≡ ok w' → add_each (t ▹ ts) l p q w ≡ add_each ts l q q w'
+  each_after : {w' : Walked Term} → add_term t l p w ≡ Ok w' → add_each (t ▹ ts) l p q w ≡ add_each ts l q q w'
   unfolding add_each ◌>>=◌
   each_after e = rw e (args-each ts l q _)
 
-  each-refused : {r : Refusal} → add_term t l p w ≡ refused r → add_each (t ▹ ts) l p q w ≡ refused r
+  each-refused : {r : Refusal} → add_term t l p w ≡ Err r → add_each (t ▹ ts) l p q w ≡ Err r
   unfolding add_each ◌>>=◌
   each-refused e = rw e
 

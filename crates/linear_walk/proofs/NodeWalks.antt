@@ -3,7 +3,7 @@
 -- numbers (`factor-below`, `args-below`).
 use mathlib.Core.Path.{◌≡◌, refl, sym, ap, subst}
 use mathlib.Core.Bool.{Bool, true, false, ◌&&◌}
-use mathlib.Core.Option.{some, none}
+use Rattle.std.specs.Prelude.{Some, None}
 use Prim.Native.Nat.{ℕ, ◌<◌}
 use native.Mathlib.Omega.{arith}
 use borrow.Author.Tests.{eqb-true}
@@ -17,14 +17,10 @@ use Rattle.terms.specs.Term.Term.{integer, rational, bitvector, atom, op}
 use Rattle.terms.specs.Term.Terms.{nil, ◌▹◌}
 use Rattle.terms.specs.Book.{record_of, tree, layout_ok}
 use Rattle.terms.specs.Readers.{ranged, as_fraction, as_op, arguments_of}
-use Rattle.numbers.specs.declared.number.Checked.{Checked}
-use Rattle.numbers.specs.declared.number.Checked.TheVariants as checked
-use Rattle.terms.specs.declared.term.Reading.{Reading}
-use Rattle.terms.specs.declared.term.Reading.TheVariants.{Value, NotNumber, OutOfRange}
 use Rattle.book.proofs.BookTerms.{Each}
 use Rattle.terms.proofs.RecordReadings.{arguments_of_record}
 use Rattle.rules.specs.Refusal.{Result, ◌>>=◌}
-use Rattle.rules.specs.Refusal.Outcome.{ok, refused}
+use Rattle.std.specs.Prelude.{Ok, Err}
 use Rattle.rules.specs.Refusal.Refusal.{number_range}
 use Rattle.rules.specs.Limits.{Limits, limited, number_or, times, fraction_of}
 use Rattle.index_map.specs.IndexMap.{Walked, visit, add_entry, add_constant}
@@ -42,6 +38,9 @@ use Rattle.linear_walk.specs.declared.nodes.Node.{Node}
 use Rattle.linear_walk.specs.declared.nodes.Node.TheVariants as node
 use Rattle.book.proofs.ArgumentsBelow.{Below, Own, arguments-below, forest-own}
 use Rattle.index_map.proofs.CheckedNumbers.{on_product}
+use Rattle.numbers.specs.Rational.{Checked}
+use Rattle.terms.specs.Readers.{Reading}
+use Rattle.terms.specs.declared.term.NotRead.TheVariants.{NotNumber, OutOfRange}
 
 -- what the walk does at a node of the term t, after the visit
 abbrev pub act : Bytes → Limits → Term → Rational → Node → Walked Term → Result (Walked Term)
@@ -49,13 +48,13 @@ act b l t coeff (node.Args p q) w = add_each (arguments_of t) l p q w
 act b l t coeff (node.Factor x c) w = add_term (tree b x) l c w
 act b l t coeff (node.Constant q) w = add_constant l q w
 act b l t coeff node.Atom w = add_entry terms l t coeff w
-act b l t coeff node.OutOfRange w = refused number_range
+act b l t coeff node.OutOfRange w = Err number_range
 
 -- ---- the definition's cases, by their names
 
 -- a product's node, by its arguments
 abbrev pair_node : Terms → Rational → Node
-pair_node ts coeff = elim (two? ts) [ some p ↦ product_node p.0 p.1 coeff | none ↦ node.Atom ]
+pair_node ts coeff = elim (two? ts) [ Some p ↦ product_node p.0 p.1 coeff | None ↦ node.Atom ]
 
 -- an operation's node, by its arm
 abbrev arm_node : Term → Terms → Rational → Arm → Node
@@ -106,15 +105,15 @@ module _ (b : Bytes) (n : ℕ) (t : Term) (coeff : Rational) (w : Walked Term) w
       go :
           (r : Reading) →
           (number_or r >>= elim [
-            | some q ↦ times (limited n) q coeff >>= λ r. add_constant (limited n) r w
-            | none ↦ add_entry terms (limited n) t coeff w
+            | Some q ↦ times (limited n) q coeff >>= λ r. add_constant (limited n) r w
+            | None ↦ add_entry terms (limited n) t coeff w
           ])
           ≡ act b (limited n) t coeff (read_node coeff r) w
-      go (Value q) =
+      go (Ok q) =
           on_product n q coeff (λ r. add_constant (limited n) r w) (λ r. act b (limited n) t coeff (constant_node r) w)
           (λ q. refl) refl
-      go NotNumber = refl
-      go OutOfRange = refl
+      go (Err NotNumber) = refl
+      go (Err OutOfRange) = refl
 
   -- a factor that is a number, and the term u that it scales
   factor-walk :
@@ -143,19 +142,19 @@ module _ (b : Bytes) (n : ℕ) (t : Term) (coeff : Rational) (w : Walked Term) w
     where
       go :
           (p q : Reading) →
-          ((number_or p >>= λ p. number_or q >>= λ q. ok (chosen p q)) >>= elim [
+          ((number_or p >>= λ p. number_or q >>= λ q. Ok (chosen p q)) >>= elim [
             | first_is q ↦ times (limited n) q coeff >>= λ c. add_term y (limited n) c w
             | second_is q ↦ times (limited n) q coeff >>= λ c. add_term x (limited n) c w
             | neither_is ↦ add_entry terms (limited n) t coeff w
           ])
           ≡ act b (limited n) t coeff (factors_node p q (record_number x) (record_number y) coeff) w
-      go OutOfRange q = refl
-      go (Value p) OutOfRange = refl
-      go (Value p) (Value q) = factor-walk p y own.1.0
-      go (Value p) NotNumber = factor-walk p y own.1.0
-      go NotNumber OutOfRange = refl
-      go NotNumber (Value q) = factor-walk q x own.0
-      go NotNumber NotNumber = refl
+      go (Err OutOfRange) q = refl
+      go (Ok p) (Err OutOfRange) = refl
+      go (Ok p) (Ok q) = factor-walk p y own.1.0
+      go (Ok p) (Err NotNumber) = factor-walk p y own.1.0
+      go (Err NotNumber) (Err OutOfRange) = refl
+      go (Err NotNumber) (Ok q) = factor-walk q x own.0
+      go (Err NotNumber) (Err NotNumber) = refl
 
 -- ---- the walk
 
@@ -212,32 +211,32 @@ module _ (i : ℕ) (coeff : Rational) where
   leaf-lower t = go (as_fraction ranged t)
     where
       at_constant : (r : Checked) → FactorBelow i (constant_node r)
-      at_constant (checked.Value q) = tt
-      at_constant checked.OutOfRange = tt
+      at_constant (Some q) = tt
+      at_constant None = tt
 
       go :
           (r : Reading) →
           FactorBelow i (read_node coeff r)
-      go (Value q) = at_constant (checked (mul_q q coeff))
-      go NotNumber = tt
-      go OutOfRange = tt
+      go (Ok q) = at_constant (checked (mul_q q coeff))
+      go (Err NotNumber) = tt
+      go (Err OutOfRange) = tt
 
   product-lower : (s t : Term) → record_number s < i → record_number t < i → FactorBelow i (product_node s t coeff)
   unfolding product_node factor_node
   product-lower s t h k = go (as_fraction ranged s) (as_fraction ranged t)
     where
       at_factor : (x : ℕ) → x < i → (r : Checked) → FactorBelow i (scaled_node x r)
-      at_factor x h (checked.Value c) = h
-      at_factor x h checked.OutOfRange = tt
+      at_factor x h (Some c) = h
+      at_factor x h None = tt
 
       go : (p q : Reading) → FactorBelow i (factors_node p q (record_number s) (record_number t) coeff)
-      go OutOfRange q = tt
-      go (Value p) OutOfRange = tt
-      go (Value p) (Value q) = at_factor (record_number t) k (checked (mul_q p coeff))
-      go (Value p) NotNumber = at_factor (record_number t) k (checked (mul_q p coeff))
-      go NotNumber OutOfRange = tt
-      go NotNumber (Value q) = at_factor (record_number s) h (checked (mul_q q coeff))
-      go NotNumber NotNumber = tt
+      go (Err OutOfRange) q = tt
+      go (Ok p) (Err OutOfRange) = tt
+      go (Ok p) (Ok q) = at_factor (record_number t) k (checked (mul_q p coeff))
+      go (Ok p) (Err NotNumber) = at_factor (record_number t) k (checked (mul_q p coeff))
+      go (Err NotNumber) (Err OutOfRange) = tt
+      go (Err NotNumber) (Ok q) = at_factor (record_number s) h (checked (mul_q q coeff))
+      go (Err NotNumber) (Err NotNumber) = tt
 
   factors-lower :
       (ts : Terms) → Below i ts →

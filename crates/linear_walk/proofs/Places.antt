@@ -1,7 +1,7 @@
 -- Where a term leads: from record to record, each a product of a number and the next. `Reaches` is the invariant of
 -- `descend`'s loop: whatever the sum is, the walk of the first record is the walk of the record that is reached.
 --     unvisited, visited       the walk of a term is refused, or a visit and then what its node says
---     reaches_first, reaches_next, factor-lower       along the loop
+--     reaches_next       along the loop
 --     stopped, to_args, to_constant, to_atom, to_refusal       the place where it ends
 use mathlib.Core.Path.{◌≡◌, refl, sym, ◌∙◌}
 use Prim.Native.Nat.{ℕ, suc, ◌+◌, ◌≤◌, ◌<◌}
@@ -12,7 +12,7 @@ use Rattle.numbers.specs.Rational.{Rational, Proper}
 use Rattle.numbers.specs.Bytes.{Bytes}
 use Rattle.terms.specs.Book.{count, tree}
 use Rattle.rules.specs.Refusal.{◌>>=◌, assert}
-use Rattle.rules.specs.Refusal.Outcome.{refused}
+use Rattle.std.specs.Prelude.{Err}
 use Rattle.rules.specs.Refusal.Refusal.{visit_limit, number_range}
 use Rattle.rules.specs.Limits.{limited}
 use Rattle.index_map.specs.IndexMap.{walked, visit}
@@ -29,7 +29,7 @@ use Rattle.linear_walk.proofs.NodeWalks.{act, walk-node, factor-below}
 -- ---- a visit
 
 module _ (b : Bytes) (limit x : ℕ) (c : Rational) (seen : ℕ) (s : LinearComb) where
-  unvisited : limit ≤ seen → add_term (tree b x) (limited limit) c (walked s seen) ≡ refused visit_limit
+  unvisited : limit ≤ seen → add_term (tree b x) (limited limit) c (walked s seen) ≡ Err visit_limit
   unfolding visit assert ◌>>=◌
   unvisited h = let no = lt-leb (suc seen) limit (omega arith) in walk-node b x limit c _ ∙ rw no
 
@@ -55,11 +55,6 @@ pub record Reaches
       add_term (tree b id) (limited limit) coeff (walked s visits)
       ≡ add_term (tree b x) (limited limit) c (walked s seen)
 
-pub reaches_first :
-    {b : Bytes} {limit id : ℕ} {coeff : Rational} {visits : ℕ} → id < count b → Proper coeff →
-    Reaches b limit id coeff visits id coeff visits
-reaches_first inside proper = record { lower = omega arith; inside = inside; proper = proper; same = λ s. refl }
-
 module _
     {b : Bytes} {limit id : ℕ} {coeff : Rational} {visits x : ℕ} {c : Rational} {seen : ℕ}
     (at : Reaches b limit id coeff visits x c seen) where
@@ -68,7 +63,7 @@ module _
 
   -- r is the node of record x
   module _ {r : Node} (look : NodeIs r (node_of (tree b x) c)) where
-    pub factor-lower : Laid b → {y : ℕ} {d : Rational} → r ≡ node.Factor y d → y < x
+    factor-lower : Laid b → {y : ℕ} {d : Rational} → r ≡ node.Factor y d → y < x
     factor-lower laid {y} {d} e = factor-below b x c d y (laid x at.inside) (sym look.is ∙ e)
 
     module _ (h : seen < limit) where

@@ -18,10 +18,8 @@ use Rattle.terms.specs.Term.{Term}
 use Rattle.terms.specs.Book.{count, tree, forest, numbers, arguments}
 use Rattle.terms.specs.Format.{max_records}
 use Rattle.terms.specs.Readers.{arguments_of}
-use Rattle.numbers.specs.declared.number.Checked.{Checked}
-use Rattle.numbers.specs.declared.number.Checked.TheVariants as checked
 use Rattle.rules.specs.Refusal.{Result, ◌>>=◌}
-use Rattle.rules.specs.Refusal.Outcome.{ok, refused}
+use Rattle.std.specs.Prelude.{Ok, Err}
 use Rattle.rules.specs.Refusal.Refusal.{number_range}
 use Rattle.rules.specs.Limits.{limited, plus}
 use Rattle.index_map.specs.IndexMap.{Walked, walked, insert, add_entry, add_constant}
@@ -46,6 +44,8 @@ use Rattle.linear_comb.proofs.NotedAtoms.{NotedSum, note_here, noted_keeps, noti
 use Rattle.linear_comb.proofs.NotedAtoms.{constant_noted, entry_noted}
 use Rattle.linear_comb.proofs.AreaSteps.{kept-cleared, sum-entries, answer-has, answer-kept}
 use Rattle.book.proofs.ArgumentsBelow.{args-below}
+use Rattle.numbers.specs.Rational.{Checked}
+use Rattle.std.specs.Prelude.{None, Some}
 
 -- ---- the answers
 
@@ -55,7 +55,7 @@ module _ {b w : Bytes} {s : Sum} (kept : KeptSum b w s) where
       Walks b w' (Refused c) d
   cleared e r = record { map = []; held = kept-cleared kept.kept e; is = (r, refl) }
 
-  pub done : {v : ℕ} (d : Result (Walked Term)) → d ≡ ok (walked (comb_of b w s) v) → Walks b w (Done s v) d
+  pub done : {v : ℕ} (d : Result (Walked Term)) → d ≡ Ok (walked (comb_of b w s) v) → Walks b w (Done s v) d
   done d is =
       let k = kept.kept in
       record { map = k.map; held = k.held; is = (rw (kept-entries k) at is, (k.size, kept.proper)) }
@@ -64,7 +64,7 @@ module _ {b w : Bytes} {s : Sum} {v : ℕ} {d : Result (Walked Term)} (walks : W
   pub done-kept : KeptSum b w s
   done-kept = answer-kept walks.held walks.is.1
 
-  pub done_is : d ≡ ok (walked (comb_of b w s) v)
+  pub done_is : d ≡ Ok (walked (comb_of b w s) v)
   done_is = rw (walks.is.1.0, held-entries walks.held) walks.is.0
 
 -- ---- the same where all atoms are noted
@@ -112,20 +112,20 @@ module _ {b w : Bytes} {s : Sum} (kept : KeptSum b w s) (l v : ℕ) where
   -- a is what the code finds for the sum of the constants
   module _ (q : Rational) (a : Checked) (gives : Gives a (checked (add_q s.constant q))) where
     pub constant_out :
-        {w' : Bytes} → a ≡ checked.OutOfRange → w' ≡ blanked s.len w →
+        {w' : Bytes} → a ≡ None → w' ≡ blanked s.len w →
         Walks b w' (Refused 11) (add_constant (limited l) q (walked (comb_of b w s) v))
     unfolding add_constant ◌>>=◌
     constant_out out e =
-        let no : plus (limited l) s.constant q ≡ refused number_range = plus_out l _ _ (sym gives.is ∙ out) in
+        let no : plus (limited l) s.constant q ≡ Err number_range = plus_out l _ _ (sym gives.is ∙ out) in
         cleared kept e (refuses number_range (rw no))
 
     pub constant-added :
-        {c : Rational} → a ≡ checked.Value c →
+        {c : Rational} → a ≡ Some c →
         Walks b w (Done (record { len = s.len; constant = c }) v)
         (add_constant (limited l) q (walked (comb_of b w s) v))
     unfolding add_constant ◌>>=◌
     constant-added {c} value =
-        let sum : plus (limited l) s.constant q ≡ ok c = plus-value l _ _ c (sym gives.is ∙ value) in
+        let sum : plus (limited l) s.constant q ≡ Ok c = plus-value l _ _ c (sym gives.is ∙ value) in
         done (record { kept = kept.kept; proper = gives.proper c value }) _ (rw sum)
 
   -- r is what the insertion answers

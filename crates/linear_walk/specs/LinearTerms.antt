@@ -1,7 +1,7 @@
 -- `LinearComb::add_term` and `from_term` of src/checker/rules/linear_arithmetic.rs: the walk of a term into a linear
 -- combination, line by line in the Rust's order.
 use Rattle.std.specs.Prelude.{◌&&◌, ℕ, eqb, pos}
-use Rattle.std.proofs.Math.Option.{Option, some, none}
+use Rattle.std.specs.Prelude.{Option, Some, None}
 use Rattle.numbers.specs.Rational.{Rational, whole, neg_q}
 use Rattle.terms.specs.Operator.{Add, Sub, Mult}
 use Rattle.terms.specs.Term.{Term, Terms}
@@ -9,7 +9,7 @@ use Rattle.numbers.specs.Choice.{when◌then◌else◌}
 use Rattle.terms.specs.Term.Term.{integer, rational, bitvector, atom, op}
 use Rattle.terms.specs.Term.Terms.{nil, ◌▹◌}
 use Rattle.rules.specs.Refusal.{Result, ◌>>=◌}
-use Rattle.rules.specs.Refusal.Outcome.{ok}
+use Rattle.std.specs.Prelude.{Ok}
 use Rattle.rules.specs.Limits.{Limits, times, fraction_of}
 use Rattle.index_map.specs.IndexMap.{new, Walked, walked, visit, add_entry}
 use Rattle.index_map.specs.IndexMap.{add_constant}
@@ -30,8 +30,8 @@ arm_of o ts =
 -- the last arm: a number goes to the constant, anything else is an atom
 unfoldable pub add_leaf : Limits → Term → Rational → Walked Term → Result (Walked Term)
 add_leaf l t coeff w = fraction_of l t >>= elim [
-  | some q ↦ times l q coeff >>= λ r. add_constant l r w
-  | none ↦ add_entry terms l t coeff w
+  | Some q ↦ times l q coeff >>= λ r. add_constant l r w
+  | None ↦ add_entry terms l t coeff w
 ]
 
 -- which factor of a product of two is a number; both are read before either is looked at
@@ -40,17 +40,17 @@ pub data Factors : Type 0 where
   neither_is : Factors
 
 abbrev pub chosen : Option Rational → Option Rational → Factors
-chosen (some p) q = first_is p
-chosen none (some q) = second_is q
-chosen none none = neither_is
+chosen (Some p) q = first_is p
+chosen None (Some q) = second_is q
+chosen None None = neither_is
 
 unfoldable pub factors_of : Limits → Terms → Result Factors
-factors_of l nil = ok neither_is
-factors_of l (a ▹ nil) = ok neither_is
+factors_of l nil = Ok neither_is
+factors_of l (a ▹ nil) = Ok neither_is
 factors_of l (a ▹ b ▹ ts) = do
   p ← fraction_of l a
   q ← fraction_of l b
-  ok (chosen p q)
+  Ok (chosen p q)
 
 unfoldable mutual
   pub add_term : Term → Limits → Rational → Walked Term → Result (Walked Term)
@@ -73,24 +73,24 @@ unfoldable mutual
     ]
 
   pub add_args : Terms → Limits → Rational → Walked Term → Result (Walked Term)
-  add_args nil l coeff w = ok w
+  add_args nil l coeff w = Ok w
   add_args (t ▹ ts) l coeff w = do
     w ← add_term t l coeff w
     add_args ts l coeff w
 
   -- the first as it is, the others with the sign turned
   pub add_difference : Terms → Limits → Rational → Walked Term → Result (Walked Term)
-  add_difference nil l coeff w = ok w
+  add_difference nil l coeff w = Ok w
   add_difference (t ▹ ts) l coeff w = do
     w ← add_term t l coeff w
     add_args ts l (neg_q coeff) w
 
   pub add_first : Terms → Limits → Rational → Walked Term → Result (Walked Term)
-  add_first nil l coeff w = ok w
+  add_first nil l coeff w = Ok w
   add_first (t ▹ ts) l coeff w = add_term t l coeff w
 
   pub add_second : Terms → Limits → Rational → Walked Term → Result (Walked Term)
-  add_second nil l coeff w = ok w
+  add_second nil l coeff w = Ok w
   add_second (t ▹ ts) l coeff w = add_first ts l coeff w
 
 -- n visits were made before

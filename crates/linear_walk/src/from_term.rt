@@ -23,7 +23,6 @@ pub fn from_term(book: &[u8], work: &mut [u8], j: usize, id: usize, visits: u32,
         (from_term (limited limit) (tree book.now id) visits) }
 {
     let start = STEP_AT + SUM_BYTES * j;
-    let end = start + SUM_BYTES;
     let none = LinearComb {
         len: 0,
         constant: Number::whole(0),
@@ -31,7 +30,7 @@ pub fn from_term(book: &[u8], work: &mut [u8], j: usize, id: usize, visits: u32,
     let mut noted = [0u64; NOTE_WORDS];
     add_term(
         book,
-        &mut work[start..end],
+        &mut work[start..start + SUM_BYTES],
         id,
         Number::whole(1),
         none,

@@ -17,7 +17,7 @@ use crate::nodes::{Place, descend};
 use index_map::index_map::{Inserted, clear, insert};
 use linear_comb::linear_comb::LinearComb;
 use linear_comb::notes::{NOTE_WORDS, enter, note};
-use numbers::number::{Checked, Number};
+use numbers::number::Number;
 use terms::records::argument;
 use terms::refusal::NUMBER_RANGE;
 use terms::term::args;
@@ -48,13 +48,17 @@ fn add_constant(entries: &mut [u8], s: LinearComb, visits: u32, q: Number) -> Wa
         Walks b entries.new result
         (add_constant (limited l) q (walked (comb_of b entries.old s) visits)) }
 {
-    let n = s.len;
-    let c = s.constant;
-    let Checked::Value(constant) = c.add(q) else {
-        clear(entries, n);
+    let Some(constant) = s.constant.add(q) else {
+        clear(entries, s.len);
         return Walk::Refused(NUMBER_RANGE);
     };
-    Walk::Done(LinearComb { len: n, constant }, visits)
+    Walk::Done(
+        LinearComb {
+            len: s.len,
+            constant,
+        },
+        visits,
+    )
 }
 
 // Adds `value` times the atom of record x, sought among all entries, and notes it: for the first term of a walk.
@@ -72,13 +76,15 @@ fn add_entry(
         Walks b entries.new result
         (add_entry terms (limited l) (tree b x) value (walked (comb_of b entries.old s) visits)) }
 {
-    let n = s.len;
-    let constant = s.constant;
     note(noted, x);
-    let Inserted::Length(len) = insert(entries, n, x, value) else {
+    let Inserted::Length(len) = insert(entries, s.len, x, value) else {
         return Walk::Refused(NUMBER_RANGE);
     };
-    Walk::Done(LinearComb { len, constant }, visits)
+    let sum = LinearComb {
+        len,
+        constant: s.constant,
+    };
+    Walk::Done(sum, visits)
 }
 
 // What the walk of a term leaves that has no arguments to walk, as in `Walk`.
@@ -112,7 +118,7 @@ fn add_flat(
     match descend(book, id, coeff, visits, limit) {
         Place::Args(x, first, others, seen) => Flat::Deeper(x, first, others, seen),
         Place::Constant(q, seen) => {
-            let Checked::Value(constant) = c.add(q) else {
+            let Some(constant) = c.add(q) else {
                 clear(entries, n);
                 return Flat::Refused(NUMBER_RANGE);
             };
@@ -147,7 +153,6 @@ pub fn add_term(
         (add_term (tree book.now id) (limited limit) coeff
         (walked (comb_of book.now entries.old s) visits)) }
 {
-    let n = s.len;
     match descend(book, id, coeff, visits, limit) {
         Place::Args(x, first, others, seen) => {
             let part = args(book, x);
@@ -156,7 +161,7 @@ pub fn add_term(
         Place::Constant(q, seen) => add_constant(entries, s, seen, q),
         Place::Atom(x, c, seen) => add_entry(entries, s, seen, x, c, noted),
         Place::Refused(c) => {
-            clear(entries, n);
+            clear(entries, s.len);
             Walk::Refused(c)
         }
     }
@@ -210,8 +215,7 @@ fn add_args(
     let mut sum = s;
     let mut seen = visits;
     let mut coeff = first;
-    let mut k = 0;
-    while k < n {
+    for k in 0..n {
         let x = argument(part, k, id);
         match add_flat(book, entries, x, coeff, sum, seen, limit, noted) {
             Flat::Done(t, v) => {
@@ -231,7 +235,6 @@ fn add_args(
             }
         }
         coeff = others;
-        k += 1;
     }
     Walk::Done(sum, seen)
 }

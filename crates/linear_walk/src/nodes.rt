@@ -1,16 +1,17 @@
 // What the walk of a linear term does at a term, and where a term leads.
-ghost use Rattle.std.specs.Prelude.{◌<◌};
+ghost use Rattle.std.specs.Prelude.{◌≡◌, ◌<◌};
 ghost use Rattle.numbers.specs.Rational.{Proper, mul_q, checked};
 ghost use Rattle.terms.specs.Book.{count, tree};
 ghost use Rattle.terms.specs.Readers.{Finds};
 ghost use Rattle.rules.specs.Memory.Parts.{Laid};
 ghost use Rattle.linear_walk.specs.Memory.LinearNodes.{NodeIs, PlaceIs};
 ghost use Rattle.linear_walk.specs.Memory.LinearNodes.{node_of, read_node, constant_node, product_node, factor_node};
+ghost use Rattle.linear_walk.specs.Memory.LinearNodes.{is_outside};
 
-use numbers::number::{Checked, Number};
+use numbers::number::Number;
 use terms::operator::{ADD, MULT, NO_OPERATOR, SUB};
 use terms::refusal::{NUMBER_RANGE, VISIT_LIMIT};
-use terms::term::{Reading, Two, args, as_fraction, as_number, binary, operator};
+use terms::term::{NotRead, args, as_fraction, as_number, binary, operator};
 
 // ---- what a walk does at a term
 
@@ -33,10 +34,17 @@ fn factor(x: usize, q: Number, coeff: Number) -> Node
     requires { Proper q × Proper coeff }
     ensures { NodeIs result (factor_node x q coeff) }
 {
-    let Checked::Value(c) = q.mul(coeff) else {
+    let Some(c) = q.mul(coeff) else {
         return Node::OutOfRange;
     };
     Node::Factor(x, c)
+}
+
+// Whether what is read as a number leaves the range.
+fn is_outside(x: Result<Number, NotRead>) -> bool
+    ensures { result ≡ is_outside x }
+{
+    matches!(x, Err(NotRead::OutOfRange))
 }
 
 // Both factors are read before either is looked at.
@@ -46,16 +54,16 @@ fn product(book: &[u8], x: usize, y: usize, coeff: Number) -> Node
 {
     let first = as_fraction(book, x);
     let second = as_fraction(book, y);
-    if let Reading::OutOfRange = first {
+    if is_outside(first) {
         return Node::OutOfRange;
     }
-    if let Reading::OutOfRange = second {
+    if is_outside(second) {
         return Node::OutOfRange;
     }
-    if let Reading::Value(q) = first {
+    if let Ok(q) = first {
         return factor(y, q, coeff);
     }
-    let Reading::Value(q) = second else {
+    let Ok(q) = second else {
         return Node::Atom;
     };
     factor(x, q, coeff)
@@ -66,21 +74,21 @@ fn constant(q: Number, coeff: Number) -> Node
     requires { Proper q × Proper coeff }
     ensures { NodeIs result (constant_node (checked (mul_q q coeff))) }
 {
-    let Checked::Value(c) = q.mul(coeff) else {
+    let Some(c) = q.mul(coeff) else {
         return Node::OutOfRange;
     };
     Node::Constant(c)
 }
 
 // A number goes to the constant, anything else is an atom; x is what the term is read as.
-fn leaf(x: Reading, coeff: Number) -> Node
+fn leaf(x: Result<Number, NotRead>, coeff: Number) -> Node
     requires { Finds x x × Proper coeff }
     ensures { NodeIs result (read_node coeff x) }
 {
     match x {
-        Reading::Value(q) => constant(q, coeff),
-        Reading::NotNumber => Node::Atom,
-        Reading::OutOfRange => Node::OutOfRange,
+        Ok(q) => constant(q, coeff),
+        Err(NotRead::NotNumber) => Node::Atom,
+        Err(NotRead::OutOfRange) => Node::OutOfRange,
     }
 }
 
@@ -101,8 +109,8 @@ fn look(book: &[u8], id: usize, coeff: Number) -> Node
             }
         }
         MULT => match binary(book, id, MULT) {
-            Two::Both(x, y) => product(book, x, y, coeff),
-            Two::NotTwo => leaf(as_fraction(book, id), coeff),
+            Some((x, y)) => product(book, x, y, coeff),
+            None => leaf(as_fraction(book, id), coeff),
         },
         _ => leaf(as_fraction(book, id), coeff),
     }
@@ -129,9 +137,8 @@ pub(crate) fn descend(book: &[u8], id: usize, coeff: Number, visits: u32, limit:
 {
     let mut x = id;
     let mut c = coeff;
-    let mut seen = visits;
-    while seen < limit {
-        seen += 1;
+    for made in visits..limit {
+        let seen = made + 1;
         match look(book, x, c) {
             Node::Args(first, others) => {
                 return Place::Args(x, first, others, seen);

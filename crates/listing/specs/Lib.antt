@@ -1,1 +1,2 @@
 pub mod RunRecords
+pub mod Faults

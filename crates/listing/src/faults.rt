@@ -1,125 +1,129 @@
 // Why a run is refused with 7: the first record at fault, in the order in which `read_steps` (`runs/specs/Run`) meets
 // them. A step is its S and the P, C and A that stand behind it in this order; the next record is taken for the S of
 // the next step. Of a step the records come first, and then the shape of an assume.
-ghost use Rattle.std.specs.Prelude.{◌+◌, ◌≤◌, ◌<◌, ◌^◌};
+ghost use Rattle.std.specs.Prelude.{◌≡◌, ◌+◌, ◌≤◌, ◌<◌, ◌/◌, ◌^◌, length, IfOk, IfErr, IfSome};
+ghost use Rattle.listing.specs.Faults.{steps_of, Before};
 
-use crate::format::{MARK, opens, run_record};
+use crate::format::{MARK, Terms};
 use numbers::bytes::{byte, read_u16};
 use runs::rule::{ASSUME, POLY_SIMP_REL};
+use std::fmt;
 use terms::format::{
     ARGUMENT, BOOL_SORT, BYTE_AT, CLAUSE, NUMBER_AT, PREMISE, RUN_RECORD_BYTES, STEP,
 };
 use terms::records::count;
 
-// ---- the faults, by the numbers that their words have in `words`
+// ---- the faults
 
-const NO_FAULT: u8 = 0;
-
-// A P, C or A that stands in no step.
-const OUT_OF_ORDER: u8 = 1;
-
-const UNKNOWN_MARK: u8 = 2;
-
-// A field that is not used is not 0.
-const UNUSED_FIELD: u8 = 3;
-
-const UNKNOWN_RULE: u8 = 4;
-
-// A P that names no earlier step.
-const NO_STEP: u8 = 5;
-
-// A C or A that names no term.
-const NO_TERM: u8 = 6;
-
-// A C that names a term of another sort than Bool.
-const NOT_BOOL: u8 = 7;
-
-// An assume that is not an S and one C.
-const ASSUME_SHAPE: u8 = 8;
-
-#[derive(Clone, Copy)]
-pub struct Found {
-    pub fault: u8,
-    // The number of the record at fault.
-    pub record: usize,
+#[derive(Clone, Copy, PartialEq, Eq)]
+pub enum Fault {
+    // A P, C or A that stands in no step.
+    OutOfOrder,
+    UnknownMark,
+    // A field that is not used is not 0.
+    UnusedField,
+    UnknownRule,
+    // A P that names no earlier step.
+    NoStep,
+    // A C or A that names no term.
+    NoTerm,
+    // A C that names a term of another sort than Bool.
+    NotBool,
+    // An assume that is not an S and one C.
+    AssumeShape,
 }
 
-// ---- the place of a record in a step
-
-// Places rise along a step; no place is that of no record, and above all others.
-const HEAD: u8 = 0;
-
-const PREMISES: u8 = 1;
-
-const LITERALS: u8 = 2;
-
-const ARGUMENTS: u8 = 3;
-
-const NO_PLACE: u8 = 4;
-
-// The place that a mark belongs to; that of the S for a mark that is unknown.
-fn place_of(mark: u8) -> u8 {
-    match mark {
-        PREMISE => PREMISES,
-        CLAUSE => LITERALS,
-        ARGUMENT => ARGUMENTS,
-        _ => HEAD,
+impl fmt::Display for Fault {
+    fn fmt<W: fmt::Write>(&self, f: &mut fmt::Formatter<W>) -> fmt::Result {
+        f.write_str(match self {
+            Fault::OutOfOrder => "out of order: a step is an S, and then P, C and A in this order",
+            Fault::UnknownMark => "unknown mark: none of S, P, C and A",
+            Fault::UnusedField => "a nonzero unused field",
+            Fault::UnknownRule => "unknown rule: none of 0 to 8",
+            Fault::NoStep => "names nothing: no earlier step has this number",
+            Fault::NoTerm => "names nothing: no term of the book has this number",
+            Fault::NotBool => "a C that is not Bool",
+            Fault::AssumeShape => "an assume of another shape than one C and nothing else",
+        })
     }
 }
 
-// Whether a record stands in the step of the record before it.
-fn goes_on(before: u8, place: u8) -> bool {
-    if place == HEAD {
-        false
-    } else {
-        before <= place
+// A fault, and the number of the record at fault.
+#[derive(Clone, Copy, PartialEq, Eq)]
+pub struct Found {
+    pub fault: Fault,
+    pub at: usize,
+}
+
+impl Fault {
+    fn at(self, at: usize) -> Found
+        ensures { result ≡ record { fault = self; at = at } }
+    {
+        Found { fault: self, at }
     }
 }
 
 // ---- one record
 
-// The record that should open a step: by its mark, its number and its rule.
-fn head_fault(r: &[u8]) -> u8 {
-    let mark = byte(r, MARK);
-    match mark {
-        STEP => {}
-        PREMISE | CLAUSE | ARGUMENT => return OUT_OF_ORDER,
-        _ => return UNKNOWN_MARK,
-    }
-    if read_u16(r, NUMBER_AT) != 0 {
-        return UNUSED_FIELD;
-    }
-    if POLY_SIMP_REL < byte(r, BYTE_AT) {
-        return UNKNOWN_RULE;
-    }
-    NO_FAULT
+// The place of a record in a step. Places rise along a step.
+#[derive(Clone, Copy, PartialEq, Eq, PartialOrd, Ord)]
+enum Place {
+    Head,
+    Premises,
+    Literals,
+    Arguments,
 }
 
-// What is wrong with the number of a C.
-fn literal_fault(sorts: &[u8], terms: usize, c: usize) -> u8 {
-    if terms <= c {
-        return NO_TERM;
+// The place that a mark belongs to; that of the S for a mark that is unknown.
+fn place_of(mark: u8) -> Place {
+    match mark {
+        PREMISE => Place::Premises,
+        CLAUSE => Place::Literals,
+        ARGUMENT => Place::Arguments,
+        _ => Place::Head,
     }
-    if byte(sorts, c) != BOOL_SORT {
-        return NOT_BOOL;
+}
+
+// The record that should open a step: by its mark, its number and its rule.
+fn check_head(r: &[u8]) -> Result<(), Fault> {
+    match byte(r, MARK) {
+        STEP => {}
+        PREMISE | CLAUSE | ARGUMENT => return Err(Fault::OutOfOrder),
+        _ => return Err(Fault::UnknownMark),
     }
-    NO_FAULT
+    if read_u16(r, NUMBER_AT) != 0 {
+        return Err(Fault::UnusedField);
+    }
+    if POLY_SIMP_REL < byte(r, BYTE_AT) {
+        return Err(Fault::UnknownRule);
+    }
+    Ok(())
+}
+
+// The number of a C or A.
+fn check_term(terms: Terms, id: usize, place: Place) -> Result<(), Fault> {
+    if count(terms.book) <= id {
+        return Err(Fault::NoTerm);
+    }
+    if place == Place::Literals && terms.sort(id) != BOOL_SORT {
+        return Err(Fault::NotBool);
+    }
+    Ok(())
 }
 
 // A P, C or A of the last of so many steps: by its byte and its number.
-fn part_fault(r: &[u8], sorts: &[u8], terms: usize, steps: usize) -> u8 {
+fn check_part(terms: Terms, steps: usize, r: &[u8], place: Place) -> Result<(), Fault> {
     if byte(r, BYTE_AT) != 0 {
-        return UNUSED_FIELD;
+        return Err(Fault::UnusedField);
     }
     let number = read_u16(r, NUMBER_AT) as usize;
-    match byte(r, MARK) {
-        PREMISE => if number + 1 < steps {
-            NO_FAULT
-        } else {
-            NO_STEP
-        },
-        CLAUSE => literal_fault(sorts, terms, number),
-        _ => if number < terms { NO_FAULT } else { NO_TERM },
+    if place != Place::Premises {
+        return check_term(terms, number, place);
+    }
+    if number + 1 < steps {
+        Ok(())
+    } else {
+        Err(Fault::NoStep)
     }
 }
 
@@ -133,88 +137,75 @@ const ASSUME_RECORDS: usize = 2;
 struct Step {
     // How many steps there are with it.
     steps: usize,
-    // The number of its S.
+    // The number of its S, and its rule.
     head: usize,
+    rule: u8,
     // The place of its last record so far.
-    last: u8,
+    last: Place,
 }
 
-// Whether a step that ends before record `end` is an assume that has not one C and nothing else.
-fn shape_wrong(run: &[u8], s: Step, end: usize) -> bool {
-    let head = s.head;
-    if s.last == NO_PLACE {
-        return false;
+impl Step {
+    // Whether a record at a place stands in this step, behind its last.
+    fn takes(self, place: Place) -> bool {
+        place != Place::Head && self.last <= place
     }
-    if byte(run_record(run, head), BYTE_AT) != ASSUME {
-        return false;
-    }
-    if s.last == LITERALS {
-        if head < end {
-            return end - head != ASSUME_RECORDS;
+
+    // The shape of a step that ends before record `end`: an assume has one C and nothing else.
+    fn check_shape(self, end: usize) -> Result<(), Found>
+        ensures { IfErr result (λ found. found.at ≡ self.head) }
+    {
+        let one_c = self.last == Place::Literals
+            && end.checked_sub(self.head) == Some(ASSUME_RECORDS);
+        if self.rule == ASSUME && !one_c {
+            return Err(Fault::AssumeShape.at(self.head));
         }
-    }
-    true
-}
-
-// What is found at record i, behind the last record of a step.
-fn fault_at(run: &[u8], sorts: &[u8], terms: usize, s: Step, i: usize) -> Found {
-    let r = run_record(run, i);
-    if goes_on(s.last, place_of(byte(r, MARK))) {
-        return Found {
-            fault: part_fault(r, sorts, terms, s.steps),
-            record: i,
-        };
-    }
-    if shape_wrong(run, s, i) {
-        return Found {
-            fault: ASSUME_SHAPE,
-            record: s.head,
-        };
-    }
-    Found {
-        fault: head_fault(r),
-        record: i,
+        Ok(())
     }
 }
 
-// The step after record i, which is r.
-fn read_on(s: Step, r: &[u8], i: usize) -> Step
-    requires steps_le_i { s.steps ≤ i }
-    requires i_bound { i < 2 ^ 63 }
-    ensures { result.steps ≤ i + 1 }
+// The step after record i, which is r, behind a step, if there is one.
+fn read_on(terms: Terms, before: Option<Step>, i: usize, r: &[u8]) -> Result<Step, Found>
+    requires fits { steps_of before < 2 ^ 63 }
+    requires before { Before before i }
+    ensures steps { IfOk result (λ step. step.steps ≤ steps_of before + 1) }
+    ensures step { IfOk result (λ step. step.head ≤ i) }
+    ensures found { IfErr result (λ found. found.at ≤ i) }
 {
-    let last = place_of(byte(r, MARK));
-    Step {
-        steps: s.steps + opens(r),
-        head: if last == HEAD { i } else { s.head },
-        last,
+    let place = place_of(byte(r, MARK));
+    let mut steps = 0;
+    if let Some(s) = before {
+        if s.takes(place) {
+            check_part(terms, s.steps, r, place).map_err(|fault| fault.at(i))?;
+            return Ok(Step { last: place, ..s });
+        }
+        s.check_shape(i)?;
+        steps = s.steps;
+    }
+    check_head(r).map_err(|fault| fault.at(i))?;
+    Ok(Step {
+        steps: steps + 1,
+        head: i,
+        rule: byte(r, BYTE_AT),
+        last: Place::Head,
+    })
+}
+
+fn check_run(terms: Terms, run: &[u8]) -> Result<(), Found>
+    ensures { IfErr result (λ found. found.at < length run.now / 4) }
+{
+    let mut step = None;
+    for (i, r) in run.chunks_exact(RUN_RECORD_BYTES).enumerate() {
+        step = Some(read_on(terms, step, i, r)?);
+    }
+    match step {
+        Some(s) => s.check_shape(run.len() / RUN_RECORD_BYTES),
+        None => Ok(()),
     }
 }
 
 // The first record at fault, if there is one.
-pub fn run_fault(book: &[u8], sorts: &[u8], run: &[u8]) -> Found {
-    let terms = count(book);
-    let n = run.len() / RUN_RECORD_BYTES;
-    let mut s = Step {
-        steps: 0,
-        head: 0,
-        last: NO_PLACE,
-    };
-    for i in 0..n {
-        let found = fault_at(run, sorts, terms, s, i);
-        if found.fault != NO_FAULT {
-            return found;
-        }
-        s = read_on(s, run_record(run, i), i);
-    }
-    if shape_wrong(run, s, n) {
-        return Found {
-            fault: ASSUME_SHAPE,
-            record: s.head,
-        };
-    }
-    Found {
-        fault: NO_FAULT,
-        record: 0,
-    }
+pub fn run_fault(terms: Terms, run: &[u8]) -> Option<Found>
+    ensures { IfSome result (λ found. found.at < length run.now / 4) }
+{
+    check_run(terms, run).err()
 }

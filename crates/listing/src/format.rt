@@ -1,10 +1,11 @@
-// The records of a run, one by one, and what the program names of the formats beside `terms::format`.
-ghost use Rattle.std.specs.Prelude.{◌≡◌, ◌≤◌, ◌↔◌, IsTrue};
-ghost use Rattle.listing.specs.RunRecords.{run_record_of, opens_of, assumes_of};
+// What is lent and what is read of it, the records of a run, and what the program names of the formats beside
+// `terms::format`.
+ghost use Rattle.std.specs.Prelude.{◌≡◌, ◌≤◌, ◌↔◌, IsTrue, get_or};
+ghost use Rattle.listing.specs.RunRecords.{opens_of, assumes_of};
 
 use numbers::bytes::byte;
 use runs::rule::ASSUME;
-use terms::format::{BYTE_AT, RUN_RECORD_BYTES, STEP};
+use terms::format::{BYTE_AT, STEP};
 use terms::refusal::{NO_ROOM, WORK_AREA_OR_LIMIT};
 
 // ---- sizes
@@ -14,41 +15,48 @@ pub const RUN_RECORDS: usize = 4096;
 // The bytes of an argument of an operation.
 pub const ARGUMENT_BYTES: usize = 2;
 
+// ---- what is lent
+
+// A book, and a run over it.
+#[derive(Clone, Copy)]
+pub struct Lent<'a> {
+    pub book: &'a [u8],
+    pub run: &'a [u8],
+}
+
+// A book that was read: its records, and the sort of each, a byte, at the start of the work area.
+#[derive(Clone, Copy)]
+pub struct Terms<'a> {
+    pub book: &'a [u8],
+    pub sorts: &'a [u8],
+}
+
+impl Terms<'_> {
+    // The sort of record `id`.
+    pub fn sort(self, id: usize) -> u8
+        ensures { result ≡ get_or self.entry.sorts.now id 0 }
+    {
+        byte(self.sorts, id)
+    }
+}
+
 // ---- the records of a run
 
 // Where the mark stands.
 pub const MARK: usize = 0;
 
-// A record of the run; no bytes where it is not there.
-pub fn run_record(run: &[u8], i: usize) -> &[u8]
-    ensures { result.now ≡ run_record_of run.now i }
+// Whether a record opens a step.
+pub fn opens(r: &[u8]) -> bool
+    ensures { result ≡ opens_of r.now }
 {
-    if i < run.len() / RUN_RECORD_BYTES {
-        let a = RUN_RECORD_BYTES * i;
-        let e = a + RUN_RECORD_BYTES;
-        return &run[a..e];
-    }
-    &run[0..0]
+    byte(r, MARK) == STEP
 }
 
-// 1 where a record opens a step, else 0.
-pub fn opens(r: &[u8]) -> usize
-    ensures bound { result ≤ 1 }
-    ensures value { result ≡ opens_of r.now }
+// Whether a record opens an assume.
+pub fn assumes(r: &[u8]) -> bool
+    ensures { result ≡ assumes_of r.now }
 {
-    if byte(r, MARK) == STEP { 1 } else { 0 }
-}
-
-// 1 where a record opens an assume, else 0.
-pub fn assumes(r: &[u8]) -> usize
-    ensures bound { result ≤ 1 }
-    ensures value { result ≡ assumes_of r.now }
-{
-    if byte(r, BYTE_AT) == ASSUME {
-        opens(r)
-    } else {
-        0
-    }
+    opens(r) && byte(r, BYTE_AT) == ASSUME
 }
 
 // ---- verdicts
@@ -57,8 +65,5 @@ pub fn assumes(r: &[u8]) -> usize
 pub fn is_lent(verdict: u8) -> bool
     ensures { IsTrue result ↔ ((1 ≤ verdict) × (verdict ≤ 8)) }
 {
-    match verdict {
-        WORK_AREA_OR_LIMIT..=NO_ROOM => true,
-        _ => false,
-    }
+    matches!(verdict, WORK_AREA_OR_LIMIT..=NO_ROOM)
 }

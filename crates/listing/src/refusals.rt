@@ -1,7 +1,10 @@
 // Of a refusal where it stands and what was wrong, and of a refused record its bytes.
+ghost use Rattle.std.specs.Prelude.{◌<◌};
+
+use crate::answer::Answer;
 use crate::faults::run_fault;
-use crate::format::RUN_RECORDS;
-use crate::words::{print_book_size, print_fault, print_reason, print_rule, print_run_size};
+use crate::format::{Lent, RUN_RECORDS, Terms};
+use crate::words::{print_reason, print_rule};
 use numbers::bytes::byte;
 use programs::printing::{print, print_bytes};
 use runs::prepare::prepare;
@@ -9,55 +12,81 @@ use runs::run::step_at;
 use std::io;
 use terms::areas::INDEX_END;
 use terms::format::{BYTE_AT, MAX_RECORDS, RECORD_BYTES, RUN_RECORD_BYTES};
-use terms::reading::{BookRead, BookRefusal, book_number};
+use terms::reading::{BookRefusal, book_number};
 use terms::refusal::{
     BOOK_SIZE, NO_ROOM, RECORD_REPEATED, RUN_RECORD, RUN_SIZE, WORK_AREA_OR_LIMIT,
 };
 
 // ---- a record
 
-fn print_record_number(rt: &impl Print, n: usize, of: &str) -> io::Result<()> {
-    print!(rt; "record {n} of the {of}: ")
+// A book or a run, and what is said of its records.
+#[derive(Clone, Copy)]
+struct Records<'a> {
+    bytes: &'a [u8],
+    of: &'static str,
+    // The bytes of a record, and the most records.
+    size: usize,
+    most: usize,
+    // The refusal of another length.
+    refusal: u8,
+    ghost some: { 0 < size },
 }
 
-// As many of the bytes of record `id` as there are.
-fn print_book_bytes(rt: &impl Print, book: &[u8], id: usize) -> io::Result<()> {
-    print(rt, b"its bytes: ")?;
-    if id <= book.len() / RECORD_BYTES {
-        print_bytes(rt, book, RECORD_BYTES * id, RECORD_BYTES)?;
+impl Records<'_> {
+    fn of_book(book: &[u8]) -> Records<'_> {
+        Records {
+            bytes: book,
+            of: "book",
+            size: RECORD_BYTES,
+            most: MAX_RECORDS,
+            refusal: BOOK_SIZE,
+        }
     }
-    print(rt, b"\n")
-}
 
-fn print_run_bytes(rt: &impl Print, run: &[u8], i: usize) -> io::Result<()> {
-    print(rt, b"its bytes: ")?;
-    if i <= run.len() / RUN_RECORD_BYTES {
-        print_bytes(rt, run, RUN_RECORD_BYTES * i, RUN_RECORD_BYTES)?;
+    fn of_run(run: &[u8]) -> Records<'_> {
+        Records {
+            bytes: run,
+            of: "run",
+            size: RUN_RECORD_BYTES,
+            most: RUN_RECORDS,
+            refusal: RUN_SIZE,
+        }
     }
-    print(rt, b"\n")
+
+    fn print_number(self, rt: &impl Print, id: usize) -> io::Result<()> {
+        print!(rt; "record {id} of the {}: ", self.of)
+    }
+
+    // As many of the bytes of record `id` as there are.
+    fn print_bytes(self, rt: &impl Print, id: usize) -> io::Result<()> {
+        print(rt, b"its bytes: ")?;
+        if let Some(record) = self.bytes.chunks(self.size).nth(id) {
+            print_bytes(rt, record)?;
+        }
+        print(rt, b"\n")
+    }
+
+    // Refusal 2 or 6: the record that is not whole, or the first that is too many.
+    fn print_length(self, rt: &impl Print) -> io::Result<()> {
+        if self.bytes.len() % self.size == 0 {
+            self.print_number(rt, self.most)?;
+            println!(rt;
+                "{}: the {} has more than {} records",
+                self.refusal, self.of, self.most
+            )?;
+            return self.print_bytes(rt, self.most);
+        }
+        let id = self.bytes.len() / self.size;
+        self.print_number(rt, id)?;
+        println!(rt;
+            "{}: the {} is not whole records of {} bytes",
+            self.refusal, self.of, self.size
+        )?;
+        self.print_bytes(rt, id)
+    }
 }
 
 // ---- the book
-
-// Refusal 2: the record that is not whole, or the first that is too many.
-fn print_book_length(rt: &impl Print, book: &[u8]) -> io::Result<()> {
-    let whole = book.len() % RECORD_BYTES == 0;
-    let id = if whole {
-        MAX_RECORDS
-    } else {
-        book.len() / RECORD_BYTES
-    };
-    print_record_number(rt, id, "book")?;
-    print_book_size(rt, whole)?;
-    print_book_bytes(rt, book, id)
-}
-
-// Refusals 3 to 5.
-fn print_book_record(rt: &impl Print, book: &[u8], id: usize, c: u8) -> io::Result<()> {
-    print_record_number(rt, id, "book")?;
-    print_reason(rt, c)?;
-    print_book_bytes(rt, book, id)
-}
 
 // Refusals 2 to 5 of a book.
 pub fn print_book_refusal(
@@ -66,66 +95,60 @@ pub fn print_book_refusal(
     c: BookRefusal,
     id: usize,
 ) -> io::Result<()> {
-    match c {
-        BookRefusal::BookSize => print_book_length(rt, book),
-        _ => print_book_record(rt, book, id, book_number(c)),
+    let records = Records::of_book(book);
+    if let BookRefusal::BookSize = c {
+        return records.print_length(rt);
     }
+    records.print_number(rt, id)?;
+    print_reason(rt, book_number(c))?;
+    records.print_bytes(rt, id)
 }
 
 // The book is read again, for the record that is refused.
 fn print_refused_book(rt: &impl Print, book: &[u8]) -> io::Result<()> {
     let mut work = [0u8; INDEX_END];
     match prepare(book, &mut work) {
-        BookRead::Records(_) => Ok(()),
-        BookRead::RefusedAt(c, id) => print_book_refusal(rt, book, c, id),
+        Ok(_) => Ok(()),
+        Err(e) => print_book_refusal(rt, book, e.refusal, e.at),
     }
 }
 
 // ---- the run
 
-// Refusal 6.
-fn print_run_length(rt: &impl Print, run: &[u8]) -> io::Result<()> {
-    let whole = run.len() % RUN_RECORD_BYTES == 0;
-    let i = if whole {
-        RUN_RECORDS
-    } else {
-        run.len() / RUN_RECORD_BYTES
-    };
-    print_record_number(rt, i, "run")?;
-    print_run_size(rt, whole)?;
-    print_run_bytes(rt, run, i)
-}
-
 // Refusal 7: the run is read again over the sorts of the book, for the record that is refused.
-fn print_refused_run(rt: &impl Print, book: &[u8], run: &[u8]) -> io::Result<()> {
+fn print_refused_run(rt: &impl Print, lent: Lent) -> io::Result<()> {
     let mut work = [0u8; INDEX_END];
-    prepare(book, &mut work);
-    let found = run_fault(book, &work, run);
-    print_record_number(rt, found.record, "run")?;
-    print_fault(rt, found.fault)?;
-    print_run_bytes(rt, run, found.record)
+    // A run is refused behind its book, which is read.
+    let _ = prepare(lent.book, &mut work);
+    let terms = Terms {
+        book: lent.book,
+        sorts: &work,
+    };
+    let found = run_fault(terms, lent.run);
+    let id = found.map_or(0, |found| found.at);
+    let records = Records::of_run(lent.run);
+    records.print_number(rt, id)?;
+    match found {
+        Some(found) => println!(rt; "{RUN_RECORD}: {}", found.fault)?,
+        None => println!(rt; "{RUN_RECORD}: a record of the run is at fault")?,
+    }
+    records.print_bytes(rt, id)
 }
 
 // Refusals 10 to 42, of the step behind the accepted ones.
-fn print_step_refusal(rt: &impl Print, run: &[u8], c: u8, steps: usize) -> io::Result<()> {
-    print!(rt; "step {steps}, ")?;
-    print_rule(rt, byte(step_at(run, steps), BYTE_AT))?;
+fn print_step_refusal(rt: &impl Print, run: &[u8], a: Answer) -> io::Result<()> {
+    print!(rt; "step {}, ", a.steps)?;
+    print_rule(rt, byte(step_at(run, a.steps), BYTE_AT))?;
     print(rt, b": ")?;
-    print_reason(rt, c)
+    print_reason(rt, a.verdict)
 }
 
-pub fn print_refusal(
-    rt: &impl Print,
-    book: &[u8],
-    run: &[u8],
-    c: u8,
-    steps: usize,
-) -> io::Result<()> {
-    match c {
-        BOOK_SIZE..=RECORD_REPEATED => print_refused_book(rt, book),
-        RUN_SIZE => print_run_length(rt, run),
-        RUN_RECORD => print_refused_run(rt, book, run),
-        WORK_AREA_OR_LIMIT | NO_ROOM => print_reason(rt, c),
-        _ => print_step_refusal(rt, run, c, steps),
+pub fn print_refusal(rt: &impl Print, lent: Lent, a: Answer) -> io::Result<()> {
+    match a.verdict {
+        BOOK_SIZE..=RECORD_REPEATED => print_refused_book(rt, lent.book),
+        RUN_SIZE => Records::of_run(lent.run).print_length(rt),
+        RUN_RECORD => print_refused_run(rt, lent),
+        WORK_AREA_OR_LIMIT | NO_ROOM => print_reason(rt, a.verdict),
+        _ => print_step_refusal(rt, lent.run, a),
     }
 }

@@ -2,7 +2,6 @@
 use programs::printing::print;
 use programs::tables::print_words;
 use std::io;
-use terms::refusal::{BOOK_SIZE, RUN_RECORD, RUN_SIZE};
 
 // The operator's name in SMT-LIB.
 pub fn print_operator(rt: &impl Print, o: u8) -> io::Result<()> {
@@ -51,15 +50,9 @@ pub fn print_rule(rt: &impl Print, rule: u8) -> io::Result<()> {
     )
 }
 
-// ---- refusals
-
-fn print_refusal_number(rt: &impl Print, c: u8) -> io::Result<()> {
-    print!(rt; "{c}: ")
-}
-
-// What was wrong; 2, 6 and 7 have their own words below.
+// What was wrong, behind the number of the refusal; 2, 6 and 7 have words of their own in `refusals`.
 pub fn print_reason(rt: &impl Print, c: u8) -> io::Result<()> {
-    print_refusal_number(rt, c)?;
+    print!(rt; "{c}: ")?;
     print_words(
         rt,
         c,
@@ -95,47 +88,6 @@ pub fn print_reason(rt: &impl Print, c: u8) -> io::Result<()> {
 40 relations that differ, or that are not between two terms
 41 a coefficient that is not a bit-vector constant
 42 a side that is not an operation
-",
-    )?;
-    print(rt, b"\n")
-}
-
-// Refusal 2, where the records are whole and where not.
-pub fn print_book_size(rt: &impl Print, whole: bool) -> io::Result<()> {
-    print_refusal_number(rt, BOOK_SIZE)?;
-    if whole {
-        print(rt, b"the book has more than 2048 records\n")
-    } else {
-        print(rt, b"the book is not whole records of 32 bytes\n")
-    }
-}
-
-// Refusal 6.
-pub fn print_run_size(rt: &impl Print, whole: bool) -> io::Result<()> {
-    print_refusal_number(rt, RUN_SIZE)?;
-    if whole {
-        print(rt, b"the run has more than 4096 records\n")
-    } else {
-        print(rt, b"the run is not whole records of 4 bytes\n")
-    }
-}
-
-// Refusal 7, by the number of its fault in `faults`.
-pub fn print_fault(rt: &impl Print, fault: u8) -> io::Result<()> {
-    print_refusal_number(rt, RUN_RECORD)?;
-    print_words(
-        rt,
-        fault,
-        b"
-00 a record of the run is at fault
-01 out of order: a step is an S, and then P, C and A in this order
-02 unknown mark: none of S, P, C and A
-03 a nonzero unused field
-04 unknown rule: none of 0 to 8
-05 names nothing: no earlier step has this number
-06 names nothing: no term of the book has this number
-07 a C that is not Bool
-08 an assume of another shape than one C and nothing else
 ",
     )?;
     print(rt, b"\n")

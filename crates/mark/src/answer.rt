@@ -1,5 +1,6 @@
 // A run marked over a book: the answer in lines, and what is said of a refusal.
-use listing::answer::print_numbers;
+use listing::answer::{Answer, print_numbers};
+use listing::format::Lent;
 use listing::refusals::print_refusal;
 use marking::check::check;
 use programs::printing::print;
@@ -8,26 +9,24 @@ use steps::check_step::ACCEPTED;
 use terms::areas::WORK_BYTES;
 
 // The numbers of the answer, and what a refusal or an empty run asks for.
-pub(crate) fn print_answer(
-    rt: &impl Print,
-    book: &[u8],
-    run: &[u8],
-    verdict: u8,
-    steps: usize,
-    visits: u32,
-) -> io::Result<()> {
-    print_numbers(rt, run, verdict, steps, visits)?;
-    if verdict != ACCEPTED {
-        print_refusal(rt, book, run, verdict, steps)?;
-    } else if steps == 0 {
+pub(crate) fn print_answer(rt: &impl Print, lent: Lent, a: Answer) -> io::Result<()> {
+    print_numbers(rt, lent.run, a)?;
+    if a.verdict != ACCEPTED {
+        print_refusal(rt, lent, a)?;
+    } else if a.steps == 0 {
         print(rt, b"no steps: the run is empty, and nothing was marked\n")?;
     }
     Ok(())
 }
 
 // Marks with the trace off.
-pub(crate) fn mark(rt: &impl Print, book: &[u8], run: &[u8], limit: u32) -> io::Result<()> {
+pub(crate) fn mark(rt: &impl Print, lent: Lent, limit: u32) -> io::Result<()> {
     let mut work = [0u8; WORK_BYTES];
-    let m = check(book, run, limit, &mut work);
-    print_answer(rt, book, run, m.verdict, m.steps, m.visits)
+    let m = check(lent.book, lent.run, limit, &mut work);
+    let a = Answer {
+        verdict: m.verdict,
+        steps: m.steps,
+        visits: m.visits,
+    };
+    print_answer(rt, lent, a)
 }

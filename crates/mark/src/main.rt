@@ -9,21 +9,22 @@ mod help;
 mod options;
 mod run_listing;
 
-ghost use Rattle.std.specs.Prelude.{◌≡◌, ◌≤◌, length};
+ghost use Rattle.std.specs.Prelude.{◌≤◌};
 
 use answer::mark;
 use elaboration::elaborate_files;
 use help::{help, usage, version};
-use listing::format::RUN_RECORDS;
+use listing::format::{Lent, RUN_RECORDS};
 use listing::records::list_book;
 use marking::check::MAX_LIMIT;
 use options::{
-    ELABORATED_BOOK, ELABORATED_LIMIT, FIRST, LIMIT, OUT_TAIL, RUN, Word, all_plain, has_unknown,
+    ELABORATED_BOOK, ELABORATED_LIMIT, FIRST, LIMIT, OUT_TAIL, RUN, Word, all_plain, first_unknown,
     limit_of, word_at,
 };
-use programs::arguments::arg_count;
+use programs::areas::area;
+use programs::arguments::{arg_count, complain_word};
 use programs::files::read_arg;
-use programs::printing::Complaints;
+use programs::printing::{Complaints, complain};
 use run_listing::list_run;
 use std::io;
 use std::rt::{Env, Files};
@@ -34,21 +35,6 @@ const BOOK_SPACE: usize = RECORD_BYTES * MAX_RECORDS + RECORD_BYTES;
 
 const RUN_SPACE: usize = RUN_RECORD_BYTES * RUN_RECORDS + RUN_RECORD_BYTES;
 
-// Room for a book. The contract has what lending it asks for, so that its length is worked out but once.
-fn book_space() -> [u8; BOOK_SPACE]
-    ensures { 65568 ≡ length result }
-{
-    [0; BOOK_SPACE]
-}
-
-// What is done with a book and a run.
-#[derive(Clone, Copy)]
-enum Task {
-    Mark,
-    List,
-    Elaborate,
-}
-
 // What the commands ask of the system: words, files, standard output and complaints.
 pub(crate) trait Host: Env + Files + Print + Complaints {}
 
@@ -57,61 +43,59 @@ impl Host for HostRuntime {}
 // ---- the commands
 
 fn with_book(rt: &impl Host) -> io::Result<()> {
-    let mut book = book_space();
-    let b = read_arg(rt, FIRST, b"BOOK", &mut book);
-    if b.ok {
-        let n = b.bytes;
-        list_book(rt, &book[..n])?;
-    }
-    Ok(())
-}
-
-fn perform(rt: &impl Host, task: Task, book: &[u8], run: &[u8], limit: u32) -> io::Result<()> {
-    match task {
-        Task::Mark => mark(rt, book, run, limit),
-        Task::List => list_run(rt, book, run),
-        Task::Elaborate => elaborate_files(rt, book, run, limit),
+    let mut space: [u8; BOOK_SPACE] = area(0);
+    match read_arg(rt, FIRST, b"BOOK", &mut space) {
+        Ok(book) => list_book(rt, book),
+        Err(_) => Ok(()),
     }
 }
 
-// Reads the run that argument i names, and performs a task on it and a book.
-fn with_run(rt: &impl Host, task: Task, i: usize, book: &[u8], limit: u32) -> io::Result<()> {
-    let mut run = [0u8; RUN_SPACE];
-    let r = read_arg(rt, i, b"RUN", &mut run);
-    if r.ok {
-        let n = r.bytes;
-        perform(rt, task, book, &run[..n], limit)?;
-    }
-    Ok(())
-}
-
-// Reads the files that arguments i and i + 1 name, and performs a task on them.
-fn with_files(rt: &impl Host, task: Task, i: usize, limit: u32) -> io::Result<()>
-    requires { i ≤ 2 }
+// Performs a command on the book and the run in the files that arguments i and i + 1 name.
+fn with_files<F: FnOnce(Lent<'_>) -> io::Result<()>>(
+    rt: &impl Host,
+    i: usize,
+    command: F,
+) -> io::Result<()>
+    requires first { i ≤ 2 }
+    requires callable { F.IsAlwaysCallable command }
 {
-    let mut book = book_space();
-    let b = read_arg(rt, i, b"BOOK", &mut book);
-    if b.ok {
-        let n = b.bytes;
-        with_run(rt, task, i + 1, &book[..n], limit)?;
+    let mut book: [u8; BOOK_SPACE] = area(0);
+    let Ok(book) = read_arg(rt, i, b"BOOK", &mut book) else {
+        return Ok(());
+    };
+    let mut run: [u8; RUN_SPACE] = area(0);
+    let Ok(run) = read_arg(rt, i + 1, b"RUN", &mut run) else {
+        return Ok(());
+    };
+    command(Lent { book, run })
+}
+
+// Performs a command under the limit that argument i gives.
+fn with_limit<F: FnOnce(u32) -> io::Result<()>>(
+    rt: &impl Host,
+    i: usize,
+    command: F,
+) -> io::Result<()>
+    requires { F.IsAlwaysCallable command }
+{
+    match limit_of(rt, i) {
+        Ok(limit) => command(limit),
+        Err(_) => Ok(()),
     }
-    Ok(())
 }
 
 fn mark_with_limit(rt: &impl Host) -> io::Result<()> {
-    let limit = limit_of(rt, LIMIT);
-    if limit != 0 {
-        with_files(rt, Task::Mark, FIRST, limit)?;
-    }
-    Ok(())
+    with_limit(
+        rt,
+        LIMIT,
+        |limit| with_files(rt, FIRST, |lent| mark(rt, lent, limit)),
+    )
 }
 
 fn elaborate_with_limit(rt: &impl Host) -> io::Result<()> {
-    let limit = limit_of(rt, ELABORATED_LIMIT);
-    if limit != 0 {
-        with_files(rt, Task::Elaborate, ELABORATED_BOOK, limit)?;
-    }
-    Ok(())
+    with_limit(rt, ELABORATED_LIMIT, |limit| {
+        with_files(rt, ELABORATED_BOOK, |lent| elaborate_files(rt, lent, limit))
+    })
 }
 
 // ---- the command line
@@ -120,7 +104,7 @@ fn elaborate_with_limit(rt: &impl Host) -> io::Result<()> {
 fn limit_or_list(rt: &impl Host) -> io::Result<()> {
     match word_at(rt, LIMIT) {
         Word::Plain => mark_with_limit(rt)?,
-        Word::List => with_files(rt, Task::List, FIRST, MAX_LIMIT)?,
+        Word::List => with_files(rt, FIRST, |lent| list_run(rt, lent))?,
         _ => usage(rt),
     }
     Ok(())
@@ -128,15 +112,12 @@ fn limit_or_list(rt: &impl Host) -> io::Result<()> {
 
 // No option stands first.
 fn without_option(rt: &impl Host, last: usize) -> io::Result<()> {
-    if all_plain(rt, FIRST, LIMIT) {
-        match last {
-            FIRST => with_book(rt)?,
-            RUN => with_files(rt, Task::Mark, FIRST, MAX_LIMIT)?,
-            LIMIT => limit_or_list(rt)?,
-            _ => usage(rt),
-        }
-    } else {
-        usage(rt);
+    match last {
+        _ if !all_plain(rt, FIRST, LIMIT) => usage(rt),
+        FIRST => with_book(rt)?,
+        RUN => with_files(rt, FIRST, |lent| mark(rt, lent, MAX_LIMIT))?,
+        LIMIT => limit_or_list(rt)?,
+        _ => usage(rt),
     }
     Ok(())
 }
@@ -152,12 +133,14 @@ fn with_elaborate(rt: &impl Host, last: usize) -> io::Result<()> {
 
 fn main(rt: HostRuntime) -> io::Result<()> {
     let n = arg_count(&rt);
-    if has_unknown(&rt, n) {
+    if let Some(i) = first_unknown(&rt, n) {
+        complain(&rt, b"mark: unknown option: ");
+        complain_word(&rt, i);
         usage(&rt);
         return Ok(());
     }
     // The program's own name is argument 0.
-    let last = if 0 < n { n - 1 } else { 0 };
+    let last = n.saturating_sub(1);
     match word_at(&rt, FIRST) {
         Word::Plain => without_option(&rt, last)?,
         Word::Elaborate => with_elaborate(&rt, last)?,

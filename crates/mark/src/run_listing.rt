@@ -1,4 +1,6 @@
 // The steps of a run, listed.
+use listing::answer::Answer;
+use listing::format::{Lent, Terms};
 use listing::refusals::print_refusal;
 use listing::steps::print_steps;
 use marking::check::{MAX_LIMIT, Opened, open};
@@ -7,14 +9,23 @@ use std::io;
 use terms::areas::WORK_BYTES;
 
 // Lists the steps of a run, or says why the book or the run is refused.
-pub(crate) fn list_run(rt: &impl Print, book: &[u8], run: &[u8]) -> io::Result<()> {
+pub(crate) fn list_run(rt: &impl Print, lent: Lent) -> io::Result<()> {
     let mut work = [0u8; WORK_BYTES];
-    if let Opened::Refused(c) = open(book, run, MAX_LIMIT, &mut work) {
+    if let Opened::Refused(verdict) = open(lent.book, lent.run, MAX_LIMIT, &mut work) {
+        let a = Answer {
+            verdict,
+            steps: 0,
+            visits: 0,
+        };
         print(rt, b"refused: ")?;
-        return print_refusal(rt, book, run, c, 0);
+        return print_refusal(rt, lent, a);
     }
-    if run.len() == 0 {
+    if lent.run.is_empty() {
         return print(rt, b"no steps: the run is empty\n");
     }
-    print_steps(rt, book, &work, run)
+    let terms = Terms {
+        book: lent.book,
+        sorts: &work,
+    };
+    print_steps(rt, terms, lent.run)
 }

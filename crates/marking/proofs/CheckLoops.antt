@@ -7,7 +7,7 @@
 use mathlib.Core.Path.{◌≡◌, refl, sym, ap, ◌∙◌, subst}
 use mathlib.Core.Bool.{Bool, true, false}
 use mathlib.Core.List.{List, [], ◌∷◌, ◌++◌}
-use mathlib.Core.Option.{Option, some, none}
+use Rattle.std.specs.Prelude.{Option, Some, None}
 use Prim.Native.Nat.{ℕ, zero, suc, ◌+◌, ◌-◌, ◌≤◌, ◌<◌}
 use native.Mathlib.Numerals.{add-one}
 use native.Mathlib.Omega.{arith}
@@ -15,7 +15,7 @@ use lib.ListN.{length, drop, length-append, length-drop}
 use Rattle.numbers.specs.Bytes.{Bytes}
 use Rattle.numbers.proofs.Truths.{never}
 use Rattle.rules.specs.Refusal.{Result}
-use Rattle.rules.specs.Refusal.Outcome.{ok}
+use Rattle.std.specs.Prelude.{Ok}
 use Rattle.rules.specs.Limits.{limited}
 use Rattle.rules.specs.Memory.Parts.{Refuses}
 use Rattle.rules.proofs.RunParts.{drop_to_end}
@@ -56,17 +56,17 @@ place-few run (suc n) h =
     let passed = passed-next (record { begins = begins; few = place-few run n before }) before refl in
     omega (arith, passed.few, place)
 
-ended_by : (v : Option Verdict) → elim v [ some w ↦ true | none ↦ false ] ≡ true → (w : Verdict) × (v ≡ some w)
-ended_by (some v) e = (v, refl)
-ended_by none e = never e
+ended_by : (v : Option Verdict) → elim v [ Some w ↦ true | None ↦ false ] ≡ true → (w : Verdict) × (v ≡ Some w)
+ended_by (Some v) e = (v, refl)
+ended_by None e = never e
 
-under_by : (v : Option Verdict) → elim v [ some w ↦ true | none ↦ false ] ≡ false → v ≡ none
-under_by (some v) e = never (sym e)
-under_by none e = refl
+under_by : (v : Option Verdict) → elim v [ Some w ↦ true | None ↦ false ] ≡ false → v ≡ None
+under_by (Some v) e = never (sym e)
+under_by None e = refl
 
 -- s is the state σ of a run that was read
 pub record Shows (b run : Bytes) (s : by_value.State) (σ : State) : Type 0 where
-  pub read : read_run b run ≡ ok (steps_of b run)
+  pub read : read_run b run ≡ Ok (steps_of b run)
   pub reached : Reached (steps_of b run) s.counter.limit σ
   pub is : s ≡ state_of run s.counter.limit σ
 
@@ -113,7 +113,7 @@ module _ {b run : Bytes} {s : by_value.State} {σ : State} (shows : Shows b run 
   turn-within size = (begins-next begins size).within
 
   module _ (e : s.ended ≡ false) where
-    pub under : σ.verdict ≡ none
+    pub under : σ.verdict ≡ None
     under = under_by σ.verdict (sym (ap (λ x. x.ended) shows.is) ∙ e)
 
     onwards :
@@ -153,7 +153,7 @@ module _ {b run : Bytes} {s : by_value.State} {σ : State} (shows : Shows b run 
           (turn-answered ∙ ap (answered σ (step_in b (part_from run s.at))) r.is) r.code
 
       pub turn-accepted :
-          (a : Accepted) → answer_to b run s ≡ ok a → {v m : ℕ} → v ≡ a.visits → m ≡ bytes_in (part_from run s.at) →
+          (a : Accepted) → answer_to b run s ≡ Ok a → {v m : ℕ} → v ≡ a.visits → m ≡ bytes_in (part_from run s.at) →
           placed (s.at + m) (s.steps + 1) v s.counter.limit ≡ next_of b run s σ
       turn-accepted a f {v} v-is size =
           let limit = s.counter.limit in
@@ -171,7 +171,7 @@ module _ {b run : Bytes} {s : by_value.State} {σ : State} (shows : Shows b run 
 
 -- the first state
 abbrev pub first : ℕ → State
-first limit = state [] (counter (limited limit) 0) none
+first limit = state [] (counter (limited limit) 0) None
 
 pub first_is_lem : (run : Bytes) (limit : ℕ) → placed 0 0 0 limit ≡ state_of run limit (first limit)
 first_is_lem run limit = ap (λ at. placed at 0 0 limit) (sym (begins-place (begins_first run)))
@@ -197,7 +197,7 @@ pub record OnTheWay (b run : Bytes) (limit : ℕ) (s : by_value.State) : Type 0 
   pub end : outcome (steps_of b run) state ≡ outcome (steps_of b run) (first limit)
 
 abbrev pub way-begins :
-    {b run : Bytes} {limit : ℕ} → read_run b run ≡ ok (steps_of b run) → {s : by_value.State} →
+    {b run : Bytes} {limit : ℕ} → read_run b run ≡ Ok (steps_of b run) → {s : by_value.State} →
     ((r : Bytes) → s ≡ state_of r limit (first limit)) → OnTheWay b run limit s
 way-begins {b} {run} {limit} read {s} is =
     let same : limit ≡ s.counter.limit = sym (ap (λ x. x.counter.limit) (is run)) in
@@ -224,13 +224,13 @@ turns_in_lem b run limit σ is = ap (turns_in b run) is ∙ go σ.verdict
   where
     go :
         (v : Option Verdict) →
-        elim (elim v as (λ x. Bool) [ some w ↦ true | none ↦ false ]) as (λ x. ℕ) [
+        elim (elim v as (λ x. Bool) [ Some w ↦ true | None ↦ false ]) as (λ x. ℕ) [
           | true ↦ 0
           | false ↦ suc (length (steps_of b run) - length σ.steps)
         ] ≡
         turns_by (length (steps_of b run)) (length σ.steps) v
-    go (some v) = refl
-    go none = refl
+    go (Some v) = refl
+    go None = refl
 
 -- what is answered at the end
 abbrev pub marked_in : by_value.State → Marked
@@ -242,10 +242,10 @@ marked_is run limit σ =
   where
     go :
         (v : Option Verdict) →
-        elim v as (λ x. ℕ) [ some w ↦ verdict_number w | none ↦ 0 ] ≡
-        verdict_number (elim v [ some w ↦ w | none ↦ Verdict.accepted ])
-    go (some v) = refl
-    go none = refl
+        elim v as (λ x. ℕ) [ Some w ↦ verdict_number w | None ↦ 0 ] ≡
+        verdict_number (elim v [ Some w ↦ w | None ↦ Verdict.accepted ])
+    go (Some v) = refl
+    go None = refl
 
 module _ {b run : Bytes} {limit : ℕ} {s : by_value.State} (way : OnTheWay b run limit s) where
   abbrev pub way-goes : {r : by_value.State} → r ≡ next_of b run s way.state → OnTheWay b run limit r

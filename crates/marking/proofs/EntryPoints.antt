@@ -11,13 +11,10 @@ use native.Mathlib.Omega.{arith}
 use borrow.Author.Tests.{eq-eqb, ne_eqb, le-leb, lt-leb}
 use lib.ListN.{length, replicate}
 use Rattle.numbers.specs.Bytes.{Bytes}
-use Rattle.terms.specs.Book.{book_number, read_book, records_read, put_sorts, BookDone}
+use Rattle.terms.specs.Book.{refused_at, book_number, read_book, records_read, put_sorts, BookDone}
 use Rattle.terms.specs.declared.reading.BookRefusal.{BookRefusal}
-use Rattle.terms.specs.declared.reading.BookRead.{BookRead}
-use Rattle.terms.specs.declared.reading.BookRead.TheVariants.{Records, RefusedAt}
 use Rattle.terms.specs.Format.{work_bytes}
-use Rattle.rules.specs.Refusal.{Outcome}
-use Rattle.rules.specs.Refusal.Outcome.{ok, refused}
+use Rattle.std.specs.Prelude.{Result, Ok, Err}
 use Rattle.rules.specs.Limits.{limited}
 use Rattle.rules.specs.Memory.Parts.{Ready}
 use Rattle.runs.proofs.Prepared.{prepared}
@@ -34,6 +31,7 @@ use Rattle.runs.specs.declared.run.RunRead.TheVariants as run_read
 use Rattle.marking.specs.declared.check.Opened.{Opened}
 use Rattle.marking.specs.declared.check.Opened.TheVariants as opened
 use Rattle.marking.specs.declared.check.Marked.{Marked}
+use Rattle.terms.specs.Book.{BookRead}
 
 -- ---- refusals 1 to 7
 
@@ -53,15 +51,15 @@ module _ (n limit : ℕ) where
       lent-right h = rw (eq-eqb n work_bytes size, le-leb min_limit limit some, le-leb limit max_limit h)
 
 -- what opening answers, and the marking, by that test and by what reading the book and the run answers
-abbrev open_by : Bool → BookRead → Outcome LentRefusal (List Step) → Outcome LentRefusal (List Step)
+abbrev open_by : Bool → BookRead → Result (List Step) LentRefusal → Result (List Step) LentRefusal
 open_by t x y = elim t [
-  | true ↦ elim x [ Records k ↦ y | RefusedAt c i ↦ refused (of_book c) ]
-  | false ↦ refused work_area_or_limit
+  | true ↦ elim x [ Ok k ↦ y | Err e ↦ Err (of_book e.refusal) ]
+  | false ↦ Err work_area_or_limit
 ]
 
-abbrev mark_by : ℕ → Bool → BookRead → Outcome LentRefusal (List Step) → Marking
+abbrev mark_by : ℕ → Bool → BookRead → Result (List Step) LentRefusal → Marking
 mark_by limit t x y = elim t [
-  | true ↦ elim x [ Records k ↦ mark_run (limited limit) y | RefusedAt c i ↦ nothing_marked (of_book c) ]
+  | true ↦ elim x [ Ok k ↦ mark_run (limited limit) y | Err e ↦ nothing_marked (of_book e.refusal) ]
   | false ↦ nothing_marked work_area_or_limit
 ]
 
@@ -78,10 +76,10 @@ unfolding check mark opening mark_run
 mark_by_lem b run limit n = go (lent_ok n limit) (read_book b) (read_run b run)
   where
     go :
-        (t : Bool) (x : BookRead) (y : Outcome LentRefusal (List Step)) →
+        (t : Bool) (x : BookRead) (y : Result (List Step) LentRefusal) →
         mark_by limit t x y ≡ mark_run (limited limit) (open_by t x y)
-    go true (Records k) y = refl
-    go true (RefusedAt c i) y = refl
+    go true (Ok k) y = refl
+    go true (Err e) y = refl
     go false x y = refl
 
 -- the work area by the test and by what reading the book answers
@@ -90,20 +88,20 @@ left_from b w x t = elim t [ true ↦ put_sorts (records_read x) b (zeros w) | f
 
 -- the work area after the book was read
 pub opens-ready :
-    {b w' : Bytes} {r : BookRead} {n k : ℕ} → n ≡ work_bytes → BookDone b (replicate n 0) w' r → r ≡ Records k →
+    {b w' : Bytes} {r : BookRead} {n k : ℕ} → n ≡ work_bytes → BookDone b (replicate n 0) w' r → r ≡ Ok k →
     Ready b w'
 opens-ready {b} {w'} {r} {k} size done e = prepared b w' r k (rw size at done) e
 
 -- what reading a run answers is what opening does, where book and work area are not refused
-steps-ready : {X : Type 0} (x : Outcome LentRefusal X) → run_read.Steps ≡ run_read_of x → opened.Ready ≡ opened_of x
-steps-ready (ok a) e = refl
-steps-ready (refused r) e = cc
+steps-ready : {X : Type 0} (x : Result X LentRefusal) → run_read.Steps ≡ run_read_of x → opened.Ready ≡ opened_of x
+steps-ready (Ok a) e = refl
+steps-ready (Err r) e = cc
 
 run-stops :
-    {X : Type 0} (x : Outcome LentRefusal X) {c : ℕ} → run_read.Refused c ≡ run_read_of x →
+    {X : Type 0} (x : Result X LentRefusal) {c : ℕ} → run_read.Refused c ≡ run_read_of x →
     opened.Refused c ≡ opened_of x
-run-stops (ok a) e = cc
-run-stops (refused r) e = cc
+run-stops (Ok a) e = cc
+run-stops (Err r) e = cc
 
 not-ready : {c : ℕ} {X : Type 0} → opened.Refused c ≡ opened.Ready → X
 not-ready e = let z : ◌≡◌ {A = ℕ} 0 1 = cc in absurd (omega arith)
@@ -131,7 +129,7 @@ module _ (b run : Bytes) (limit : ℕ) (w : Bytes) where
     by_book e = opening_by b run limit (length w) right (sym done.is ∙ e)
 
     pub opens-refused :
-        {c : BookRefusal} {i k : ℕ} → r ≡ RefusedAt c i → k ≡ book_number c → Opens b run limit w w' (opened.Refused k)
+        {c : BookRefusal} {i k : ℕ} → r ≡ refused_at c i → k ≡ book_number c → Opens b run limit w w' (opened.Refused k)
     opens-refused {c} e number_is =
         record {
           answered = ap opened.Refused number_is ∙ sym (ap opened_of (by_book e));
@@ -139,7 +137,7 @@ module _ (b run : Bytes) (limit : ℕ) (w : Bytes) where
           ready = not-ready;
         }
 
-    module _ {k : ℕ} (e : r ≡ Records k) {x : RunRead} (read : x ≡ run_read_of (read_run b run)) where
+    module _ {k : ℕ} (e : r ≡ Ok k) {x : RunRead} (read : x ≡ run_read_of (read_run b run)) where
       pub opens-steps : length w ≡ work_bytes → x ≡ run_read.Steps → Opens b run limit w w' opened.Ready
       opens-steps size steps =
           record {
@@ -174,7 +172,7 @@ module _ (b run : Bytes) (limit n : ℕ) where
 
   -- the book and the run were read
   record Opening : Type 0 where
-    read : read_run b run ≡ ok (steps_of b run)
+    read : read_run b run ≡ Ok (steps_of b run)
     marked : check b run limit n ≡ steps_marked
 
   module _ {r : Opened} (answered : r ≡ opened_of (opening b run limit n)) where
@@ -185,10 +183,10 @@ module _ (b run : Bytes) (limit n : ℕ) where
       refused_is = rw (mark_by_lem b run limit n) (go (opening b run limit n) (sym stops ∙ answered))
         where
           go :
-              (x : Outcome LentRefusal (List Step)) → opened.Refused c ≡ opened_of x →
+              (x : Result (List Step) LentRefusal) → opened.Refused c ≡ opened_of x →
               RefusedAs v (mark_run (limited limit) x)
-          go (ok ss) e = not-ready e
-          go (refused q) e =
+          go (Ok ss) e = not-ready e
+          go (Err q) e =
               record { reason = q; is = refl; code = number_is ∙ ap opened_refusal stops ∙ ap opened_refusal e }
 
       pub refused-marking : record { verdict = v; steps = 0; visits = 0 } ≡ marked_of (check b run limit n)
@@ -204,22 +202,22 @@ module _ (b run : Bytes) (limit n : ℕ) where
         where
           go :
               (t : Bool) → lent_ok n limit ≡ t → (x : BookRead) → read_book b ≡ x →
-              (y : Outcome LentRefusal (List Step)) → read_run b run ≡ y →
+              (y : Result (List Step) LentRefusal) → read_run b run ≡ y →
               opened.Ready ≡ opened_of (opening b run limit n) → Opening
           go false e x f y g h = not-ready (sym (h ∙ ap opened_of (opening_by b run limit n e f)))
-          go true e (RefusedAt c i) f y g h = not-ready (sym (h ∙ ap opened_of (opening_by b run limit n e f)))
-          go true e (Records k) f (refused q) g h =
+          go true e (Err d) f y g h = not-ready (sym (h ∙ ap opened_of (opening_by b run limit n e f)))
+          go true e (Ok k) f (Err q) g h =
               not-ready (sym (h ∙ ap opened_of (opening_by b run limit n e f ∙ g)))
-          go true e (Records k) f (ok ss) g h =
+          go true e (Ok k) f (Ok ss) g h =
               let same : steps_of b run ≡ ss = rw (g, steps_of) in
               record {
-                read = g ∙ ap ok (sym same);
+                read = g ∙ ap Ok (sym same);
                 marked =
                     mark_by_lem b run limit n ∙ ap (mark_run (limited limit)) (opening_by b run limit n e f ∙ g)
                     ∙ ap (check_steps (limited limit)) (sym same);
               }
 
-      pub opened-read : read_run b run ≡ ok (steps_of b run)
+      pub opened-read : read_run b run ≡ Ok (steps_of b run)
       opened-read = opened_is.read
 
       pub opened-marked : check b run limit n ≡ steps_marked

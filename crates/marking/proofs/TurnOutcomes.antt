@@ -4,12 +4,12 @@
 --     turn-ended, turns-ended       a marking that has ended
 use mathlib.Core.Path.{◌≡◌, refl, sym, ap, ◌∙◌}
 use mathlib.Core.List.{List, [], ◌∷◌, ◌++◌}
-use mathlib.Core.Option.{Option, some, none}
+use Rattle.std.specs.Prelude.{Option, Some, None}
 use Prim.Native.Nat.{ℕ, zero, suc, ◌-◌, ◌<◌}
 use native.Mathlib.Omega.{arith}
 use lib.ListN.{length, drop, length-append, length-drop}
 use Rattle.rules.specs.Refusal.{Result}
-use Rattle.rules.specs.Refusal.Outcome.{ok, refused}
+use Rattle.std.specs.Prelude.{Ok, Err}
 use Rattle.runs.specs.Verdict.{Verdict}
 use Rattle.runs.specs.Run.{Step}
 use Rattle.steps.specs.CheckStep.{Accepted, check_step}
@@ -18,23 +18,23 @@ use Rattle.marking.specs.Memory.Lent.{Reached}
 
 module _ (run : List Step) (σ : State) where
   pub data Turned : State → Type 0 where
-    stays : {v : Verdict} → σ.verdict ≡ some v → Turned σ
-    ends : σ.verdict ≡ none → (v : Verdict) → Turned (ended σ v)
+    stays : {v : Verdict} → σ.verdict ≡ Some v → Turned σ
+    ends : σ.verdict ≡ None → (v : Verdict) → Turned (ended σ v)
     goes :
-        σ.verdict ≡ none → length σ.steps < length run → (x : Step) (a : Accepted) → Turned (answered σ x (ok a))
+        σ.verdict ≡ None → length σ.steps < length run → (x : Step) (a : Accepted) → Turned (answered σ x (Ok a))
 
   pub turned : Turned (turn run σ)
   unfolding turn
   turned = by_verdict σ.verdict refl
     where
       by_answer :
-          σ.verdict ≡ none → length σ.steps < length run → (x : Step) (d : Result Accepted) →
+          σ.verdict ≡ None → length σ.steps < length run → (x : Step) (d : Result Accepted) →
           Turned (answered σ x d)
-      by_answer e h x (refused r) = ends e (Verdict.stopped r)
-      by_answer e h x (ok a) = goes e h x a
+      by_answer e h x (Err r) = ends e (Verdict.stopped r)
+      by_answer e h x (Ok a) = goes e h x a
 
       by_steps :
-          σ.verdict ≡ none → (left : List Step) → drop (length σ.steps) run ≡ left →
+          σ.verdict ≡ None → (left : List Step) → drop (length σ.steps) run ≡ left →
           Turned (onward run σ left)
       by_steps e [] f = ends e Verdict.accepted
       by_steps e (x ∷ left) f =
@@ -43,9 +43,9 @@ module _ (run : List Step) (σ : State) where
 
       by_verdict :
           (v : Option Verdict) → σ.verdict ≡ v →
-          Turned (elim v [ some w ↦ σ | none ↦ onward run σ (drop (length σ.steps) run) ])
-      by_verdict (some v) e = stays e
-      by_verdict none e = by_steps e (drop (length σ.steps) run) refl
+          Turned (elim v [ Some w ↦ σ | None ↦ onward run σ (drop (length σ.steps) run) ])
+      by_verdict (Some v) e = stays e
+      by_verdict None e = by_steps e (drop (length σ.steps) run) refl
 
 pub turn-reached : {run : List Step} {limit : ℕ} {σ : State} → Reached run limit σ → Reached run limit (turn run σ)
 turn-reached {run} {limit} {σ} reached = go (turned run σ)
@@ -61,7 +61,7 @@ turn-reached {run} {limit} {σ} reached = go (turned run σ)
 
 -- how many turns there are to the end
 abbrev pub turns_by : ℕ → ℕ → Option Verdict → ℕ
-turns_by n k v = elim v [ some w ↦ 0 | none ↦ suc (n - k) ]
+turns_by n k v = elim v [ Some w ↦ 0 | None ↦ suc (n - k) ]
 
 abbrev pub turns_left : List Step → State → ℕ
 turns_left run σ = turns_by (length run) (length σ.steps) σ.verdict
@@ -72,19 +72,19 @@ outcome run σ = turns (turns_left run σ) run σ
 
 -- by the verdict
 abbrev pub turn_by : List Step → State → Option Verdict → State
-turn_by run σ v = elim v [ some w ↦ σ | none ↦ onward run σ (drop (length σ.steps) run) ]
+turn_by run σ v = elim v [ Some w ↦ σ | None ↦ onward run σ (drop (length σ.steps) run) ]
 
-pub turn-ended : (run : List Step) (σ : State) {v : Verdict} → σ.verdict ≡ some v → turn run σ ≡ σ
+pub turn-ended : (run : List Step) (σ : State) {v : Verdict} → σ.verdict ≡ Some v → turn run σ ≡ σ
 unfolding turn
 turn-ended run σ e = ap (turn_by run σ) e
 
-pub turns-ended : (k : ℕ) (run : List Step) (σ : State) {v : Verdict} → σ.verdict ≡ some v → turns k run σ ≡ σ
+pub turns-ended : (k : ℕ) (run : List Step) (σ : State) {v : Verdict} → σ.verdict ≡ Some v → turns k run σ ≡ σ
 unfolding turns
 turns-ended zero run σ e = refl
 turns-ended (suc k) run σ e = ap (turns k run) (turn-ended run σ e) ∙ turns-ended k run σ e
 
 module _ (run : List Step) (σ : State) where
-  pub turn-less : σ.verdict ≡ none → turns_left run (turn run σ) < turns_left run σ
+  pub turn-less : σ.verdict ≡ None → turns_left run (turn run σ) < turns_left run σ
   turn-less under = omega (arith, go (turned run σ), ap (turns_by (length run) (length σ.steps)) under)
     where
       go : {τ : State} → Turned run σ τ → turns_left run τ < suc (length run - length σ.steps)
@@ -96,7 +96,7 @@ module _ (run : List Step) (σ : State) where
   unfolding turns
   turn-outcome = go (turned run σ) refl
     where
-      first : σ.verdict ≡ none → outcome run σ ≡ turns (length run - length σ.steps) run (turn run σ)
+      first : σ.verdict ≡ None → outcome run σ ≡ turns (length run - length σ.steps) run (turn run σ)
       first e = ap (λ v. turns (turns_by (length run) (length σ.steps) v) run σ) e
 
       go : {τ : State} → Turned run σ τ → turn run σ ≡ τ → outcome run (turn run σ) ≡ outcome run σ
@@ -111,5 +111,5 @@ module _ (run : List Step) (σ : State) where
           let n : suc (length run - length (σ.steps ++ (x, a.inferred) ∷ [])) ≡ length run - length σ.steps =
           omega (arith, h, more)
           in
-          ap (outcome run) f ∙ ap (λ k. turns k run (answered σ x (ok a))) n
+          ap (outcome run) f ∙ ap (λ k. turns k run (answered σ x (Ok a))) n
           ∙ sym (first e ∙ ap (turns (length run - length σ.steps) run) f)

@@ -2,16 +2,14 @@
 -- the marking of the steps behind it.
 use mathlib.Core.Path.{◌≡◌, refl, ap, ◌∙◌}
 use mathlib.Core.List.{List, [], ◌∷◌, ◌++◌, append-nil, append_assoc}
-use mathlib.Core.Option.{none}
+use Rattle.std.specs.Prelude.{None}
 use Prim.Native.Nat.{ℕ, zero, suc}
 use native.Mathlib.Omega.{arith}
 use lib.ListN.{length, length-append, drop}
 use Rattle.numbers.specs.Rational.{Rational}
 use Rattle.numbers.specs.Bytes.{Bytes}
-use Rattle.terms.specs.declared.reading.BookRead.{BookRead}
-use Rattle.terms.specs.declared.reading.BookRead.TheVariants.{Records, RefusedAt}
 use Rattle.rules.specs.Refusal.{Refusal, Result}
-use Rattle.rules.specs.Refusal.Outcome.{ok, refused}
+use Rattle.std.specs.Prelude.{Ok, Err}
 use Rattle.rules.specs.Limits.{Limits}
 use Rattle.rules.proofs.Yields.{Yields, at_ok}
 use Rattle.runs.specs.Verdict.{Verdict}
@@ -20,6 +18,7 @@ use Rattle.runs.specs.Run.{Step, read_run, Every, end, also}
 use Rattle.steps.specs.CheckStep.{Accepted, check_step, counter}
 use Rattle.marking.specs.Check.{Marking, marking, check_steps, mark_run, nothing_marked, State}
 use Rattle.marking.specs.Check.{state, ended, answered, onward, turn, turns, marking_of}
+use Rattle.terms.specs.Book.{BookRead}
 
 -- a step in front of a marking
 abbrev pub before : Step × List Rational → Marking → Marking
@@ -28,15 +27,15 @@ before s m = marking m.verdict (s ∷ m.steps) m.visits
 unfoldable pub mark_from : Limits → List Step → List Step → ℕ → Marking
 mark_from l run [] n = marking Verdict.accepted [] n
 mark_from l run (s ∷ ss) n = elim (check_step l run s n) [
-  | refused r ↦ marking (Verdict.stopped r) [] n
-  | ok a ↦ before (s, a.inferred) (mark_from l run ss a.visits)
+  | Err r ↦ marking (Verdict.stopped r) [] n
+  | Ok a ↦ before (s, a.inferred) (mark_from l run ss a.visits)
 ]
 
 -- by what the first step answers
 abbrev pub next : Limits → List Step → Step → List Step → ℕ → Result Accepted → Marking
 next l run s ss n x = elim x [
-  | refused r ↦ marking (Verdict.stopped r) [] n
-  | ok a ↦ before (s, a.inferred) (mark_from l run ss a.visits)
+  | Err r ↦ marking (Verdict.stopped r) [] n
+  | Ok a ↦ before (s, a.inferred) (mark_from l run ss a.visits)
 ]
 
 -- ---- the turns
@@ -54,7 +53,7 @@ drop_first (suc k) (x ∷ xs) e = drop_first k xs e
 
 module _ (l : Limits) (run : List Step) where
   abbrev under : List (Step × List Rational) → ℕ → State
-  under done n = state done (counter l n) none
+  under done n = state done (counter l n) None
 
   -- the marking of the steps that are left, behind those that are accepted
   abbrev behind : List (Step × List Rational) → Marking → Marking
@@ -82,8 +81,8 @@ module _ (l : Limits) (run : List Step) where
           ((done : List (Step × List Rational)) (n : ℕ) → drop (length done) run ≡ ss →
           marking_of (turns (suc (length ss)) run (under done n)) ≡ behind done (mark_from l run ss n)) →
           marking_of (turns (suc (length ss)) run (answered (under done n) s x)) ≡ behind done (next l run s ss n x)
-      go (refused r) rest = rw (ended-stays, append-nil)
-      go (ok a) rest =
+      go (Err r) rest = rw (ended-stays, append-nil)
+      go (Ok a) rest =
           let m : Marking = mark_from l run ss a.visits in
           let x : Step × List Rational = (s, a.inferred) in
           let more : length (done ++ x ∷ []) ≡ suc (length done) = omega (arith, length-append done (x ∷ [])) in
@@ -101,10 +100,10 @@ check_steps_from l run = turns_from l run run [] 0 refl
 pub data Marks (l : Limits) (run : List Step) : List Step → ℕ → Marking → Type 0 where
   ends : {n : ℕ} → Marks l run [] n (marking Verdict.accepted [] n)
   stops :
-      {s : Step} {ss : List Step} {n : ℕ} {r : Refusal} → check_step l run s n ≡ refused r →
+      {s : Step} {ss : List Step} {n : ℕ} {r : Refusal} → check_step l run s n ≡ Err r →
       Marks l run (s ∷ ss) n (marking (Verdict.stopped r) [] n)
   goes_on :
-      {s : Step} {ss : List Step} {n : ℕ} {a : Accepted} {m : Marking} → check_step l run s n ≡ ok a →
+      {s : Step} {ss : List Step} {n : ℕ} {a : Accepted} {m : Marking} → check_step l run s n ≡ Ok a →
       Marks l run ss a.visits m → Marks l run (s ∷ ss) n (before (s, a.inferred) m)
 
 module _ (l : Limits) (run : List Step) where
@@ -116,8 +115,8 @@ module _ (l : Limits) (run : List Step) where
       go :
           (x : Result Accepted) → check_step l run s n ≡ x → ((k : ℕ) → Marks l run ss k (mark_from l run ss k)) →
           Marks l run (s ∷ ss) n (next l run s ss n x)
-      go (refused r) e rest = stops e
-      go (ok a) e rest = goes_on e (rest a.visits)
+      go (Err r) e rest = stops e
+      go (Ok a) e rest = goes_on e (rest a.visits)
 
   -- what each accepted step has
   pub accepted-each :
@@ -131,4 +130,4 @@ module _ (l : Limits) (run : List Step) where
 -- ---- by what reading the book answers
 
 abbrev pub mark_book : Limits → Bytes → Bytes → BookRead → Marking
-mark_book l book run b = elim b [ Records n ↦ mark_run l (read_run book run) | RefusedAt c i ↦ nothing_marked (of_book c) ]
+mark_book l book run b = elim b [ Ok n ↦ mark_run l (read_run book run) | Err e ↦ nothing_marked (of_book e.refusal) ]

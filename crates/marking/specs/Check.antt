@@ -1,14 +1,13 @@
 -- Marking (document 01's word for checking) a run: the steps are checked in turn up to the first that is refused.
 -- Refusals 1 to 7 come first, in document 01's order.
 use Rattle.std.specs.Prelude.{Bool, true, false, ◌&&◌, List, [], ◌∷◌, ◌++◌, ℕ, zero, suc, eqb, leb, length, drop}
-use Rattle.std.proofs.Math.Option.{Option, some, none}
+use Rattle.std.specs.Prelude.{Option, Some, None}
 use Rattle.numbers.specs.Rational.{Rational}
 use Rattle.numbers.specs.Bytes.{Bytes}
 use Rattle.terms.specs.Book.{read_book}
-use Rattle.terms.specs.declared.reading.BookRead.TheVariants.{Records, RefusedAt}
 use Rattle.terms.specs.Format.{work_bytes}
-use Rattle.rules.specs.Refusal.{Outcome, Result}
-use Rattle.rules.specs.Refusal.Outcome.{ok, refused}
+use Rattle.rules.specs.Refusal.{Refusal}
+use Rattle.std.specs.Prelude.{Result, Ok, Err}
 use Rattle.rules.specs.Limits.{Limits, limited}
 use Rattle.runs.specs.Verdict.{LentRefusal, Verdict, lent}
 use Rattle.runs.specs.Verdict.LentRefusal.{work_area_or_limit, of_book}
@@ -28,13 +27,13 @@ abbrev pub state : List (Step × List Rational) → Counter → Option Verdict �
 state ss c v = record { steps = ss; counter = c; verdict = v }
 
 abbrev pub ended : State → Verdict → State
-ended s v = state s.steps s.counter (some v)
+ended s v = state s.steps s.counter (Some v)
 
 -- a step's answer
-abbrev pub answered : State → Step → Result Accepted → State
-answered s step (refused r) = ended s (Verdict.stopped r)
-answered s step (ok a) =
-    state (s.steps ++ (step, a.inferred) ∷ []) (counter s.counter.limits a.visits) none
+abbrev pub answered : State → Step → Result Accepted Refusal → State
+answered s step (Err r) = ended s (Verdict.stopped r)
+answered s step (Ok a) =
+    state (s.steps ++ (step, a.inferred) ∷ []) (counter s.counter.limits a.visits) None
 
 -- the steps that are left: their first one is checked
 abbrev pub onward : List Step → State → List Step → State
@@ -42,7 +41,7 @@ onward run s [] = ended s Verdict.accepted
 onward run s (step ∷ left) = answered s step (check_step s.counter.limits run step s.counter.visits)
 
 unfoldable pub turn : List Step → State → State
-turn run s = elim s.verdict [ some v ↦ s | none ↦ onward run s (drop (length s.steps) run) ]
+turn run s = elim s.verdict [ Some v ↦ s | None ↦ onward run s (drop (length s.steps) run) ]
 
 unfoldable pub turns : ℕ → List Step → State → State
 turns zero run s = s
@@ -59,25 +58,25 @@ marking v s n = record { verdict = v; steps = s; visits = n }
 
 -- what is marked so far
 abbrev pub marking_of : State → Marking
-marking_of s = marking (elim s.verdict [ some v ↦ v | none ↦ Verdict.accepted ]) s.steps s.counter.visits
+marking_of s = marking (elim s.verdict [ Some v ↦ v | None ↦ Verdict.accepted ]) s.steps s.counter.visits
 
 -- a turn for each step, and one that finds no step left
 unfoldable pub check_steps : Limits → List Step → Marking
-check_steps l run = marking_of (turns (suc (length run)) run (state [] (counter l 0) none))
+check_steps l run = marking_of (turns (suc (length run)) run (state [] (counter l 0) None))
 
 -- ---- refusals 1 to 7, then the steps
 
 abbrev pub nothing_marked : LentRefusal → Marking
 nothing_marked r = marking (lent r) [] 0
 
-unfoldable pub mark_run : Limits → Outcome LentRefusal (List Step) → Marking
-mark_run l (ok ss) = check_steps l ss
-mark_run l (refused r) = nothing_marked r
+unfoldable pub mark_run : Limits → Result (List Step) LentRefusal → Marking
+mark_run l (Ok ss) = check_steps l ss
+mark_run l (Err r) = nothing_marked r
 
 unfoldable pub mark : Limits → Bytes → Bytes → Marking
 mark l book run = elim (read_book book) [
-  | Records n ↦ mark_run l (read_run book run)
-  | RefusedAt c i ↦ nothing_marked (of_book c)
+  | Ok n ↦ mark_run l (read_run book run)
+  | Err e ↦ nothing_marked (of_book e.refusal)
 ]
 
 -- limits are 1 to 1,000,000

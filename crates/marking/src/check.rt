@@ -1,9 +1,9 @@
 // Marking (document 01's word for checking) a run with the trace off: the steps are checked in turn up to the first
 // that is refused. Refusals 1 to 7 come first, in document 01's order.
 ghost use Rattle.std.specs.Prelude.{◌≡◌, true, false, [], ◌+◌, ◌<◌, ◌^◌, length};
-ghost use Rattle.std.proofs.Math.Option.{none};
+ghost use Rattle.std.specs.Prelude.{None};
 ghost use Rattle.numbers.specs.Bytes.{Bytes};
-ghost use Rattle.rules.specs.Refusal.Outcome.{ok};
+ghost use Rattle.std.specs.Prelude.{Ok};
 ghost use Rattle.rules.specs.Limits.{limited};
 ghost use Rattle.rules.specs.Memory.Parts.{Ready};
 ghost use Rattle.runs.specs.Run.{read_run, steps_of};
@@ -20,7 +20,7 @@ use runs::prepare::prepare;
 use runs::run::{RunRead, args, parts, read_run, run_refusal};
 use steps::check_step::{ACCEPTED, Counter, check_step, verdict_refusal};
 use terms::areas::WORK_BYTES;
-use terms::reading::{BookRead, book_number};
+use terms::reading::book_number;
 use terms::refusal::WORK_AREA_OR_LIMIT;
 
 // The answer: document 01's number of the refusal, or 0; how many steps were accepted; their visits.
@@ -60,7 +60,7 @@ pub const MAX_LIMIT: u32 = 1000000;
 
 // The state before the first step.
 pub fn start(limit: u32) -> State
-    ensures { (run : Bytes) → result ≡ state_of run limit (state [] (counter (limited limit) 0) none) }
+    ensures { (run : Bytes) → result ≡ state_of run limit (state [] (counter (limited limit) 0) None) }
 {
     State {
         at: 0,
@@ -121,7 +121,7 @@ pub fn advanced(s: State, bytes: usize, visits: u32) -> State
 
 // Checks the next step, if the marking has not ended.
 pub fn turn(book: &[u8], run: &[u8], work: &mut [u8], s: State) -> State
-    requires ready { Ready book.now work.old × (read_run book.now run.now ≡ ok (steps_of book.now run.now)) }
+    requires ready { Ready book.now work.old × (read_run book.now run.now ≡ Ok (steps_of book.now run.now)) }
     requires underway { Underway book.now run.now s }
     ensures turns { Turns book.now run.now s result }
     ensures work_unchanged { work.new ≡ work.old }
@@ -145,7 +145,7 @@ pub fn turn(book: &[u8], run: &[u8], work: &mut [u8], s: State) -> State
 
 // Turns up to the end.
 fn check_steps(book: &[u8], run: &[u8], limit: u32, work: &mut [u8]) -> Marked
-    requires { Ready book.now work.old × (read_run book.now run.now ≡ ok (steps_of book.now run.now)) }
+    requires { Ready book.now work.old × (read_run book.now run.now ≡ Ok (steps_of book.now run.now)) }
     ensures value { result ≡ marked_of (check_steps (limited limit) (steps_of book.now run.now)) }
     ensures work_unchanged { work.new ≡ work.old }
 {
@@ -187,8 +187,8 @@ pub fn open(book: &[u8], run: &[u8], limit: u32, work: &mut [u8]) -> Opened
     if MAX_LIMIT < limit {
         return Opened::Refused(WORK_AREA_OR_LIMIT);
     }
-    if let BookRead::RefusedAt(c, _) = prepare(book, work) {
-        return Opened::Refused(book_number(c));
+    if let Err(e) = prepare(book, work) {
+        return Opened::Refused(book_number(e.refusal));
     }
     let read = read_run(book, work, run);
     let RunRead::Steps = read else {

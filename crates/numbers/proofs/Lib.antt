@@ -21,6 +21,7 @@ pub mod Residues
 pub mod Machine
 pub mod Ranges
 pub mod LittleEndian
+pub mod ByteArrays
 pub mod TwosComplement
 pub mod StoredNumbers
 -- bytes: the same, copied, cleared

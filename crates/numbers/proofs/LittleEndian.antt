@@ -1,10 +1,10 @@
 -- Laws of little-endian numbers in bytes, at every width: what a write leaves, what a read finds after it, and that m + n
--- bytes are m bytes and then n bytes. At the end stand the facts by which the functions of `bytes.rt` meet their contracts.
+-- bytes are m bytes and then n bytes. At the end stand the facts on a place for which `room` was asked.
 use mathlib.Core.Path.{◌≡◌, refl, sym, ap, ap₂, ◌∙◌}
 use mathlib.Core.Bool.{Bool, true, false, cond}
 use mathlib.Core.List.{◌∷◌}
 use mathlib.Core.Logic.{◌⊎◌, ⊎_elim, inl, inr}
-use Prim.Native.Nat.{ℕ, zero, suc, ◌+◌, ◌*◌, ◌-◌, ◌/◌, ◌%◌, ◌^◌, ◌≤◌, ◌<◌}
+use Prim.Native.Nat.{ℕ, zero, suc, ◌+◌, ◌*◌, ◌/◌, ◌%◌, ◌^◌, ◌≤◌, ◌<◌}
 use native.Mathlib.Nat.{pow-succ', one-le-pow, mod-one, mod-lt, mod-eq_of_lt, div-add-mod, add-mul-mod_self_left}
 use native.Mathlib.Nat.{mul_assoc, add-zero, suc-add}
 use native.Mathlib.Omega.{arith}
@@ -188,16 +188,6 @@ le_cons n x b i = rw (suc-add, leb-suc-suc, digits_cons n x b i)
 
 -- ---- the function `room` and its callers
 
-pub no_room : (n i l : ℕ) → l < n → false ≡ leb (i + n) l
-no_room n i l h = sym (lt-leb (i + n) l (omega arith))
-
-pub room-left : (n i l : ℕ) → n ≤ l → leb i (l - n) ≡ leb (i + n) l
-room-left n i l h = go (leb i (l - n)) refl
-  where
-    go : (t : Bool) → leb i (l - n) ≡ t → t ≡ leb (i + n) l
-    go true e = sym (le-leb (i + n) l (omega (arith, leb-true i (l - n) e)))
-    go false e = sym (lt-leb (i + n) l (omega (arith, leb-false i (l - n) e)))
-
 -- What `room` answers, t, as an order of numbers.
 pub inside : (t : Bool) (m l : ℕ) → t ≡ leb m l → t ≡ true → m ≤ l
 inside t m l e h = leb-true m l (sym e ∙ h)
@@ -205,52 +195,16 @@ inside t m l e h = leb-true m l (sym e ∙ h)
 pub outside : (t : Bool) (m l : ℕ) → t ≡ leb m l → t ≡ false → l < m
 outside t m l e h = leb-false m l (sym e ∙ h)
 
-pub first_inside : (t : Bool) (i n l : ℕ) → t ≡ leb (i + n) l → t ≡ true → 0 < n → i < l
-first_inside t i n l e h p = omega (arith, inside t (i + n) l e h)
-
-pub byte_inside : (t : Bool) (i k n l : ℕ) → t ≡ leb (i + n) l → t ≡ true → k < n → i + k < l
-byte_inside t i k n l e h p = omega (arith, inside t (i + n) l e h)
-
 pub place-fits : (t : Bool) (i k n l : ℕ) → t ≡ leb (i + n) l → t ≡ true → k ≤ n → Fits w64 l → Fits w64 (i + k)
 place-fits t i k n l e h p f = omega (arith, inside t (i + n) l e h)
 
 -- `search roomy` closes what a function asks of a place where it has called `room`.
-pub ruleset roomy = (rules, inside, outside, first_inside, byte_inside, place-fits)
+pub ruleset roomy = (rules, inside, outside, place-fits)
 
--- ---- two, four and eight bytes, as the functions have them
+-- ---- two bytes, one after the other
 
 pub le_of_two :
     (b : Bytes) (i x y : ℕ) → i + 2 ≤ length b → x ≡ get_or b i 0 → y ≡ get_or b (i + 1) 0 →
     x + 256 * y ≡ le 2 b i
 unfolding digits
 le_of_two b i x y h first second = rw (le-inside 2 b i h, digits, ← first, ← second) (omega arith)
-
-pub le_of_four :
-    (b : Bytes) (i w x y z : ℕ) → i + 4 ≤ length b → w ≡ get_or b i 0 → x ≡ get_or b (i + 1) 0 →
-    y ≡ get_or b (i + 2) 0 → z ≡ get_or b (i + 3) 0 → w + 256 * x + 65536 * y + 16777216 * z ≡ le 4 b i
-le_of_four b i w x y z h first second third fourth =
-    let place : i + 2 + 1 ≡ i + 3 = omega arith in
-    let low : w + 256 * x ≡ le 2 b i = le_of_two b i w x (omega arith) first second in
-    let high : y + 256 * z ≡ le 2 b (i + 2) = le_of_two b (i + 2) y z (omega arith) third (rw place fourth) in
-    omega (arith, le-add 2 2 b i h)
-
-pub le_of_eight :
-    (b : Bytes) (i x y : ℕ) → i + 8 ≤ length b → x ≡ le 4 b i → y ≡ le 4 b (i + 4) →
-    x + 4294967296 * y ≡ le 8 b i
-le_of_eight b i x y h low high = omega (arith, le-add 4 4 b i h)
-
-pub put_of_two :
-    (v : ℕ) (b : Bytes) (i : ℕ) → i + 2 ≤ length b → set (set b i (v % 256)) (i + 1) (v / 256 % 256) ≡ put 2 v b i
-unfolding put_digits
-put_of_two v b i h = rw (put-inside 2 v b i h)
-
-pub put_of_four :
-    (v : ℕ) (b : Bytes) (i : ℕ) → i + 4 ≤ length b → v < 4294967296 →
-    set (set (set (set b i (v % 256)) (i + 1) (v / 256 % 256)) (i + 2) (v / 65536 % 256)) (i + 3) (v / 16777216) ≡ put 4 v b i
-unfolding put_digits
-put_of_four v b i h small =
-    let two : i + 1 + 1 ≡ i + 2 = omega arith in
-    let three : i + 2 + 1 ≡ i + 3 = omega arith in
-    let third : v / 256 / 256 ≡ v / 65536 = omega arith in
-    let fourth : v / 65536 / 256 % 256 ≡ v / 16777216 = omega arith in
-    rw (put-inside 4 v b i h, two, three, third, fourth)

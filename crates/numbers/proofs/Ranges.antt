@@ -17,11 +17,11 @@ use lib.Signed.{◌<ℤ◌}
 use mir.Facts.{and_yes}
 use Rattle.numbers.specs.Rational.{Rational, frac, Proper, Makes, Gives, limit, in_range, checked, refusal, neg_q}
 use Rattle.numbers.specs.Rational.{abs_q, floor_z, floor_q}
-use Rattle.numbers.specs.declared.number.Checked.{Checked}
-use Rattle.numbers.specs.declared.number.Checked.TheVariants.{Value, OutOfRange}
 use Rattle.numbers.proofs.Integers.{nat_abs_negℤ}
 use Rattle.numbers.proofs.Order.{mul-pos, pos-positive}
 use Rattle.numbers.proofs.Machine.{Code, arg, ◌⊠◌, machine, back}
+use Rattle.numbers.specs.Rational.{Checked}
+use Rattle.std.specs.Prelude.{Some, None}
 
 -- ---- the test
 
@@ -46,25 +46,25 @@ module _ (q : Rational) where
 
   -- ---- the answer
 
-  pub checked_is : {t : Bool} → in_range q ≡ t → cond t (Value q) OutOfRange ≡ checked q
+  pub checked_is : {t : Bool} → in_range q ≡ t → cond t (Some q) None ≡ checked q
   unfolding checked
   checked_is e = rw e
 
-  pub value_of_checked : (r : Rational) → checked q ≡ Value r → (q ≡ r) × (in_range q ≡ true)
+  pub value_of_checked : (r : Rational) → checked q ≡ Some r → (q ≡ r) × (in_range q ≡ true)
   value_of_checked r e = go (in_range q) refl
     where
       go : (t : Bool) → in_range q ≡ t → (q ≡ r) × (in_range q ≡ true)
       go true h = let d = checked_is h in (cc, h)
       go false h = let d = checked_is h in let z : ◌≡◌ {A = ℕ} 0 1 = cc in absurd (omega arith)
 
-  pub out_of_checked : checked q ≡ OutOfRange → in_range q ≡ false
+  pub out_of_checked : checked q ≡ None → in_range q ≡ false
   out_of_checked e = go (in_range q) refl
     where
       go : (t : Bool) → in_range q ≡ t → in_range q ≡ false
       go true h = let d = checked_is h in cc
       go false h = h
 
-  pub proper_of_checked : pos 0 <ℤ q.den → (r : Rational) → checked q ≡ Value r → Proper r
+  pub proper_of_checked : pos 0 <ℤ q.den → (r : Rational) → checked q ≡ Some r → Proper r
   proper_of_checked p r e =
       let v = value_of_checked r e in
       let s = sizes_of_in_range v.1 in
@@ -92,7 +92,7 @@ gives_same {r} = subst (λ (q : Rational). Gives r (checked q))
 
 -- ---- negation, absolute value and floor stay in range: the test that document 01 makes of them always passes
 
-pub checked_of_proper : {q : Rational} → Proper q → checked q ≡ Value q
+pub checked_of_proper : {q : Rational} → Proper q → checked q ≡ Some q
 checked_of_proper {q} p = sym (checked_is q (in_range_of_sizes q p.numerator p.denominator))
 
 pub proper-neg : {q : Rational} → Proper q → Proper (neg_q q)

@@ -13,15 +13,15 @@ use lib.ListN.{length, get_or}
 use lib.Signed.{mag, lt_z, ◌<ℤ◌}
 use mir.Facts.{to_z-of_z, to_z_pos}
 use mir.Syntax.{w64}
-use mir.Val.{SFits, to_z}
+use mir.Val.{SFits}
 use Rattle.numbers.specs.Bytes.{Bytes, le, put, room, signed, complement, number_at, put_number, or_zero}
 use Rattle.numbers.specs.Rational.{Rational, frac, whole, limit, in_range, Proper, Makes, checked}
-use Rattle.numbers.specs.declared.number.Checked.{Checked}
-use Rattle.numbers.specs.declared.number.Checked.TheVariants.{Value, OutOfRange}
 use Rattle.numbers.proofs.LittleEndian.{Apart, cond_either, le-outside, length-put, byte-put_elsewhere}
 use Rattle.numbers.proofs.LittleEndian.{le_elsewhere, le-put_elsewhere, read-after-write-small}
 use Rattle.numbers.proofs.Machine.{R}
 use Rattle.numbers.proofs.TwosComplement.{complement-below, signed-complement}
+use Rattle.numbers.specs.Rational.{Checked}
+use Rattle.std.specs.Prelude.{Some, None}
 
 -- ---- where there is room, and where there is none
 
@@ -168,39 +168,39 @@ zero-without-room b i r zero_is h =
     zero-without-denominator b i 0 r zero_is (sym (le-outside 4 b (i + 4) (omega arith))) (lit≤ tt)
 
 -- With one, the answer of `in_range` decides.
-or_zero-value : (q r : Rational) → lt_z (pos 0) q.den ≡ true → checked q ≡ Value r → r ≡ or_zero q
+or_zero-value : (q r : Rational) → lt_z (pos 0) q.den ≡ true → checked q ≡ Some r → r ≡ or_zero q
 unfolding checked
 or_zero-value q r positive e = rw positive (go (in_range q) e)
   where
-    go : (t : Bool) → cond t (Value q) OutOfRange ≡ Value r → r ≡ cond (t && true) q (whole (pos 0))
+    go : (t : Bool) → cond t (Some q) None ≡ Some r → r ≡ cond (t && true) q (whole (pos 0))
     go true e = cc
     go false e = cc
 
-or_zero-refused : (q : Rational) → checked q ≡ OutOfRange → whole (pos 0) ≡ or_zero q
+or_zero-refused : (q : Rational) → checked q ≡ None → whole (pos 0) ≡ or_zero q
 unfolding checked
 or_zero-refused q e = go (in_range q) e
   where
     go :
-        (t : Bool) → cond t (Value q) OutOfRange ≡ OutOfRange →
+        (t : Bool) → cond t (Some q) None ≡ None →
         whole (pos 0) ≡ cond (t && lt_z (pos 0) q.den) q (whole (pos 0))
     go true e = cc
     go false e = refl
 
--- v and d are the numbers in the bytes, n is v with its sign, and a is the answer for n and d as the machine reads them
--- back.
-module _ (b : Bytes) (i v d : ℕ) (n : ℤ) (a : Checked) (v-is : v ≡ le 4 b i) (n-is : n ≡ signed 4 v) (d-is : d ≡ le 4 b (i + 4)) (n-fits : SFits w64 n) (d_small : d < 4294967296) (a-is : a ≡ checked (frac (R n) (to_z w64 d))) where
+-- v and d are the numbers in the bytes, n is v with its sign, z is d, and a is the answer for n and z as the machine
+-- reads them back.
+module _ (b : Bytes) (i v d : ℕ) (n z : ℤ) (a : Checked) (v-is : v ≡ le 4 b i) (n-is : n ≡ signed 4 v) (d-is : d ≡ le 4 b (i + 4)) (n-fits : SFits w64 n) (d_small : d < 4294967296) (z-is : z ≡ pos d) (a-is : a ≡ checked (frac (R n) (R z))) where
   answered : checked (frac (signed 4 (le 4 b i)) (pos (le 4 b (i + 4)))) ≡ a
   answered =
       let small : d < 2 ^ 63 = omega arith in
-      sym (a-is ∙ ap₂ (λ (x y : ℤ). checked (frac x y)) (to_z-of_z n-fits ∙ n-is ∙ ap (signed 4) v-is) (to_z_pos w64 small ∙ ap pos d-is))
+      sym (a-is ∙ ap₂ (λ (x y : ℤ). checked (frac x y)) (to_z-of_z n-fits ∙ n-is ∙ ap (signed 4) v-is) (ap R z-is ∙ to_z_pos w64 small ∙ ap pos d-is))
 
-  pub number-found : (q : Rational) → 1 ≤ d → a ≡ Value q → Makes q (number_at b i)
+  pub number-found : (q : Rational) → 1 ≤ d → a ≡ Some q → Makes q (number_at b i)
   unfolding number_at
   number-found q some e =
       let positive : 0 < le 4 b (i + 4) = omega arith in
       makes q b i (or_zero-value _ q (lt-ltb 0 (le 4 b (i + 4)) positive) (answered ∙ e))
 
-  pub zero_out_of_range : (r : Rational) → r ≡ whole (pos 0) → a ≡ OutOfRange → Makes r (number_at b i)
+  pub zero_out_of_range : (r : Rational) → r ≡ whole (pos 0) → a ≡ None → Makes r (number_at b i)
   unfolding number_at
   zero_out_of_range r zero_is e = makes r b i (zero_is ∙ or_zero-refused _ (answered ∙ e))
 

@@ -7,8 +7,7 @@ use Rattle.std.proofs.Common.{zero-lt-suc}
 use Rattle.std.specs.Int.Signed.{quot_z, le_z, lt_z}
 use Rattle.numbers.specs.Pair.{Pair, pair, whole_p, eq_z}
 use Rattle.numbers.specs.declared.number.Number.{Number}
-use Rattle.numbers.specs.declared.number.Checked.{Checked}
-use Rattle.numbers.specs.declared.number.Checked.TheVariants.{Value, OutOfRange}
+use Rattle.std.specs.Prelude.{Option, Some, None}
 
 -- `struct Number` as a value: its two parts are whole numbers of any size
 abbrev pub Rational : Type 0
@@ -119,21 +118,24 @@ limit = 2147483647
 unfoldable pub in_range : Rational → Bool
 in_range q = leb (nat_abs q.num) limit && leb (nat_abs q.den) limit
 
--- the answer of an operation that can leave the range
+-- the answer of an operation that can leave the range: none outside it
+abbrev pub Checked : Type 0
+Checked = Option Rational
+
 unfoldable pub checked : Rational → Checked
-checked q = cond (in_range q) (Value q) OutOfRange
+checked q = cond (in_range q) (Some q) None
 
 -- document 01's number for each case: 11 is 'number range', 0 no refusal
 abbrev pub refusal : Checked → ℕ
-refusal (Value q) = 0
-refusal OutOfRange = 11
+refusal (Some q) = 0
+refusal None = 11
 
 -- so it is 11 outside the range and nowhere else
 pub refusal_of_checked : (q : Rational) → refusal (checked q) ≡ cond (in_range q) 0 11
 unfolding checked
 refusal_of_checked q = go (in_range q)
   where
-    go : (t : Bool) → refusal (cond t (Value q) OutOfRange) ≡ cond t 0 11
+    go : (t : Bool) → refusal (cond t (Some q) None) ≡ cond t 0 11
     go true = refl
     go false = refl
 
@@ -159,7 +161,7 @@ pub record Makes (r q : Rational) : Type 0 where
 pub record Gives (r a : Checked) : Type 0 where
   pub is : r ≡ a
   pub number : refusal r ≡ refusal a
-  pub proper : (q : Rational) → r ≡ Value q → Proper q
+  pub proper : (q : Rational) → r ≡ Some q → Proper q
 
 -- ---- examples
 
@@ -188,6 +190,6 @@ past_the_range : refusal (checked (add_q (whole (pos 2147483647)) (whole (pos 1)
 unfolding checked in_range add_q lowest gcd gcd_within
 past_the_range = refl
 
-last_in_range : checked (add_q (whole (pos 2147483646)) (whole (pos 1))) ≡ Value (whole (pos 2147483647))
+last_in_range : checked (add_q (whole (pos 2147483646)) (whole (pos 1))) ≡ Some (whole (pos 2147483647))
 unfolding checked in_range add_q lowest gcd gcd_within
 last_in_range = refl

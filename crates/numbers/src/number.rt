@@ -1,5 +1,6 @@
 // Rational numbers: rug's `Rational` as two machine numbers. A number is n/d in lowest terms, d at least 1, |n| and d
-// at most 2147483647. An operation that can leave this range answers `Checked`; `neg`, `abs` and `floor` cannot.
+// at most 2147483647. An operation that can leave this range answers None then, which is refusal 11; `neg`, `abs` and
+// `floor` cannot.
 ghost use Rattle.std.specs.Prelude.{◌≡◌, nat_abs, pos, ◌<ℤ◌};
 ghost use Rattle.numbers.specs.Rational.{Proper, Divisor, Makes, Gives, frac, whole, gcd, lowest, checked, mul_q};
 ghost use Rattle.numbers.specs.Rational.{div_q, add_q, neg_q, abs_q, floor_q, is_integer, is_zero, is_positive, eq_q};
@@ -8,18 +9,10 @@ ghost use Rattle.numbers.specs.Bytes.{number_at, put_number};
 
 use crate::bytes::{complement, read_u32, room, signed, write_u32};
 
-#[derive(Clone, Copy)]
+#[derive(Clone, Copy, Debug, PartialEq, Eq)]
 pub struct Number {
     pub num: i64,
     pub den: i64,
-}
-
-// The answer of an operation that can leave the range.
-#[derive(Clone, Copy)]
-pub enum Checked {
-    Value(Number),
-    // Refusal 11.
-    OutOfRange,
 }
 
 const LIMIT: u64 = 2147483647;
@@ -44,24 +37,22 @@ pub fn gcd(a: u64, b: u64) -> u64
 pub fn magnitude(n: i64) -> u64
     ensures { result ≡ nat_abs n }
 {
-    if n < 0 { (-1 - n) as u64 + 1 } else { n as u64 }
+    n.unsigned_abs()
 }
 
 // n/d as a number, if it is in range.
-fn in_range(n: i64, d: i64) -> Checked
+fn in_range(n: i64, d: i64) -> Option<Number>
     ensures { result ≡ checked (frac n d) }
 {
-    if LIMIT < magnitude(n) {
-        return Checked::OutOfRange;
+    if magnitude(n) <= LIMIT && magnitude(d) <= LIMIT {
+        Some(Number { num: n, den: d })
+    } else {
+        None
     }
-    if LIMIT < magnitude(d) {
-        return Checked::OutOfRange;
-    }
-    Checked::Value(Number { num: n, den: d })
 }
 
 // n/d put in lowest terms, and then tested. A whole number is in lowest terms, and most numbers are whole.
-fn reduced(n: i64, d: i64) -> Checked
+fn reduced(n: i64, d: i64) -> Option<Number>
     requires { pos 0 <ℤ d }
     ensures { Gives result (checked (lowest n d)) }
 {
@@ -80,28 +71,20 @@ impl Number {
         Number { num: n, den: 1 }
     }
 
-    pub fn mul(self, other: Number) -> Checked
+    pub fn mul(self, other: Number) -> Option<Number>
         requires { Proper self × Proper other }
         ensures { Gives result (checked (mul_q self other)) }
     {
-        let an = self.num;
-        let ad = self.den;
-        let bn = other.num;
-        let bd = other.den;
-        reduced(an * bn, ad * bd)
+        reduced(self.num * other.num, self.den * other.den)
     }
 
     // The quotient by a number that is not 0; a divisor's sign moves to the numerator.
-    pub fn div(self, other: Number) -> Checked
+    pub fn div(self, other: Number) -> Option<Number>
         requires { Proper self × Divisor other }
         ensures { Gives result (checked (div_q self other)) }
     {
-        let an = self.num;
-        let ad = self.den;
-        let bn = other.num;
-        let bd = other.den;
-        let n = an * bd;
-        let d = ad * bn;
+        let n = self.num * other.den;
+        let d = self.den * other.num;
         if d < 0 {
             reduced(-n, -d)
         } else {
@@ -109,36 +92,33 @@ impl Number {
         }
     }
 
-    pub fn add(self, other: Number) -> Checked
+    pub fn add(self, other: Number) -> Option<Number>
         requires { Proper self × Proper other }
         ensures { Gives result (checked (add_q self other)) }
     {
-        let an = self.num;
-        let ad = self.den;
-        let bn = other.num;
-        let bd = other.den;
-        reduced(an * bd + bn * ad, ad * bd)
+        reduced(
+            self.num * other.den + other.num * self.den,
+            self.den * other.den,
+        )
     }
 
     pub fn neg(self) -> Number
         requires { Proper self }
         ensures { Makes result (neg_q self) }
     {
-        let n = self.num;
-        let d = self.den;
-        Number { num: -n, den: d }
+        Number {
+            num: -self.num,
+            ..self
+        }
     }
 
     pub fn abs(self) -> Number
         requires { Proper self }
         ensures { Makes result (abs_q self) }
     {
-        let n = self.num;
-        let d = self.den;
-        if n < 0 {
-            Number { num: -n, den: d }
-        } else {
-            Number { num: n, den: d }
+        Number {
+            num: self.num.abs(),
+            ..self
         }
     }
 
@@ -147,34 +127,28 @@ impl Number {
         requires { Proper self }
         ensures { Makes result (floor_q self) }
     {
-        let n = self.num;
-        let d = self.den;
-        if d == 1 {
-            return Number::whole(n);
+        if self.den == 1 {
+            return self;
         }
-        let down = if n < 0 { -1 - (-1 - n) / d } else { n / d };
-        Number::whole(down)
+        Number::whole(self.num.div_euclid(self.den))
     }
 
     pub fn is_integer(self) -> bool
         ensures { result ≡ is_integer self }
     {
-        let d = self.den;
-        d == 1
+        self.den == 1
     }
 
     pub fn is_zero(self) -> bool
         ensures { result ≡ is_zero self }
     {
-        let n = self.num;
-        n == 0
+        self.num == 0
     }
 
     pub fn is_positive(self) -> bool
         ensures { result ≡ is_positive self }
     {
-        let n = self.num;
-        0 < n
+        0 < self.num
     }
 
     // Whether the product is a whole number. `strengthen` asks this alone, so the product itself need not be in range.
@@ -182,43 +156,27 @@ impl Number {
         requires { Proper self × Proper other }
         ensures { result ≡ is_integer (mul_q self other) }
     {
-        let an = self.num;
-        let ad = self.den;
-        let bn = other.num;
-        let bd = other.den;
-        magnitude(an * bn) % magnitude(ad * bd) == 0
+        magnitude(self.num * other.num) % magnitude(self.den * other.den) == 0
     }
 
     pub fn eq(self, other: Number) -> bool
         ensures { result ≡ eq_q self other }
     {
-        let an = self.num;
-        let ad = self.den;
-        let bn = other.num;
-        let bd = other.den;
-        if an == bn { ad == bd } else { false }
+        self == other
     }
 
     pub fn less(self, other: Number) -> bool
         requires { Proper self × Proper other }
         ensures { result ≡ less_q self other }
     {
-        let an = self.num;
-        let ad = self.den;
-        let bn = other.num;
-        let bd = other.den;
-        an * bd < bn * ad
+        self.num * other.den < other.num * self.den
     }
 
     pub fn less_eq(self, other: Number) -> bool
         requires { Proper self × Proper other }
         ensures { result ≡ less_eq_q self other }
     {
-        let an = self.num;
-        let ad = self.den;
-        let bn = other.num;
-        let bd = other.den;
-        an * bd <= bn * ad
+        self.num * other.den <= other.num * self.den
     }
 
     // The number in the eight bytes at `at`: four of numerator, four of denominator. Bytes that hold no number, and
@@ -230,7 +188,7 @@ impl Number {
             let n = signed(read_u32(s, at));
             let d = read_u32(s, at + 4);
             if 1 <= d {
-                if let Checked::Value(q) = in_range(n, d as i64) {
+                if let Some(q) = in_range(n, i64::from(d)) {
                     return q;
                 }
             }
@@ -243,10 +201,8 @@ impl Number {
         ensures { s.new ≡ put_number self s.old at }
     {
         if room(s, at, 8) {
-            let n = self.num;
-            let d = self.den;
-            write_u32(s, at, complement(n));
-            write_u32(s, at + 4, complement(d));
+            write_u32(s, at, complement(self.num));
+            write_u32(s, at + 4, complement(self.den));
         }
     }
 }

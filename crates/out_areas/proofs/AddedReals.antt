@@ -1,16 +1,15 @@
 -- An inferred number as an argument: what is written behind the run and the tail.
---     inside-tail, tail-stored, front-places       the tail that is written, as the front of its area
+--     inside-tail, tail-stored       the tail that is written, as the front of its area
 --     real-full, real_in_book, real_in_tail, real-added       `add_real`: where the areas are full, and by where the constant stands
 use mathlib.Core.Path.{◌≡◌, refl, sym, ap, ap₂, subst, ◌∙◌}
 use mathlib.Core.Bool.{Bool, true, false}
 use mathlib.Core.List.{List, [], ◌∷◌, ◌++◌}
-use mathlib.Core.Option.{Option, some, none}
-use Prim.Native.Nat.{ℕ, ◌+◌, ◌-◌, ◌/◌, ◌≤◌, ◌<◌}
-use native.Mathlib.Nat.{sub-zero}
+use Rattle.std.specs.Prelude.{Option, Some, None}
+use Prim.Native.Nat.{ℕ, ◌+◌, ◌/◌, ◌≤◌, ◌<◌}
 use native.Mathlib.Omega.{arith}
 use borrow.Author.Tests.{lt-ltb, le-ltb}
 use lib.Dec.{ltb}
-use lib.ListN.{length, take, length-append, length-take}
+use lib.ListN.{length, take, length-append}
 use Rattle.numbers.specs.Rational.{Rational, Proper}
 use Rattle.numbers.specs.Bytes.{Bytes}
 use Rattle.terms.specs.Book.{count}
@@ -33,14 +32,8 @@ module _ (b o t : Bytes) (out : Out) (w : Written) (e : out.full ≡ false) (h :
       let f : Fit b (length o) (length t) w = fit_of s.room in
       omega (arith, f.tail, s.tail_size)
 
-  pub tail-stored : (take (out.tail - 0) t ≡ tail_bytes w.tail) × Every Proper w.tail
-  tail-stored =
-      let s = holds-stored b o t out w e h in
-      (ap (λ n. take n t) (sub-zero out.tail) ∙ s.tail, s.proper)
-
--- a place in a front is one in the whole
-pub front-places : (k n : ℕ) (t : Bytes) → k ≤ length (take n t) / 32 → k ≤ length t / 32
-front-places k n t h = omega (arith, h, length-take n t)
+  pub tail-stored : (take out.tail t ≡ tail_bytes w.tail) × Every Proper w.tail
+  tail-stored = let s = holds-stored b o t out w e h in (s.tail, s.proper)
 
 -- ---- an inferred number
 
@@ -65,8 +58,8 @@ module _ (b : Bytes) (q : Rational) where
   -- what is written, by what was found
   abbrev added : Option ℕ → Written → Written
   added x w = elim x [
-    | some i ↦ with_arg i w
-    | none ↦ written (w.run ++ record_bytes A 0 (count b + place_in w.tail q)) (with_tail w.tail q)
+    | Some i ↦ with_arg i w
+    | None ↦ written (w.run ++ record_bytes A 0 (count b + place_in w.tail q)) (with_tail w.tail q)
   ]
 
   added_is : (x : Option ℕ) → found ≡ x → (w : Written) → add_real b w q ≡ added x w
@@ -81,8 +74,8 @@ module _ (b : Bytes) (q : Rational) where
   real-longer w = subst (Longer w) (sym (added_is found refl w)) (go found)
     where
       go : (x : Option ℕ) → Longer w (added x w)
-      go (some i) = arg-longer i w
-      go none = record { run = (arg-longer (count b + place_in w.tail q) w).run; tail = tail-longer w.tail q }
+      go (Some i) = arg-longer i w
+      go None = record { run = (arg-longer (count b + place_in w.tail q) w).run; tail = tail-longer w.tail q }
 
   -- the pieces, by what was found and by whether the tail has the constant
   module _ (f : Written → Bool) (s : Writing) where
@@ -91,8 +84,8 @@ module _ (b : Bytes) (q : Rational) where
 
     abbrev pieces_by : Option ℕ → Bool → Writing
     pieces_by x y = elim x [
-      | some i ↦ more f (with_arg i) s
-      | none ↦ elim y [ true ↦ more f (with_arg place) s | false ↦ more f (with_arg place) (more f (with_constant q) s) ]
+      | Some i ↦ more f (with_arg i) s
+      | None ↦ elim y [ true ↦ more f (with_arg place) s | false ↦ more f (with_arg place) (more f (with_constant q) s) ]
     ]
 
     pieces_by_lem :
@@ -106,9 +99,9 @@ module _ (b : Bytes) (q : Rational) where
     real_stays e = pieces_by_lem refl refl ∙ go found (ltb (place_in s.done.tail q) (length s.done.tail))
       where
         go : (x : Option ℕ) (y : Bool) → pieces_by x y ≡ s
-        go (some i) y = more-full f _ s e
-        go none true = more-full f _ s e
-        go none false = ap (more f (with_arg place)) (more-full f _ s e) ∙ more-full f _ s e
+        go (Some i) y = more-full f _ s e
+        go None true = more-full f _ s e
+        go None false = ap (more f (with_arg place)) (more-full f _ s e) ∙ more-full f _ s e
 
     -- the run does not become shorter
     pub real_runs : length s.done.run ≤ length (more_real f b q s).done.run
@@ -120,9 +113,9 @@ module _ (b : Bytes) (q : Rational) where
         arg n z = more_runs f (with_arg n) z (λ w. (arg-longer n w).run)
 
         go : (x : Option ℕ) (y : Bool) → length s.done.run ≤ length (pieces_by x y).done.run
-        go (some i) y = arg i s
-        go none true = arg place s
-        go none false =
+        go (Some i) y = arg i s
+        go None true = arg place s
+        go None false =
             let first = more_runs f (with_constant q) s (λ w. (constant-longer q w).run) in
             omega (arith, first, arg place (more f (with_constant q) s))
 
@@ -133,26 +126,26 @@ module _ (b : Bytes) (q : Rational) where
 
   -- the code counts n records and finds record i
   module _ (n i : ℕ) (counted : n ≡ count b) (looked : i ≡ place_or (find_real (count b) b q 0) (count b)) where
-    in_book : i < n → found ≡ some i
+    in_book : i < n → found ≡ Some i
     unfolding found
     in_book l = go (find_real (count b) b q 0) looked
       where
-        go : (x : Option ℕ) → i ≡ place_or x (count b) → x ≡ some i
-        go (some j) e = ap some (sym e)
-        go none e = absurd (omega (arith, l, counted, e))
+        go : (x : Option ℕ) → i ≡ place_or x (count b) → x ≡ Some i
+        go (Some j) e = ap Some (sym e)
+        go None e = absurd (omega (arith, l, counted, e))
 
-    not_in_book : n ≤ i → found ≡ none
+    not_in_book : n ≤ i → found ≡ None
     unfolding found
     not_in_book l = go (find_real (count b) b q 0) refl looked
       where
-        go : (x : Option ℕ) → find_real (count b) b q 0 ≡ x → i ≡ place_or x (count b) → x ≡ none
-        go (some j) f e = absurd (omega (arith, l, counted, e, (found-real (count b) b q 0 j f).0))
-        go none f e = refl
+        go : (x : Option ℕ) → find_real (count b) b q 0 ≡ x → i ≡ place_or x (count b) → x ≡ None
+        go (Some j) f e = absurd (omega (arith, l, counted, e, (found-real (count b) b q 0 j f).0))
+        go None f e = refl
 
     pub real_in_book :
         {o o' t : Bytes} {out r : Out} → i < n → WritesOne b o t out o' t r (with_arg i) → WritesReal o t out o' t r
     real_in_book l x =
-        writes_as x (λ w h. sym (added_is (some i) (in_book l) w)) (λ s h. sym (pieces_by_lem _ s (in_book l) refl))
+        writes_as x (λ w h. sym (added_is (Some i) (in_book l) w)) (λ s h. sym (pieces_by_lem _ s (in_book l) refl))
 
     module _ (l : n ≤ i) (k : ℕ) where
       lacked :
@@ -160,7 +153,7 @@ module _ (b : Bytes) (q : Rational) where
           written (w.run ++ record_bytes A 0 (n + k)) tail ≡ add_real b w q
       lacked w tail e g =
           ap₂ (λ (m : ℕ) (t : List Rational). written (w.run ++ record_bytes A 0 m) t) (ap₂ ◌+◌ counted e) (sym g)
-          ∙ sym (added_is none (not_in_book l) w)
+          ∙ sym (added_is None (not_in_book l) w)
 
       module _ (o t : Bytes) (out : Out) (e : out.full ≡ false)
           (placed : (b o : Bytes) (w : Written) → out.full ≡ false → Holds b o t out w → k ≡ place_in w.tail q) where

@@ -2,16 +2,15 @@
 --     head-back       its S record, since reading tests the mark and the number
 --     row_back       a row of records, each with its mark and the byte 0, is its numbers as they are written
 --     copied, length-copied       the bytes of a step are its S record and its rows; only the rule differs
---     rule_six, rule-other       the function `elaborated_rule`
 --     add_nothing, add-full, add-copied       the function `add_step`
 use mathlib.Core.Path.{◌≡◌, refl, sym, ap, ap₂, ◌∙◌}
 use mathlib.Core.Bool.{Bool, true, false, ◌&&◌}
 use mathlib.Core.List.{List, [], ◌∷◌, ◌++◌}
-use mathlib.Core.Option.{Option, some, none}
+use Rattle.std.specs.Prelude.{Option, Some, None}
 use Prim.Native.Nat.{ℕ, suc, ◌+◌, ◌*◌, ◌/◌, ◌%◌, ◌≤◌, ◌<◌}
 use native.Mathlib.Nat.{zero-add, suc-add, mod-eq_of_lt}
 use native.Mathlib.Omega.{arith}
-use borrow.Author.Tests.{eqb-true, eq-eqb}
+use borrow.Author.Tests.{eqb-true}
 use lib.Dec.{eqb, leb}
 use lib.ListN.{length, get_or, take, drop, set, length-set, length-append}
 use lib.Seq.{paste, take-length, set-append_left, get_or-drop, length-take-le}
@@ -19,10 +18,9 @@ use Rattle.numbers.specs.Bytes.{Bytes, bytes_of, le}
 use Rattle.numbers.proofs.Truths.{both, never}
 use Rattle.terms.proofs.NumberedNodes.{record_number-tree}
 use Rattle.numbers.proofs.LittleEndian.{le_of_two}
-use Rattle.rules.specs.Memory.Parts.{numbers_in, named, terms_in, is_some}
+use Rattle.rules.specs.Memory.Parts.{numbers_in, named, terms_in}
+use Rattle.std.specs.Prelude.{is_some}
 use Rattle.runs.specs.Rule.{Rule, rule_number, rule_of}
-use Rattle.runs.specs.Rule.Rule.{assume, la_rw_eq, la_disequality, la_totality, la_tautology, la_generic, bounded_farkas}
-use Rattle.runs.specs.Rule.Rule.{poly_simp, poly_simp_rel}
 use Rattle.runs.specs.Run.{Step, Rec, rec, S, P, C, A, recs, leading, all_right, numbers_of, head_rule, record_bytes}
 use Rattle.runs.specs.Run.{premise_bytes, term_bytes}
 use Rattle.runs.specs.Memory.StepParts.{leading_in, after_in, premises_in, clause_in, args_in, bytes_in, head_in, rule_in}
@@ -35,7 +33,7 @@ use Rattle.runs.proofs.RowRecords.{number_bytes, record_numbers, premises-are-nu
 use Rattle.runs.proofs.RowRecords.{length-number_bytes}
 use Rattle.out_areas.proofs.Pieces.{more-full, writes-full, writes-run, unwritten_run}
 use Rattle.out_areas.proofs.OutAreas.{both-le, not-both}
-use Rattle.runs.proofs.Rules.{rule-number, same-rule}
+use Rattle.runs.proofs.Rules.{rule-number}
 use Rattle.runs.proofs.Standing.{Tested, stands-tested, stands_record, stands-rule}
 
 abbrev pub Octets : Bytes → Type 0
@@ -51,16 +49,16 @@ octets_after m q = octets_drop (4 * length (leading m (recs q))) q
 -- ---- an S record is written as it stands
 
 -- an S record that has a rule has its mark, and the number 0
-head-marked : (s : Rec) {r : Rule} → head_rule s ≡ some r → (eqb s.mark S && eqb s.number 0) ≡ true
+head-marked : (s : Rec) {r : Rule} → head_rule s ≡ Some r → (eqb s.mark S && eqb s.number 0) ≡ true
 unfolding head_rule
 head-marked s {r} e = go (eqb s.mark S && eqb s.number 0) e
   where
-    go : (t : Bool) → elim t as (λ x. Option Rule) [ true ↦ rule_of s.byte | false ↦ none ] ≡ some r → t ≡ true
+    go : (t : Bool) → elim t as (λ x. Option Rule) [ true ↦ rule_of s.byte | false ↦ None ] ≡ Some r → t ≡ true
     go true e = refl
     go false e = never (ap is_some e)
 
 head-back :
-    (part : Bytes) {r : Rule} → 4 ≤ length part → head_rule (head_in part) ≡ some r →
+    (part : Bytes) {r : Rule} → 4 ≤ length part → head_rule (head_in part) ≡ Some r →
     take 4 part ≡ record_bytes S (get_or part 1 0) 0
 unfolding head_in bytes_of
 head-back [] h e = absurd (omega (arith, h))
@@ -182,23 +180,6 @@ module _ {b run part : Bytes} (stands : StandsIn b run part) (small : Octets par
   byte-rule : {c : ℕ} → c ≡ get_or part 1 0 → c ≡ rule_number (rule_in part)
   byte-rule c-is = c-is ∙ sym (rule-number (get_or part 1 0) (rule_in part) (stands-rule stands))
 
--- ---- the function `elaborated_rule`
-
-pub rule_six : (r : Rule) {n : ℕ} → n ≡ rule_number r → n ≡ 6 → 5 ≡ rule_number (elaborated_rule r)
-rule_six r is six =
-    ap (λ x. rule_number (elaborated_rule x)) (same-rule bounded_farkas r (eq-eqb 6 (rule_number r) (sym six ∙ is)))
-
-pub rule-other : (r : Rule) {n : ℕ} → n ≡ rule_number r → (n ≡ 6 → ⊥) → n ≡ rule_number (elaborated_rule r)
-rule-other assume is other = is
-rule-other la_rw_eq is other = is
-rule-other la_disequality is other = is
-rule-other la_totality is other = is
-rule-other la_tautology is other = is
-rule-other la_generic is other = is
-rule-other bounded_farkas is other = absurd (other is)
-rule-other poly_simp is other = is
-rule-other poly_simp_rel is other = is
-
 -- ---- the function `add_step`
 
 -- the areas did not take what was written before
@@ -243,14 +224,15 @@ module _ {b run part : Bytes} (stands : StandsIn b run part) (small : Octets par
       (rw size at (not-both (out.run + n) (length o) 16384 goes left))
 
   pub add-copied :
-      r ≡ true → {o₁ x : Bytes} → x ≡ take n part → o₁ ≡ paste o out.run x (length x) → {rule c : ℕ} →
+      r ≡ true → {o₁ : Bytes} → o₁ ≡ paste o out.run (take n part) (length (take n part)) → {rule c : ℕ} →
       ((x : Rule) → c ≡ rule_number x → rule ≡ rule_number (elaborated_rule x)) → c ≡ get_or part 1 0 →
       WritesOne b o t out (set o₁ (out.run + 1) rule) t
       record { run = out.run + n; tail = out.tail; full = out.full } (with_step s)
-  add-copied taken {o₁} {x} x-is o₁-is {rule} rule_is c-is =
+  add-copied taken {o₁} o₁-is {rule} rule_is c-is =
+      let x : Bytes = take n part in
       let room = both-le (out.run + n) (length o) 16384 goes taken in
       let new = rule_is (rule_in part) (byte-rule stands small c-is) in
-      let same : step_bytes s ≡ set x 1 rule = rw (x-is, n-is, new) (copied stands small) in
+      let same : step_bytes s ≡ set x 1 rule = rw (n-is, new) (copied stands small) in
       let long : 1 < length x =
       omega (
         arith,

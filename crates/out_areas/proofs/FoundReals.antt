@@ -6,7 +6,7 @@
 use mathlib.Core.Path.{◌≡◌, refl, sym, ap, subst, ◌∙◌}
 use mathlib.Core.Bool.{Bool, true, false}
 use mathlib.Core.List.{List, [], ◌∷◌, ◌++◌}
-use mathlib.Core.Option.{Option, some}
+use Rattle.std.specs.Prelude.{Option, Some}
 use Prim.Native.Nat.{ℕ, zero, suc, ◌+◌, ◌*◌, ◌-◌, ◌/◌, ◌≤◌, ◌<◌}
 use native.Mathlib.Nat.{zero-add, sub-zero}
 use native.Mathlib.Numerals.{add-one}
@@ -20,21 +20,21 @@ use Rattle.terms.specs.Term.{Term, Terms}
 use Rattle.terms.specs.Term.Term.{integer, rational, bitvector, atom, op}
 use Rattle.terms.specs.Book.{record_of, kind, tree}
 use Rattle.terms.specs.Readers.{as_number, Finds}
-use Rattle.terms.specs.declared.term.Reading.{Reading}
-use Rattle.terms.specs.declared.term.Reading.TheVariants.{Value}
 use Rattle.terms.proofs.RecordReadings.{Node, record_node}
 use Rattle.terms.proofs.RecordReadings.Node.{an_integer, a_rational, a_bitvector, an_operation, an_atom}
 use Rattle.out_areas.specs.Farkas.{real_record, is_real, find_real, place_in, tail_bytes, place_or}
 use Rattle.runs.specs.Run.{Every}
 use Rattle.out_areas.proofs.Everywhere.{every_at}
 use Rattle.out_areas.proofs.RealRecord.{tail_bytes-length, length-real}
+use Rattle.terms.specs.Readers.{Reading}
+use Rattle.std.specs.Prelude.{Ok}
 
 -- ---- the function `is_real_lem`
 
 -- a term that is read as a number from a record of kind 2
 value-node :
     {i : ℕ} {r : Bytes} {ts : Terms} {t : Term} (q v : Rational) → Node i r ts t → kind r ≡ 2 →
-    as_number t ≡ Value v → eq_q q v ≡ is_real q t
+    as_number t ≡ Ok v → eq_q q v ≡ is_real q t
 unfolding as_number
 value-node q v (an_integer k t) two e = absurd (omega (arith, k, two))
 value-node q v (a_rational k t) two e = cc
@@ -53,7 +53,7 @@ other-node q (an_atom f g h l) other = refl
 
 -- a reading that is no number is that of no real constant
 unread :
-    (q : Rational) (t : Term) (r : Reading) → ((v : Rational) → r ≡ Value v → ⊥) → r ≡ as_number t → false ≡ is_real q t
+    (q : Rational) (t : Term) (r : Reading) → ((v : Rational) → r ≡ Ok v → ⊥) → r ≡ as_number t → false ≡ is_real q t
 unfolding as_number
 unread q (integer i v) r h e = refl
 unread q (rational i v) r h e = absurd (h v e)
@@ -64,7 +64,7 @@ unread q (op i o ts) r h e = refl
 module _ (b : Bytes) (i : ℕ) (q : Rational) where
   module _ {r : Bytes} {k : ℕ} (r-is : r ≡ record_of b i) (k-is : k ≡ get_or r 0 0) where
     pub is_real_lem :
-        k ≡ 2 → {a : Reading} → Finds a (as_number (tree b i)) → {v : Rational} → a ≡ Value v → {t : Bool} →
+        k ≡ 2 → {a : Reading} → Finds a (as_number (tree b i)) → {v : Rational} → a ≡ Ok v → {t : Bool} →
         t ≡ eq_q q v → t ≡ is_real q (tree b i)
     is_real_lem two found {v} a-is t-is =
         t-is ∙ value-node q v (record_node b i r-is) (sym k-is ∙ two) (sym found.is ∙ a-is)
@@ -73,7 +73,7 @@ module _ (b : Bytes) (i : ℕ) (q : Rational) where
     other-kind other = other-node q (record_node b i r-is) (λ e. other (k-is ∙ e))
 
   pub no_number :
-      {a : Reading} → Finds a (as_number (tree b i)) → ((v : Rational) → a ≡ Value v → ⊥) →
+      {a : Reading} → Finds a (as_number (tree b i)) → ((v : Rational) → a ≡ Ok v → ⊥) →
       false ≡ is_real q (tree b i)
   no_number {a} found h = unread q (tree b i) a h found.is
 
@@ -92,7 +92,7 @@ module _ {b : Bytes} {q : Rational} {n : ℕ} where
     -- by whether record `id` is the constant
     found_by :
         id < n → (t : Bool) → t ≡ is_real q (tree b id) →
-        find_real n b q 0 ≡ elim t [ true ↦ some id | false ↦ find_real (n - suc id) b q (suc id) ]
+        find_real n b q 0 ≡ elim t [ true ↦ Some id | false ↦ find_real (n - suc id) b q (suc id) ]
     unfolding find_real
     found_by h t e =
         let one : n - id ≡ suc (n - suc id) = omega arith in
@@ -114,7 +114,7 @@ module _ {b : Bytes} {q : Rational} {n : ℕ} where
           rw (← n-is, s.left, none_left, find_real)
 
 pub found-real :
-    (k : ℕ) (b : Bytes) (q : Rational) (i j : ℕ) → find_real k b q i ≡ some j →
+    (k : ℕ) (b : Bytes) (q : Rational) (i j : ℕ) → find_real k b q i ≡ Some j →
     (j < i + k) × (is_real q (tree b j) ≡ true)
 unfolding find_real
 found-real zero b q i j e = let z : ◌≡◌ {A = ℕ} 0 1 = cc in absurd (omega arith)
@@ -122,8 +122,8 @@ found-real (suc k) b q i j e = go (is_real q (tree b i)) refl e (found-real k b 
   where
     go :
         (t : Bool) → is_real q (tree b i) ≡ t →
-        ◌≡◌ {A = Option ℕ} (elim t [ true ↦ some i | false ↦ find_real k b q (suc i) ]) (some j) →
-        (find_real k b q (suc i) ≡ some j → (j < suc i + k) × (is_real q (tree b j) ≡ true)) →
+        ◌≡◌ {A = Option ℕ} (elim t [ true ↦ Some i | false ↦ find_real k b q (suc i) ]) (Some j) →
+        (find_real k b q (suc i) ≡ Some j → (j < suc i + k) × (is_real q (tree b j) ≡ true)) →
         (j < i + suc k) × (is_real q (tree b j) ≡ true)
     go true f e rest = let h : i ≡ j = cc in (omega (arith, h), subst (λ x. is_real q (tree b x) ≡ true) h f)
     go false f e rest = let h = rest e in (omega (arith, h.0), h.1)
@@ -188,15 +188,11 @@ module _ {tail : Bytes} {q : Rational} where
             left = λ qs p e. rw add-one (placed_by false left qs p e ∙ omega arith);
           }
 
-      pub placed-found : t ≡ true → PlaceIs tail q k × (k ≤ length tail / 32)
-      placed-found taken = (λ qs p e. sym (placed_by true taken qs p e ∙ omega arith), omega arith)
+      pub placed-found : t ≡ true → PlaceIs tail q k
+      placed-found taken qs p e = sym (placed_by true taken qs p e ∙ omega arith)
 
-    pub placed_end :
-        length tail / 32 ≤ k → PlaceIs tail q (length tail / 32) × (length tail / 32 ≤ length tail / 32)
-    placed_end h = (is, omega arith)
-      where
-        is : PlaceIs tail q (length tail / 32)
-        is qs p e =
-            let all : length qs ≤ k = omega (arith, h, ap length e, tail_bytes-length qs) in
-            let last : k + place_in [] q ≡ length tail / 32 = omega (arith, no_place q, s.most, h) in
-            sym (s.left qs p e ∙ ap (λ l. k + place_in l q) (drop_of_length-le qs all) ∙ last)
+    pub placed_end : length tail / 32 ≤ k → PlaceIs tail q (length tail / 32)
+    placed_end h qs p e =
+        let all : length qs ≤ k = omega (arith, h, ap length e, tail_bytes-length qs) in
+        let last : k + place_in [] q ≡ length tail / 32 = omega (arith, no_place q, s.most, h) in
+        sym (s.left qs p e ∙ ap (λ l. k + place_in l q) (drop_of_length-le qs all) ∙ last)

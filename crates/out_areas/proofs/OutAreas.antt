@@ -3,17 +3,14 @@
 --     holds-back       a refused step is taken back by the counts
 --     none_fits, holds_none       before the first step
 --     holds-stored, stored-holds, holds-unfit, unfit-holds       `Holds` where the areas are not full, and where they are
---     both-le, both-fits, not-both, goes_first, goes-not       the code's test
+--     both-le, not-both       the code's test
 --     Fit, fit_of, fits_of, unfit, unfit-longer       `fits` as inequalities; what is longer than what does not fit does not fit
 use mathlib.Core.Path.{◌≡◌, refl, sym, ap, ap₂, subst, ◌∙◌}
 use mathlib.Core.Bool.{Bool, true, false, ◌&&◌}
 use mathlib.Core.List.{[]}
 use Prim.Native.Nat.{ℕ, ◌+◌, ◌*◌, ◌-◌, ◌/◌, ◌≤◌}
 use native.Mathlib.Omega.{arith}
-use borrow.Author.Rules.{Fits-under}
 use borrow.Author.Tests.{leb-true, le-leb}
-use mir.Syntax.{w64}
-use mir.Val.{Fits}
 use lib.Dec.{leb}
 use lib.ListN.{length, take, drop}
 use lib.Seq.{take-take, drop-drop}
@@ -33,17 +30,8 @@ module _ (k m n : ℕ) {r : Bool} (e : r ≡ (leb k m && leb k n)) where
   pub both-le : r ≡ true → (k ≤ m) × (k ≤ n)
   both-le h = let x = both (leb k m) (leb k n) (sym e ∙ h) in (leb-true k m x.0, leb-true k n x.1)
 
-  pub both-fits : n ≤ 65536 → r ≡ true → Fits w64 k
-  both-fits l h = Fits-under w64 k 65537 (omega (arith, l, (both-le h).1)) tt
-
   pub not-both : r ≡ false → k ≤ m → k ≤ n → ⊥
   not-both h x y = never (sym h ∙ e ∙ ap₂ ◌&&◌ (le-leb k m x) (le-leb k n y))
-
-pub goes_first : (s t : Bool) → s ≡ true → t ≡ (s && t)
-goes_first s t e = rw e
-
-pub goes-not : (s t : Bool) → s ≡ false → false ≡ (s && t)
-goes-not s t e = rw e
 
 pub record Fit (b : Bytes) (m n : ℕ) (w : Written) : Type 0 where
   pub run : length w.run ≤ m

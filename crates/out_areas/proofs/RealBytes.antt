@@ -10,7 +10,7 @@ use native.Mathlib.Omega.{arith}
 use borrow.Author.Tests.{ltb-true}
 use lib.Dec.{ltb, lit≤}
 use lib.IntN.{ℤ, pos, negsuc, nat_abs}
-use lib.ListN.{length, get_or, take, drop, set, replicate, length-set, length-drop}
+use lib.ListN.{length, get_or, take, drop, set, replicate, length-drop}
 use lib.Seq.{get_or-take, get_or-drop, length-take-le}
 use lib.Signed.{lt_z}
 use mir.Facts.{to_z-of_z}
@@ -135,18 +135,11 @@ put-signed b i z h room f {s} sign l-is half_is Full-is =
     rw (Full-is, half_is, l-is, to_z-of_z f)
     (put-add 4 4 (complement 4 z) s b i (complement-below 4 z) room ∙ ap (λ v. put 8 v b i) whole)
 
--- the machine has a number in range exactly
-pub range-kept : (z : ℤ) → nat_abs z ≤ limit → nat_abs (R z) ≤ limit
-range-kept z h = rw (small-back z h) h
-
 record_bytes_lem :
     (q : Rational) →
     put 8 (complement 8 q.den) (put 8 (complement 8 q.num) (set (replicate 32 0) 0 2) 4) 12 ≡ real_record q
 unfolding put put_digits real_record bytes_of
 record_bytes_lem q = refl
-
-pub length-zeros : {r : Bytes} → r ≡ replicate 32 0 → length (set r 0 2) ≡ 32
-length-zeros {r} e = length-set r 0 2 ∙ ap length e
 
 pub put_record :
     {q : Rational} → Proper q → {r half full : Bytes} → r ≡ replicate 32 0 →

@@ -3,7 +3,7 @@
 -- to the tail.
 use Rattle.std.specs.Prelude.{Bool, true, false, ◌&&◌, List, [], ◌∷◌, ◌++◌, ℕ, zero, suc, ◌+◌, ◌*◌, ◌/◌, leb, ltb}
 use Rattle.std.specs.Prelude.{length, replicate}
-use Rattle.std.proofs.Math.Option.{Option, some, none}
+use Rattle.std.specs.Prelude.{Option, Some, None}
 use Rattle.numbers.specs.Rational.{Rational, eq_q}
 use Rattle.numbers.specs.Bytes.{Bytes, bytes_of, complement}
 use Rattle.terms.specs.Term.{Term}
@@ -33,13 +33,13 @@ is_real q (op i o ts) = false
 
 -- the record of a real constant among n, from record i on
 unfoldable pub find_real : ℕ → Bytes → Rational → ℕ → Option ℕ
-find_real zero book q i = none
-find_real (suc n) book q i = elim (is_real q (tree book i)) [ true ↦ some i | false ↦ find_real n book q (suc i) ]
+find_real zero book q i = None
+find_real (suc n) book q i = elim (is_real q (tree book i)) [ true ↦ Some i | false ↦ find_real n book q (suc i) ]
 
 -- the place that was found, or n
 abbrev pub place_or : Option ℕ → ℕ → ℕ
-place_or (some i) n = i
-place_or none n = n
+place_or (Some i) n = i
+place_or None n = n
 
 -- the place of a number in the tail, or the tail's length
 unfoldable pub place_in : List Rational → Rational → ℕ
@@ -61,8 +61,8 @@ with_tail tail q = elim (ltb (place_in tail q) (length tail)) [ true ↦ tail | 
 -- an inferred number as an argument
 unfoldable pub add_real : Bytes → Written → Rational → Written
 add_real book w q = elim (find_real (count book) book q 0) [
-  | some i ↦ written (w.run ++ record_bytes A 0 i) w.tail
-  | none ↦ written (w.run ++ record_bytes A 0 (count book + place_in w.tail q)) (with_tail w.tail q)
+  | Some i ↦ written (w.run ++ record_bytes A 0 i) w.tail
+  | None ↦ written (w.run ++ record_bytes A 0 (count book + place_in w.tail q)) (with_tail w.tail q)
 ]
 
 unfoldable pub add_reals : Bytes → Written → List Rational → Written

@@ -11,18 +11,17 @@ use numbers::bytes::{byte, complement, read_u64, signed_u64, write_u32};
 use numbers::number::Number;
 use terms::format::{FIRST_AT, REAL, RECORD_BYTES, SECOND_AT};
 use terms::records::{count, record};
-use terms::term::{Reading, as_number};
+use terms::term::as_number;
 
 // Whether a record is the real constant q.
 fn is_real(book: &[u8], id: usize, q: Number) -> bool
     ensures { result ≡ is_real q (tree book.now id) }
 {
-    if byte(record(book, id), 0) == REAL {
-        if let Reading::Value(v) = as_number(book, id) {
-            return q.eq(v);
+    byte(record(book, id), 0) == REAL
+        && match as_number(book, id) {
+            Ok(v) => q.eq(v),
+            _ => false,
         }
-    }
-    false
 }
 
 // The record of the real constant q in the book; the number of records where there is none.
@@ -31,12 +30,10 @@ pub(crate) fn find_real(book: &[u8], q: Number) -> usize
         book.now) }
 {
     let n = count(book);
-    let mut id = 0;
-    while id < n {
+    for id in 0..n {
         if is_real(book, id, q) {
             return id;
         }
-        id += 1;
     }
     n
 }
@@ -59,26 +56,21 @@ pub(crate) fn place_in(tail: &[u8], q: Number) -> usize
     ensures upper_bound { result ≤ length tail.now / record_bytes }
 {
     let n = tail.len() / RECORD_BYTES;
-    let mut k = 0;
-    while k < n {
-        let v = real_at(tail, RECORD_BYTES * k);
-        if v.eq(q) {
+    for k in 0..n {
+        if real_at(tail, RECORD_BYTES * k).eq(q) {
             return k;
         }
-        k += 1;
     }
     n
 }
-
-// The upper half of a negative number in two's complement.
-const ALL_ONES: u32 = 4294967295;
 
 // Eight bytes in two's complement, of a number in range.
 fn write_signed(s: &mut [u8], at: usize, n: i64)
     requires { (nat_abs n ≤ limit) × (at + 8 ≤ length s.old) }
     ensures { s.new ≡ put 8 (complement 8 n) s.old at }
 {
-    let sign = if n < 0 { ALL_ONES } else { 0 };
+    // The upper half of a negative number is all ones.
+    let sign = if n < 0 { u32::MAX } else { 0 };
     write_u32(s, at, complement(n));
     write_u32(s, at + 4, sign);
 }
@@ -88,9 +80,7 @@ pub(crate) fn put_real(r: &mut [u8], q: Number)
     requires { Proper q × (r.old ≡ replicate record_bytes 0) }
     ensures { r.new ≡ real_record q }
 {
-    let n = q.num;
-    let d = q.den;
     r[0] = REAL;
-    write_signed(r, FIRST_AT, n);
-    write_signed(r, SECOND_AT, d);
+    write_signed(r, FIRST_AT, q.num);
+    write_signed(r, SECOND_AT, q.den);
 }

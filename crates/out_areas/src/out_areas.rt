@@ -32,35 +32,24 @@ const MAX_BOOK_BYTES: usize = 65536;
 fn goes_in(area: &[u8], at: usize, n: usize, most: usize) -> bool
     ensures { result ≡ (leb (at + n) (length area.now) && leb (at + n) most) }
 {
-    if room(area, at, n) {
-        return at + n <= most;
-    }
-    false
+    room(area, at, n) && at + n <= most
 }
 
 // An argument: an A record of the number n.
 fn add_arg(outrun: &mut [u8], out: Out, n: usize) -> Out
     ensures { (b t : Bytes) → WritesOne b outrun.old t out outrun.new t result (with_arg n) }
 {
-    let at = out.run;
-    let tail = out.tail;
-    let full = out.full;
-    if full {
+    if out.full {
         return out;
     }
-    if goes_in(outrun, at, RUN_RECORD_BYTES, MAX_RUN_BYTES) {
-        let record = [ARGUMENT, 0, (n % 256) as u8, (n / 256 % 256) as u8];
-        paste(outrun, at, &record);
-        return Out {
-            run: at + RUN_RECORD_BYTES,
-            tail,
-            full,
-        };
+    if !goes_in(outrun, out.run, RUN_RECORD_BYTES, MAX_RUN_BYTES) {
+        return Out { full: true, ..out };
     }
+    let record = [ARGUMENT, 0, (n % 256) as u8, (n / 256 % 256) as u8];
+    paste(outrun, out.run, &record);
     Out {
-        run: at,
-        tail,
-        full: true,
+        run: out.run + RUN_RECORD_BYTES,
+        ..out
     }
 }
 
@@ -70,27 +59,19 @@ fn add_constant(book: &[u8], outtail: &mut [u8], out: Out, q: Number) -> Out
     ensures { (o : Bytes) → WritesOne book.now o outtail.old out o
         outtail.new result (with_constant q) }
 {
-    let run = out.run;
-    let at = out.tail;
-    let full = out.full;
-    if full {
+    if out.full {
         return out;
     }
     let left = MAX_BOOK_BYTES - RECORD_BYTES * count(book);
-    if goes_in(outtail, at, RECORD_BYTES, left) {
-        let mut record = [0u8; RECORD_BYTES];
-        put_real(&mut record, q);
-        paste(outtail, at, &record);
-        return Out {
-            run,
-            tail: at + RECORD_BYTES,
-            full,
-        };
+    if !goes_in(outtail, out.tail, RECORD_BYTES, left) {
+        return Out { full: true, ..out };
     }
+    let mut record = [0u8; RECORD_BYTES];
+    put_real(&mut record, q);
+    paste(outtail, out.tail, &record);
     Out {
-        run,
-        tail: at,
-        full: true,
+        tail: out.tail + RECORD_BYTES,
+        ..out
     }
 }
 
@@ -100,11 +81,10 @@ fn place_of(outtail: &[u8], out: Out, q: Number) -> usize
         place_in w.tail q }
     ensures upper_bound { result ≤ length outtail.now / record_bytes }
 {
-    let n = out.tail;
-    if n <= outtail.len() {
-        return place_in(&outtail[0..n], q);
+    if outtail.len() < out.tail {
+        return 0;
     }
-    0
+    place_in(&outtail[..out.tail], q)
 }
 
 // An inferred number as an argument; a constant that neither the book nor the tail has is added to the tail.
@@ -115,8 +95,7 @@ pub fn add_real(book: &[u8], outrun: &mut [u8], outtail: &mut [u8], out: Out, q:
         (more_real (fits book.now (length outrun.old) (length outtail.old))
         book.now q) }
 {
-    let full = out.full;
-    if full {
+    if out.full {
         return out;
     }
     let n = count(book);
@@ -124,9 +103,8 @@ pub fn add_real(book: &[u8], outrun: &mut [u8], outtail: &mut [u8], out: Out, q:
     if i < n {
         return add_arg(outrun, out, i);
     }
-    let tail = out.tail;
     let k = place_of(outtail, out, q);
-    if k < tail / RECORD_BYTES {
+    if k < out.tail / RECORD_BYTES {
         return add_arg(outrun, out, n + k);
     }
     let grown = add_constant(book, outtail, out, q);
@@ -150,25 +128,16 @@ pub fn add_step(outrun: &mut [u8], out: Out, step: &[u8], p: StepParts) -> Out
     ensures { (b t run : Bytes) → StandsIn b run step.now →
         WritesOne b outrun.old t out outrun.new t result (with_step (step_in b step.now)) }
 {
-    let at = out.run;
-    let tail = out.tail;
-    let full = out.full;
-    if full {
+    if out.full {
         return out;
     }
-    let n = p.args;
-    if goes_in(outrun, at, n, MAX_RUN_BYTES) {
-        paste(outrun, at, &step[0..n]);
-        outrun[at + BYTE_AT] = elaborated_rule(byte(step, BYTE_AT));
-        return Out {
-            run: at + n,
-            tail,
-            full,
-        };
+    if !goes_in(outrun, out.run, p.args, MAX_RUN_BYTES) {
+        return Out { full: true, ..out };
     }
+    paste(outrun, out.run, &step[..p.args]);
+    outrun[out.run + BYTE_AT] = elaborated_rule(byte(step, BYTE_AT));
     Out {
-        run: at,
-        tail,
-        full: true,
+        run: out.run + p.args,
+        ..out
     }
 }

@@ -1,26 +1,19 @@
--- Polynomials modulo 2^w: a number as the code makes it, all coefficients of an area, and an area of a stack. The loop
--- over the coefficients has the first k of them reduced (`Reducing`).
+-- Polynomials modulo 2^w: all coefficients of an area, and an area of a stack. The loop over the coefficients has the
+-- first k of them reduced (`Reducing`).
 use mathlib.Core.Path.{◌≡◌, refl, sym, ap, subst, ◌∙◌}
-use mathlib.Core.Bool.{true, false}
-use mathlib.Core.List.{[], ◌∷◌, ◌++◌, append-nil}
+use mathlib.Core.List.{[], ◌∷◌, ◌++◌}
 use Prim.Native.Nat.{ℕ, zero, suc, ◌+◌, ◌*◌, ◌-◌, ◌%◌, ◌^◌, ◌≤◌, ◌<◌}
-use native.Mathlib.Nat.{mod-lt, mod-eq_of_lt, one-le-pow, pow-le-pow_right, one-mul}
+use native.Mathlib.Nat.{mod-eq_of_lt, one-le-pow, pow-le-pow_right, one-mul}
 use native.Mathlib.Numerals.{add-one}
 use native.Mathlib.Omega.{arith}
 use borrow.Author.Tests.{lt-ltb, le-ltb}
 use lib.Dec.{lit≤}
-use lib.IntN.{ℤ, pos, nat_abs}
-use lib.ListN.{length, get_or, take, drop, drop_of_length-le}
-use lib.Seq.{length-take-le, drop-cons, take_all, set-get_or}
-use lib.Signed.{lt_z}
-use mir.Syntax.{w64}
-use mir.Val.{SFits, to_z}
-use mir.Facts.{to_z-of_z}
+use lib.IntN.{ℤ, pos}
+use lib.ListN.{length, get_or, take, drop}
+use lib.Seq.{length-take-le, drop-cons, set-get_or}
 use Rattle.numbers.specs.Rational.{Rational, Proper, Makes, whole, modulo}
 use Rattle.numbers.specs.Bytes.{Bytes, number_at}
-use Rattle.numbers.proofs.Machine.{machine, back, at_negative, at_natural}
 use Rattle.numbers.proofs.Modulo.{modulo_lt}
-use Rattle.numbers.proofs.Ranges.{num, makes}
 use Rattle.index_map.specs.IndexMap.{Map}
 use Rattle.polynomial.specs.Polynomial.{Monomial}
 use Rattle.poly_simp.specs.PolySimp.{modulo_all}
@@ -30,42 +23,9 @@ use Rattle.index_map.proofs.CheckedNumbers.{whole-proper}
 use Rattle.polynomial.proofs.StoredMonomials.{read-key, read-value, write-value}
 use Rattle.polynomial.proofs.StackAreas.{lent-held, lent-put}
 
--- ---- a number
-
--- s is the size of q's numerator, as the machine has that
-module _ {q : Rational} (p : Proper q) (m : ℕ) {s : ℕ} (size : s ≡ nat_abs (machine (num p))) where
-  size_is : s ≡ nat_abs q.num
-  size_is = size ∙ ap nat_abs (back (num p) tt)
-
-  pub negative-size : lt_z (machine (num p)) (pos 0) ≡ true → 1 ≤ s
-  negative-size t = rw size_is (at_negative (λ z. 1 ≤ nat_abs z) (λ k. omega arith) (back (num p) tt) t)
-
-  pub modulo-negative : lt_z (machine (num p)) (pos 0) ≡ true → m - 1 - (s - 1) % m ≡ modulo q.num m
-  modulo-negative t =
-      rw size_is
-      (at_negative (λ z. m - 1 - (nat_abs z - 1) % m ≡ modulo z m)
-      (λ k.
-      let one : suc k - 1 ≡ k = omega arith in
-      let rest : m - 1 - k % m ≡ m - suc (k % m) = omega arith in
-      ap (λ j. m - 1 - j % m) one ∙ rest)
-      (back (num p) tt) t)
-
-  pub modulo_natural : lt_z (machine (num p)) (pos 0) ≡ false → s % m ≡ modulo q.num m
-  modulo_natural t = rw size_is (at_natural (λ z. nat_abs z % m ≡ modulo z m) (λ k. refl) (back (num p) tt) t)
-
-pub modulus-fits : (n m : ℕ) → 1 ≤ m → m ≤ 1073741824 → SFits w64 (pos (n % m))
-modulus-fits n m positive small = record { sfits = omega (arith, mod-lt n positive) }
-
 -- a remainder is in range
 pub modulo-proper : (z : ℤ) (m : ℕ) → 1 ≤ m → m ≤ 1073741824 → Proper (whole (pos (modulo z m)))
 modulo-proper z m positive small = whole-proper (pos (modulo z m)) (omega (arith, modulo_lt m positive z))
-
-pub modulo-makes :
-    (z : ℤ) (m : ℕ) → 1 ≤ m → m ≤ 1073741824 → {x : ℕ} → x ≡ modulo z m → {r : Rational} → r ≡ whole (to_z w64 x) →
-    Makes r (whole (pos (modulo z m)))
-modulo-makes z m positive small {x} is made =
-    let fits : SFits w64 (pos x) = record { sfits = omega (arith, modulo_lt m positive z) } in
-    makes (made ∙ ap whole (to_z-of_z fits ∙ ap pos is)) (modulo-proper z m positive small)
 
 -- ---- all coefficients
 
@@ -91,13 +51,12 @@ module _ (n : ℕ) where
   one_more (suc k) (e ∷ m) h = ap (λ z. reduced_entry n e ∷ z) (one_more k m (omega arith))
 
 pub record Reducing (w₀ : Bytes) (n m : ℕ) (w : Bytes) (k : ℕ) : Type 0 where
-  pub inside : k ≤ n
   pub size : length w ≡ length w₀
   pub held : (b : Bytes) (p : Map Monomial) → Held b w₀ p → n ≡ length p → Held b w (partly m k p)
 
 pub reducing_none : {w₀ : Bytes} {n m : ℕ} → Reducing w₀ n m w₀ 0
 unfolding modulo_all
-reducing_none = record { inside = omega arith; size = refl; held = λ b p held long. held }
+reducing_none = record { size = refl; held = λ b p held long. held }
 
 module _ {w₀ : Bytes} {n m : ℕ} {w : Bytes} {k : ℕ} (i : Reducing w₀ n m w k) where
   pub reducing_more :
@@ -106,7 +65,6 @@ module _ {w₀ : Bytes} {n m : ℕ} {w : Bytes} {k : ℕ} (i : Reducing w₀ n m
       w' ≡ put_entry w k key r → Reducing w₀ n m w' (k + 1)
   reducing_more h positive small {key} {w'} {v} {r} is_key is-v is-r same put =
       record {
-        inside = omega arith;
         size = same ∙ i.size;
         held =
             λ b p held long.
@@ -127,13 +85,6 @@ module _ {w₀ : Bytes} {n m : ℕ} {w : Bytes} {k : ℕ} (i : Reducing w₀ n m
             write-value front e (drop (suc k) p) here (reduced_entry m e).1 proper)) in
             rw (put, add-one, sym (one_more m k p among)) written;
       }
-
-  pub reducing_done :
-      n ≤ k → (b : Bytes) (p : Map Monomial) → Held b w₀ p → n ≡ length p → Held b w (modulo_all m p)
-  reducing_done h b p held long =
-      let over : length p ≤ k = omega arith in
-      let all : partly m k p ≡ modulo_all m p = rw (take_all k p over, drop_of_length-le p {i = k} over, append-nil) in
-      subst (λ z. Held b w z) all (i.held b p held long)
 
 -- ---- an area of a stack
 

@@ -8,7 +8,7 @@ use lib.ListN.{length}
 use Rattle.numbers.specs.Rational.{Rational, Proper, is_zero}
 use Rattle.numbers.specs.Bytes.{Bytes}
 use Rattle.rules.specs.Refusal.{◌>>=◌, assert}
-use Rattle.rules.specs.Refusal.Outcome.{ok}
+use Rattle.std.specs.Prelude.{Ok}
 use Rattle.rules.specs.Refusal.Refusal.{polynomials_not_equal}
 use Rattle.rules.specs.Limits.{limited}
 use Rattle.index_map.specs.IndexMap.{Map, combination, sub}
@@ -47,13 +47,14 @@ one_area t has = (omega (arith, stack-room t), rw has.size t.good.0.few)
 
 -- ---- `differ`
 
-nought : (m : Map Monomial) (c : Rational) {t : Bool} → length m ≡ 0 → is_zero c ≡ t → is_nought (combination m c) ≡ t
+nought : (m : Map Monomial) (c : Rational) → length m ≡ 0 → is_zero c ≡ true → is_nought (combination m c) ≡ true
 nought [] c e z = z
 nought (x ∷ m) c e z = absurd (omega arith)
 
-some-entries : (m : Map Monomial) (c : Rational) → (length m ≡ 0 → ⊥) → is_nought (combination m c) ≡ false
-some-entries [] c h = absurd (h refl)
-some-entries (x ∷ m) c h = refl
+not-nought :
+    (m : Map Monomial) (c : Rational) → (length m ≡ 0 → is_zero c ≡ false) → is_nought (combination m c) ≡ false
+not-nought [] c h = h refl
+not-nought (x ∷ m) c h = refl
 
 -- p and q are reduced in their areas, to p' and q'
 module _
@@ -118,7 +119,7 @@ module _
           (t : Bool) (b : Bytes) (u v : Map Monomial) → Stacked b w₀ (u ∷ v ∷ []) → PolyHas p u → PolyHas q v →
           (l : ℕ) →
           ((m : Map Monomial) → s.len ≡ length m → is_nought (combination m s.constant) ≡ t) →
-          DiffersLeft b w₄ (verdict_of (assert t polynomials_not_equal >>= λ x. ok n))
+          DiffersLeft b w₄ (verdict_of (assert t polynomials_not_equal >>= λ x. Ok n))
           (differs (limited l) sort (poly_with p u) (poly_with q v) n)
       unfolding differs ◌>>=◌
       tested z b u v t has has' l test =
@@ -133,12 +134,7 @@ module _
       differ-equal none zero b u v t has has' l =
           tested true b u v t has has' l (λ m e. nought m s.constant (sym e ∙ none) zero)
 
-      pub differ-constant : s.len ≡ 0 → is_zero s.constant ≡ false → Differs w₄ (verdict.Refused 36)
+      pub differ-unequal : (s.len ≡ 0 → is_zero s.constant ≡ false) → Differs w₄ (verdict.Refused 36)
       unfolding assert ◌>>=◌
-      differ-constant none zero b u v t has has' l =
-          tested false b u v t has has' l (λ m e. nought m s.constant (sym e ∙ none) zero)
-
-      pub differ-entries : (s.len ≡ 0 → ⊥) → Differs w₄ (verdict.Refused 36)
-      unfolding assert ◌>>=◌
-      differ-entries some b u v t has has' l =
-          tested false b u v t has has' l (λ m e. some-entries m s.constant (λ z. some (e ∙ z)))
+      differ-unequal some b u v t has has' l =
+          tested false b u v t has has' l (λ m e. not-nought m s.constant (λ z. some (e ∙ z)))

@@ -15,17 +15,13 @@ use Rattle.terms.specs.Term.{Term, sort, sort_code, record_number, binary}
 use Rattle.terms.specs.Term.Terms.{nil, ◌▹◌}
 use Rattle.terms.specs.Book.{count, record_of, tree, forest, arguments, numbers, arg_bytes, all_below, earlier}
 use Rattle.terms.specs.Readers.{Children, found_two, arguments_of, as_op}
-use Rattle.terms.specs.declared.term.Only.{Only}
-use Rattle.terms.specs.declared.term.Only.TheVariants as only
-use Rattle.terms.specs.declared.term.Two.{Two}
-use Rattle.terms.specs.declared.term.Two.TheVariants as two
 use Rattle.terms.proofs.NumberedNodes.{record_number-tree}
 use Rattle.terms.proofs.Readings.{binary-shape}
 use Rattle.terms.proofs.RecordReadings.{arguments_of_record}
 use Rattle.terms.proofs.RecordBytes.{earlier-before}
 use Rattle.numbers.proofs.Truths.{both}
 use Rattle.rules.specs.Refusal.{Refusal, ◌>>=◌, assert, number}
-use Rattle.rules.specs.Refusal.Outcome.{ok, refused}
+use Rattle.std.specs.Prelude.{Ok, Err}
 use Rattle.rules.specs.Refusal.Refusal.{polynomials_not_equal}
 use Rattle.rules.specs.Limits.{Limits}
 use Rattle.index_map.specs.IndexMap.{sub}
@@ -41,6 +37,7 @@ use Rattle.rules.specs.declared.verdict.Verdict.TheVariants as verdict
 use Rattle.book.proofs.ArgumentsBelow.{args-below}
 use Rattle.rules.proofs.ShapeSteps.{OnlyIn, literal_is}
 use Rattle.poly_simp.proofs.SortBounds.{sort-small, reduced_is}
+use Rattle.std.specs.Prelude.{Option, Some}
 
 -- ---- the records
 
@@ -49,7 +46,7 @@ same_record : (b : Bytes) (a x : ℕ) → tree b a ≡ tree b x → a ≡ x
 same_record b a x e = sym (record_number-tree b a) ∙ ap record_number e ∙ record_number-tree b x
 
 only-inside :
-    (b : Bytes) (l : List ℕ) (x : ℕ) → only_literal (named b l) ≡ ok (tree b x) → all_below (count b) l ≡ true →
+    (b : Bytes) (l : List ℕ) (x : ℕ) → only_literal (named b l) ≡ Ok (tree b x) → all_below (count b) l ≡ true →
     x < count b
 unfolding only_literal named all_below
 only-inside b [] x e h = let z : ◌≡◌ {A = ℕ} 0 1 = cc in absurd (omega arith)
@@ -59,7 +56,7 @@ only-inside b (i ∷ []) x e h =
 only-inside b (i ∷ j ∷ l) x e h = let z : ◌≡◌ {A = ℕ} 0 1 = cc in absurd (omega arith)
 
 pub literal-inside :
-    (b part : Bytes) {r : Only} {x : ℕ} → OnlyIn part r → r ≡ only.Of x → Inside b part → x < count b
+    (b part : Bytes) {r : Option ℕ} {x : ℕ} → OnlyIn part r → r ≡ Some x → Inside b part → x < count b
 literal-inside b part found e inside = only-inside b (numbers_in part) _ (literal_is part b found e) inside
 
 -- two arguments of a record that is laid out as a term
@@ -80,7 +77,7 @@ two-below b i x y (a ∷ c ∷ l) h e =
     )
 
 pub sides-inside :
-    (b : Bytes) (i o : ℕ) {w : Two} {x y : ℕ} → Children b i w (binary o (tree b i)) → w ≡ two.Both x y → Laid b →
+    (b : Bytes) (i o : ℕ) {w : Option (ℕ × ℕ)} {x y : ℕ} → Children b i w (binary o (tree b i)) → w ≡ Some (x, y) → Laid b →
     i < count b → (x < count b) × (y < count b)
 unfolding as_op
 sides-inside b i o {x = x} {y = y} c e laid inside =
@@ -112,19 +109,19 @@ lent_same w is =
 
 module _ (l : Limits) (n : ℕ) (conclusion : Clause) where
   pub no_clause :
-      {r : Refusal} → only_literal conclusion ≡ refused r →
+      {r : Refusal} → only_literal conclusion ≡ Err r →
       verdict.Refused (number r) ≡ verdict_of (poly_simp l conclusion n)
   unfolding poly_simp ◌>>=◌
   no_clause e = rw e
 
-  module _ {phi : Term} (literal : only_literal conclusion ≡ ok phi) where
+  module _ {phi : Term} (literal : only_literal conclusion ≡ Ok phi) where
     pub no_equality :
-        {r : Refusal} → binary_err Equals phi ≡ refused r →
+        {r : Refusal} → binary_err Equals phi ≡ Err r →
         verdict.Refused (number r) ≡ verdict_of (poly_simp l conclusion n)
     unfolding poly_simp ◌>>=◌
     no_equality e = rw (literal, e)
 
-    module _ (b : Bytes) (t s : ℕ) (pair : binary_err Equals phi ≡ ok (pair_of b t s)) where
+    module _ (b : Bytes) (t s : ℕ) (pair : binary_err Equals phi ≡ Ok (pair_of b t s)) where
       sides-are :
           Laid b → t < count b →
           poly_simp l conclusion n ≡ equal_sides l (sort_code (sort (tree b t))) (tree b t) (tree b s) n
@@ -137,7 +134,7 @@ module _ (l : Limits) (n : ℕ) (conclusion : Clause) where
           (λ (f : Polynomial → Polynomial).
           from_term l (tree b t) n >>= λ p. from_term l (tree b s) p.visits >>= λ q.
           sub monomials l (f p.sum) (f q.sum) >>= λ d.
-          assert (is_nought d) polynomials_not_equal >>= λ u. ok q.visits)
+          assert (is_nought d) polynomials_not_equal >>= λ u. Ok q.visits)
           same)
 
       pub sides-verdict :

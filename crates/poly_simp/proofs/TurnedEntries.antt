@@ -1,24 +1,18 @@
--- `sub` of polynomials: the entries of area 1 go with their sign turned into area 0, one by one. With the first k of
--- them entered, entering the rest makes what entering them all makes (`Turning`); area 1 stays as it was, since only
--- area 0 is made anew.
+-- `sub` of polynomials: the entries of area 1 go with their sign turned into area 0, one by one, which is a loop of
+-- EntryTurns (`Turning`); area 1 stays as it was, since only area 0 is made anew.
 use mathlib.Core.Path.{◌≡◌, refl, sym, ap, subst, ◌∙◌}
 use mathlib.Core.List.{List, [], ◌∷◌}
 use Prim.Native.Nat.{ℕ, ◌+◌, ◌*◌, ◌≤◌, ◌<◌}
-use native.Mathlib.Numerals.{add-one}
 use native.Mathlib.Omega.{arith}
-use lib.ListN.{length, get_or, set, drop, drop_of_length-le}
-use lib.Seq.{drop-cons}
+use lib.ListN.{length, get_or, set}
 use Rattle.numbers.specs.Rational.{Rational, Gives, neg_q, add_q, checked}
 use Rattle.numbers.specs.Bytes.{Bytes, number_at}
-use Rattle.numbers.specs.declared.number.Checked.{Checked}
-use Rattle.numbers.specs.declared.number.Checked.TheVariants as answer
-use Rattle.rules.specs.Refusal.{Result, ◌>>=◌}
-use Rattle.rules.specs.Refusal.Outcome.{ok, refused}
+use Rattle.rules.specs.Refusal.{◌>>=◌}
+use Rattle.std.specs.Prelude.{Ok, Err}
 use Rattle.rules.specs.Refusal.Refusal.{number_range}
-use Rattle.rules.specs.Limits.{limited, plus}
+use Rattle.rules.specs.Limits.{Limits, limited, plus}
 use Rattle.index_map.specs.IndexMap.{Map, insert, insert_all, neg_all, add, neg, sub}
 use Rattle.polynomial.specs.Polynomial.{Monomial, monomials}
-use Rattle.rules.specs.Memory.Parts.{Refuses}
 use Rattle.polynomial.specs.Memory.PolynomialArea as area
 use Rattle.polynomial.specs.Memory.PolynomialArea.{no_entry, key_at, part_at, Few, Key, Held, Stacked, InsertsAt, Poly}
 use Rattle.polynomial.specs.Memory.PolynomialArea.{enter_turned, PolyHas, poly_with, inserted_refusal}
@@ -27,9 +21,13 @@ use Rattle.polynomial.specs.declared.monomials.Inserted.TheVariants as inserted
 use Rattle.polynomial.specs.declared.polynomial.Combined.{Combined}
 use Rattle.polynomial.specs.declared.polynomial.Combined.TheVariants as combined
 use Rattle.index_map.proofs.CheckedNumbers.{plus-value, plus_out}
+use Rattle.polynomial.proofs.EntryTurns.{turns, Task, Does, Turned, Looping, loop_begin, loop_more, loop_refused}
+use Rattle.polynomial.proofs.EntryTurns.{loop_done}
 use Rattle.polynomial.proofs.ProductEntries.{key-there, value_there}
 use Rattle.polynomial.proofs.StackAreas.{stack-part, stack-less}
-use Rattle.rules.proofs.Results.{refused-then, coded}
+use Rattle.rules.proofs.Results.{bind-same, refused-then, coded}
+use Rattle.numbers.specs.Rational.{Checked}
+use Rattle.std.specs.Prelude.{Some, None}
 
 -- ---- one entry
 
@@ -55,43 +53,11 @@ enters-turned {w} {key = key} {k = k} {u = u} is_x is_key is_y is-v is-u made b 
 
 -- ---- all entries
 
--- area 0 has len entries; entering those of q from k on into them makes d
-pub record Left (b w : Bytes) (q : Map Monomial) (len k l : ℕ) (d : Result (Map Monomial)) : Type 0 where
-  pub map : Map Monomial
-  pub held : Stacked b w (map ∷ q ∷ [])
-  pub size : len ≡ length map
-  pub is : insert_all monomials (limited l) map (neg_all (drop k q)) ≡ d
-
-first_turned :
-    (l k : ℕ) (m q : Map Monomial) → k < length q →
-    insert_all monomials (limited l) m (neg_all (drop k q))
-    ≡ (enter_turned (limited l) (get_or q k no_entry) m
-    >>= λ m'. insert_all monomials (limited l) m' (neg_all (drop (k + 1) q)))
-unfolding insert_all neg_all enter_turned
-first_turned l k m q h = rw (drop-cons q k no_entry h, add-one)
-
-none_turned :
-    (l k : ℕ) (m q : Map Monomial) → length q ≤ k → insert_all monomials (limited l) m (neg_all (drop k q)) ≡ ok m
-unfolding insert_all neg_all
-none_turned l k m q h = rw (drop_of_length-le q {i = k} h)
-
-module _
-    {b w : Bytes} {q map : Map Monomial} (l k : ℕ) {first d : Result (Map Monomial)}
-    (then : (first >>= λ m. insert_all monomials (limited l) m (neg_all (drop k q))) ≡ d) where
-  left-more :
-      {len : ℕ} → InsertsAt b w (map ∷ q ∷ []) 0 (inserted.Length len) first → Left b w q len k l d
-  unfolding ◌>>=◌
-  left-more e = record { map = e.map; held = e.held; size = e.is.1; is = rw e.is.0 at then }
-
-  left-refused :
-      {c : ℕ} {p : Map Monomial} → InsertsAt b w (map ∷ q ∷ []) 0 (inserted.Refused c) first →
-      InsertsAt b w (p ∷ q ∷ []) 0 (inserted.Refused c) d
-  left-refused {c} e =
-      record {
-        map = e.map;
-        held = e.held;
-        is = (subst (Refuses c) then (refused-then _ e.is.0), e.is.1);
-      }
+turns_all :
+    (l : Limits) (q m : Map Monomial) → turns (enter_turned l) q m ≡ insert_all monomials l m (neg_all q)
+unfolding turns enter_turned insert_all neg_all
+turns_all l [] m = refl
+turns_all l (e ∷ q) m = bind-same (insert monomials l m e.0 (neg_q e.1)) (turns_all l q)
 
 -- all n entries of area 1 are entered into the m of area 0
 abbrev pub TurnsAll : Bytes → Bytes → Inserted → ℕ → ℕ → Type 0
@@ -99,65 +65,61 @@ TurnsAll w w' r n m =
     (b : Bytes) (p q : Map Monomial) → Stacked b w (p ∷ q ∷ []) → n ≡ length q → m ≡ length p → (l : ℕ) →
     InsertsAt b w' (p ∷ q ∷ []) 0 r (insert_all monomials (limited l) p (neg_all q))
 
-pub record Turning (w₀ : Bytes) (n m : ℕ) (w : Bytes) (len k : ℕ) : Type 0 where
-  pub inside : k ≤ n
-  pub few : len ≤ 64
-  pub size : length w ≡ length w₀
-  pub left :
-      (b : Bytes) (p q : Map Monomial) → Stacked b w₀ (p ∷ q ∷ []) → n ≡ length q → m ≡ length p → (l : ℕ) →
-      Left b w q len k l (insert_all monomials (limited l) p (neg_all q))
+pub record TurnCase (w₀ : Bytes) (n m : ℕ) : Type 0 where
+  pub book : Bytes
+  pub left : Map Monomial
+  pub right : Map Monomial
+  pub stack : Stacked book w₀ (left ∷ right ∷ [])
+  pub many : n ≡ length right
+  pub size : m ≡ length left
+  pub limit : ℕ
 
-pub turning_none : {w₀ : Bytes} {n m : ℕ} → m ≤ 64 → Turning w₀ n m w₀ m 0
-turning_none few =
+abbrev pub turn_task : {w₀ : Bytes} {n m : ℕ} → TurnCase w₀ n m → Task
+turn_task i =
     record {
-      inside = omega arith;
-      few = few;
-      size = refl;
-      left = λ b p q t long size l. record { map = p; held = t; size = size; is = refl };
+      book = i.book;
+      areas = i.left ∷ i.right ∷ [];
+      into = 0;
+      turn = enter_turned (limited i.limit);
+      all = i.right;
+      whole = insert_all monomials (limited i.limit) i.left (neg_all i.right);
     }
 
-module _ {w₀ : Bytes} {n m : ℕ} {w : Bytes} {len k : ℕ} (i : Turning w₀ n m w len k) where
-  module _
-      (h : k < n)
-      {w' : Bytes}
-      (same : length w' ≡ length w)
-      {r : Inserted}
-      (few : Few r)
-      (made : EntersTurned w w' r k len) where
-    pub turning_refused : {c : ℕ} → r ≡ inserted.Refused c → TurnsAll w₀ w' r n m
-    turning_refused e b p q t long size l =
-        let left = i.left b p q t long size l in
-        let among : k < length q = omega arith in
-        subst (λ (r : Inserted). InsertsAt b w' (p ∷ q ∷ []) 0 r (insert_all monomials (limited l) p (neg_all q))) (sym e)
-        (left-refused l (k + 1) (sym (first_turned l k left.map q among) ∙ left.is)
-        (rw e at (made b left.map q left.held among left.size l)))
+-- with entry k of area 1, and len entries in area 0
+abbrev pub Turning : Bytes → ℕ → ℕ → Bytes → ℕ → ℕ → Type 0
+Turning w₀ n m w len k = Looping {I = TurnCase w₀ n m} turn_task w₀ n w len k
 
-    pub turning_more : {longer : ℕ} → r ≡ inserted.Length longer → Turning w₀ n m w' longer (k + 1)
-    turning_more e =
-        record {
-          inside = omega arith;
-          few = rw e at few;
-          size = same ∙ i.size;
-          left =
-              λ b p q t long size l.
-              let left = i.left b p q t long size l in
-              let among : k < length q = omega arith in
-              left-more l (k + 1) (sym (first_turned l k left.map q among) ∙ left.is)
-              (rw e at (made b left.map q left.held among left.size l));
-        }
+module _ {w₀ : Bytes} {n m : ℕ} where
+  pub turning_none : m ≤ 64 → Turning w₀ n m w₀ m 0
+  turning_none few =
+      loop_begin few λ i.
+      record { map = i.left; held = i.stack; size = i.size; is = turns_all (limited i.limit) i.right i.left }
 
-  pub turning_done : n ≤ k → (len ≤ 64) × TurnsAll w₀ w (inserted.Length len) n m
-  turning_done h = (
-    i.few,
-    λ b p q t long size l.
-        let left = i.left b p q t long size l in
-        let none : length q ≤ k = omega arith in
-        record {
-          map = left.map;
-          held = left.held;
-          is = (sym left.is ∙ none_turned l k left.map q none, left.size);
-        },
-  )
+  told : {w : Bytes} {r : Inserted} → ((i : TurnCase w₀ n m) → Does (turn_task i) w r) → TurnsAll w₀ w r n m
+  told does b p q stack many size l =
+      does (record { book = b; left = p; right = q; stack = stack; many = many; size = size; limit = l })
+
+  module _ {w : Bytes} {len k : ℕ} (loop : Turning w₀ n m w len k) where
+    module _
+        (h : k < n)
+        {w' : Bytes}
+        (same : length w' ≡ length w)
+        {r : Inserted}
+        (few : Few r)
+        (made : EntersTurned w w' r k len) where
+      turned : (i : TurnCase w₀ n m) → Turned (loop.left i) w' r
+      turned i =
+          let left = loop.left i in
+          made i.book left.map i.right left.held (subst (λ z. k < z) i.many h) left.size i.limit
+
+      pub turning_more : {longer : ℕ} → r ≡ inserted.Length longer → Turning w₀ n m w' longer (k + 1)
+      turning_more {longer} = loop_more (λ i. i.many) loop h w' same r few turned longer
+
+      pub turning_refused : {c : ℕ} → r ≡ inserted.Refused c → TurnsAll w₀ w' r n m
+      turning_refused {c} e = told (loop_refused (λ i. i.many) loop h w' same r few turned c e)
+
+    pub turning_done : n ≤ k → TurnsAll w₀ w (inserted.Length len) n m
+    turning_done h = told (loop_done (λ i. i.many) loop h)
 
 -- ---- `sub`
 
@@ -191,11 +153,11 @@ module _
       {len : ℕ} (is : r ≡ inserted.Length len) {a : Checked} {d : Rational} (opposite : d ≡ neg_q q.constant)
       (gives : Gives a (checked (add_q p.constant d))) where
     pub sub-made :
-        {c : Rational} → a ≡ answer.Value c → Subtracts w₀ w' p q (combined.Is (record { len = len; constant = c }))
+        {c : Rational} → a ≡ Some c → Subtracts w₀ w' p q (combined.Is (record { len = len; constant = c }))
     unfolding sub add neg ◌>>=◌
     sub-made {c} e b u v t has has' l =
         let left = rw is at (turned b u v t has'.size has.size l) in
-        let sum : plus (limited l) p.constant (neg_q q.constant) ≡ ok c =
+        let sum : plus (limited l) p.constant (neg_q q.constant) ≡ Ok c =
         rw (sym opposite) (plus-value l p.constant d c (sym gives.is ∙ e)) in
         record {
           map = left.map;
@@ -203,11 +165,11 @@ module _
           is = (rw (left.is.0, sum), record { size = left.is.1; proper = gives.proper c e });
         }
 
-    pub sub_out : a ≡ answer.OutOfRange → {w'' : Bytes} → Clears 0 len w' w'' → Subtracts w₀ w'' p q (combined.Refused 11)
+    pub sub_out : a ≡ None → {w'' : Bytes} → Clears 0 len w' w'' → Subtracts w₀ w'' p q (combined.Refused 11)
     unfolding sub add neg ◌>>=◌
     sub_out e empty b u v t has has' l =
         let left = rw is at (turned b u v t has'.size has.size l) in
-        let sum : plus (limited l) p.constant (neg_q q.constant) ≡ refused number_range =
+        let sum : plus (limited l) p.constant (neg_q q.constant) ≡ Err number_range =
         rw (sym opposite) (plus_out l p.constant d (sym gives.is ∙ e)) in
         let one = stack-less (left.map ∷ []) (cleared b _ left.held (omega arith) has'.size) in
         record {

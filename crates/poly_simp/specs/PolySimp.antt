@@ -5,7 +5,7 @@ use Rattle.terms.specs.Operator.{Equals}
 use Rattle.terms.specs.Term.{Sort, sort}
 use Rattle.terms.specs.Term.Sort.{bool, int, real, bits}
 use Rattle.rules.specs.Refusal.{Result, ◌>>=◌, assert}
-use Rattle.rules.specs.Refusal.Outcome.{ok}
+use Rattle.std.specs.Prelude.{Ok}
 use Rattle.rules.specs.Refusal.Refusal.{polynomials_not_equal}
 use Rattle.rules.specs.Limits.{Limits}
 use Rattle.index_map.specs.IndexMap.{Map, combination, sub}
@@ -36,4 +36,4 @@ poly_simp l conclusion n = do
   q ← from_term l s p.visits
   d ← sub monomials l (reduced (sort t) p.sum) (reduced (sort t) q.sum)
   _ ← assert (is_nought d) polynomials_not_equal
-  ok q.visits
+  Ok q.visits

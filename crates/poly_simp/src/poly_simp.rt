@@ -18,7 +18,7 @@ ghost use Rattle.poly_simp.specs.Memory.PolynomialSteps.{AtDifference, BothWalke
 ghost use Rattle.poly_simp.specs.Memory.PolynomialSteps.{equal_sides};
 
 use numbers::bytes::byte;
-use numbers::number::{Checked, Number, magnitude};
+use numbers::number::Number;
 use polynomial::monomials::{Inserted, copy_key, inserted_refusal, put_entry, value_at};
 use polynomial::polynomial::{
     Combined, Polynomial, Walk, area_at, clear_at, combined_refusal, insert_at, walk_refusal,
@@ -32,7 +32,7 @@ use terms::operator::EQUALS;
 use terms::refusal::{
     NUMBER_RANGE, POLYNOMIALS_NOT_EQUAL, TERM_OF_WRONG_FORM, WRONG_LENGTH_OF_CLAUSE,
 };
-use terms::term::{Only, Two, binary};
+use terms::term::binary;
 
 // ---- sub
 
@@ -59,14 +59,12 @@ fn insert_turned(stack: &mut [u8], n: usize, m: usize) -> Inserted
         InsertsAt b stack.new (p ∷ q ∷ []) 0 result (insert_all monomials (limited l) p (neg_all q)) }
 {
     let mut len = m;
-    let mut k = 0;
-    while k < n {
+    for k in 0..n {
         let answer = enter_turned(stack, k, len);
         let Inserted::Length(longer) = answer else {
             return answer;
         };
         len = longer;
-        k += 1;
     }
     Inserted::Length(len)
 }
@@ -78,16 +76,12 @@ fn sub(stack: &mut [u8], p: Polynomial, q: Polynomial) -> Combined
         PolyHas p u → PolyHas q v → (l : ℕ) →
         area.Combines b stack.new result (sub monomials (limited l) (poly_with p u) (poly_with q v)) }
 {
-    let n = p.len;
-    let c = p.constant;
-    let m = q.len;
-    let d = q.constant;
-    let turned = insert_turned(stack, m, n);
-    clear_at(stack, 1, m);
+    let turned = insert_turned(stack, q.len, p.len);
+    clear_at(stack, 1, q.len);
     let Inserted::Length(len) = turned else {
         return Combined::Refused(inserted_refusal(turned));
     };
-    let Checked::Value(constant) = c.add(d.neg()) else {
+    let Some(constant) = p.constant.add(q.constant.neg()) else {
         clear_at(stack, 0, len);
         return Combined::Refused(NUMBER_RANGE);
     };
@@ -101,13 +95,7 @@ fn modulo(q: Number, m: u64) -> Number
     requires { Proper q × ((1 ≤ m) × (m ≤ max_modulus)) }
     ensures { Makes result (whole (pos (modulo q.num m))) }
 {
-    let n = q.num;
-    let size = magnitude(n);
-    if n < 0 {
-        Number::whole((m - 1 - (size - 1) % m) as i64)
-    } else {
-        Number::whole((size % m) as i64)
-    }
+    Number::whole(q.num.rem_euclid(m as i64))
 }
 
 // Of each of the n coefficients; entries that become 0 stay.
@@ -116,13 +104,11 @@ fn modulo_all(entries: &mut [u8], n: usize, m: u64)
     ensures { (b : Bytes) (p : Map Monomial) → area.Held b entries.old p → n ≡ length p →
         area.Held b entries.new (modulo_all m p) }
 {
-    let mut k = 0;
-    while k < n {
+    for k in 0..n {
         let mut key = [0u8; MONOMIAL_BYTES];
         copy_key(entries, k, &mut key);
         let value = value_at(entries, k);
         put_entry(entries, k, &key, modulo(value, m));
-        k += 1;
     }
 }
 
@@ -134,16 +120,13 @@ fn reduced(stack: &mut [u8], j: usize, p: Polynomial, sort: u8) -> Polynomial
     if sort < BITS_SORT {
         return p;
     }
-    let n = p.len;
-    let c = p.constant;
     let width = (sort - BITS_CODE) as u64;
     let m = 1u64 << width;
     let start = POLYNOMIAL_BYTES * j;
-    let end = start + POLYNOMIAL_BYTES;
-    modulo_all(&mut stack[start..end], n, m);
+    modulo_all(&mut stack[start..start + POLYNOMIAL_BYTES], p.len, m);
     Polynomial {
-        len: n,
-        constant: modulo(c, m),
+        len: p.len,
+        constant: modulo(p.constant, m),
     }
 }
 
@@ -162,15 +145,12 @@ fn differ(stack: &mut [u8], p: Polynomial, q: Polynomial, sort: u8, visits: u32)
     let Combined::Is(d) = difference else {
         return Verdict::Refused(combined_refusal(difference));
     };
-    let n = d.len;
-    let c = d.constant;
-    clear_at(stack, 0, n);
-    if n == 0 {
-        if c.is_zero() {
-            return Verdict::Accepted(visits);
-        }
+    clear_at(stack, 0, d.len);
+    if d.len == 0 && d.constant.is_zero() {
+        Verdict::Accepted(visits)
+    } else {
+        Verdict::Refused(POLYNOMIALS_NOT_EQUAL)
     }
-    Verdict::Refused(POLYNOMIALS_NOT_EQUAL)
 }
 
 // The two sides of an equality, over a sort, in an empty stack, which is left empty.
@@ -198,11 +178,18 @@ fn equal(
     let Walk::Done(p, seen) = first else {
         return Verdict::Refused(walk_refusal(first));
     };
-    let above = POLYNOMIAL_BYTES;
-    let second = add_term(book, &mut stack[above..], s, one, none, seen, limit, 0);
+    let second = add_term(
+        book,
+        &mut stack[POLYNOMIAL_BYTES..],
+        s,
+        one,
+        none,
+        seen,
+        limit,
+        0,
+    );
     let Walk::Done(q, v) = second else {
-        let n = p.len;
-        clear_at(stack, 0, n);
+        clear_at(stack, 0, p.len);
         return Verdict::Refused(walk_refusal(second));
     };
     differ(stack, p, q, sort, v)
@@ -214,13 +201,12 @@ pub fn poly_simp(book: &[u8], work: &mut [u8], literals: &[u8], visits: u32, lim
         (terms_in book.now literals.now) visits) }
     ensures work_unchanged { work.new ≡ work.old }
 {
-    let Only::Of(phi) = only_literal(literals) else {
+    let Some(phi) = only_literal(literals) else {
         return Verdict::Refused(WRONG_LENGTH_OF_CLAUSE);
     };
-    let Two::Both(t, s) = binary(book, phi, EQUALS) else {
+    let Some((t, s)) = binary(book, phi, EQUALS) else {
         return Verdict::Refused(TERM_OF_WRONG_FORM);
     };
     let sort = byte(work, t);
-    let start = STEP_AT;
-    equal(book, &mut work[start..], t, s, sort, visits, limit)
+    equal(book, &mut work[STEP_AT..], t, s, sort, visits, limit)
 }

@@ -162,18 +162,14 @@ abbrev Before : Monomial → ℕ → ℕ → Monomial → Type 0
 Before m i k r = first_above m i ≡ k + first_above r i
 
 pub record Searched (key : Bytes) (n i k : ℕ) : Type 0 where
-  pub most : k ≤ n
   pub turn : (b : Bytes) (m : Monomial) → Key b key m → n ≡ length m → Turn (Before m i k) m k
 
 module _ (key : Bytes) (n i : ℕ) where
-  pub search_none : Searched key n i 0
-  search_none = record { most = omega arith; turn = λ b m h size. first (omega arith) }
-
   pub search_end :
-      {k : ℕ} → Searched key n i k → n ≤ k →
+      {k : ℕ} → Searched key n i k → k ≤ n → n ≤ k →
       (b : Bytes) (m : Monomial) → Key b key m → n ≡ length m → n ≡ first_above m i
   unfolding first_above
-  search_end s above b m h size = omega (arith, last (s.turn b m h size) (omega arith), s.most)
+  search_end s most above b m h size = omega (arith, last (s.turn b m h size) (omega arith))
 
   module _ {k x : ℕ} (s : Searched key n i k) (below : k < n) (is : x ≡ le 2 key (2 * k + 1)) where
     pub search_found : i < x → (b : Bytes) (m : Monomial) → Key b key m → n ≡ length m → k ≡ first_above m i
@@ -184,7 +180,6 @@ module _ (key : Bytes) (n i : ℕ) where
     pub search_more : x ≤ i → Searched key n i (k + 1)
     search_more under =
         record {
-          most = omega arith;
           turn = λ b m h size.
               let t = at h (s.turn b m h size) (omega arith) is in
               past t (omega (arith, t.stands, above-past t.term t.rest i (omega (arith, t.number))));

@@ -7,9 +7,8 @@ use native.Mathlib.Omega.{arith}
 use lib.ListN.{length, get_or, set}
 use Rattle.numbers.specs.Rational.{Rational, Makes, mul_q, checked}
 use Rattle.numbers.specs.Bytes.{Bytes, number_at}
-use Rattle.numbers.specs.declared.number.Checked.TheVariants as answer
 use Rattle.rules.specs.Refusal.{Result, Refusal, number}
-use Rattle.rules.specs.Refusal.Outcome.{refused}
+use Rattle.std.specs.Prelude.{Err}
 use Rattle.rules.specs.Refusal.Refusal.{number_range, polynomial_size}
 use Rattle.index_map.specs.IndexMap.{Map}
 use Rattle.polynomial.specs.Polynomial.{Monomial, joined}
@@ -21,6 +20,7 @@ use Rattle.rules.proofs.Results.{refuses, refused-then}
 use Rattle.polynomial.proofs.ProductEntries.{ClearSays, InsertSays, ProductSays, EachSays, EntrySays, ScaledSays}
 use Rattle.polynomial.proofs.ProductEntries.{key-there, value_there, scaled_out, scaled_value, product-long}
 use Rattle.polynomial.proofs.ProductEntries.{product_out, product_value, entry_out, entry_value}
+use Rattle.std.specs.Prelude.{None, Some}
 
 -- the code knows the answer as that of an equal result
 entered-as :
@@ -30,7 +30,7 @@ entered-as {b} {w} {ms} {j} {r} e made = subst (InsertsAt b w ms j r) (sym e) ma
 
 entered_none :
     {b w : Bytes} {ms : List (Map Monomial)} {j : ℕ} (reason : Refusal) {d : Result (Map Monomial)} →
-    d ≡ refused reason → Stacked b w (set ms j []) → InsertsAt b w ms j (Refused (number reason)) d
+    d ≡ Err reason → Stacked b w (set ms j []) → InsertsAt b w ms j (Refused (number reason)) d
 entered_none reason e stack = record { map = []; held = stack; is = (refuses reason e, refl) }
 
 -- ---- what is read of entry k of area j: its monomial's bytes x and its coefficient c
@@ -60,12 +60,12 @@ module _
     {w : Bytes} {j k : ℕ} {x : Bytes} {c : Rational} (read : ReadAt w j k x c) (q : Rational) {t m : ℕ}
     {w' : Bytes} where
   pub enter-scaled_out :
-      checked (mul_q c q) ≡ answer.OutOfRange → ClearSays w t m w' → ScaledSays w j k q t m w' (Refused 11)
+      checked (mul_q c q) ≡ None → ClearSays w t m w' → ScaledSays w j k q t m w' (Refused 11)
   enter-scaled_out out clear b ms stack from into apart h size l =
       entered_none number_range (scaled_out l _ q (value_read read stack from h) _ out) (clear b ms stack into size)
 
   pub enter-scaled-value :
-      {v : Rational} → checked (mul_q c q) ≡ answer.Value v → {r : Inserted} → InsertSays w t m x v w' r →
+      {v : Rational} → checked (mul_q c q) ≡ Some v → {r : Inserted} → InsertSays w t m x v w' r →
       ScaledSays w j k q t m w' r
   enter-scaled-value {v} value insert b ms stack from into apart h size l =
       entered-as (scaled_value l _ q (value_read read stack from h) _ v value)
@@ -85,7 +85,7 @@ module _
 
   module _ (short : get_or x 0 0 + get_or other 0 0 ≤ 8) where
     pub product-outside :
-        checked (mul_q c d) ≡ answer.OutOfRange → ClearSays w 2 m w' → ProductSays w x c k m w' (Refused 11)
+        checked (mul_q c d) ≡ None → ClearSays w 2 m w' → ProductSays w x c k m w' (Refused 11)
     product-outside out clear b p q s y stack h size key l =
         entered_none number_range
         (product_out l key c _ (key-read read stack (omega arith) h) (value_read read stack (omega arith) h)
@@ -93,7 +93,7 @@ module _
         (clear b _ stack (omega arith) size)
 
     pub product-entered :
-        {v : Rational} → checked (mul_q c d) ≡ answer.Value v → {copy joint : Bytes} → copy ≡ x →
+        {v : Rational} → checked (mul_q c d) ≡ Some v → {copy joint : Bytes} → copy ≡ x →
         ((b : Bytes) (y z : Monomial) → Key b copy y → Key b other z → Key b joint (joined y z)) → {r : Inserted} →
         InsertSays w 2 m joint v w' r → ProductSays w x c k m w' r
     product-entered {v} value same join insert b p q s y stack h size key l =
@@ -118,7 +118,7 @@ module _
 
   module _ {len : ℕ} (e : r ≡ Length len) {w2 : Bytes} where
     pub entry-outside :
-        checked (mul_q c constant) ≡ answer.OutOfRange → ClearSays w1 2 len w2 →
+        checked (mul_q c constant) ≡ None → ClearSays w1 2 len w2 →
         EntrySays w k n constant m w2 (Refused 11)
     entry-outside out clear b p q s stack h right size l =
         let made = rw e at (each b p q s _ stack right size (key-read read stack (omega arith) h) l) in
@@ -127,7 +127,7 @@ module _
         (clear b _ made.held (omega arith) made.is.1)
 
     pub entry-entered :
-        {v : Rational} → checked (mul_q c constant) ≡ answer.Value v → {r2 : Inserted} → InsertSays w1 2 len x v w2 r2 →
+        {v : Rational} → checked (mul_q c constant) ≡ Some v → {r2 : Inserted} → InsertSays w1 2 len x v w2 r2 →
         EntrySays w k n constant m w2 r2
     entry-entered {v} value insert b p q s stack h right size l =
         let key : Key b x (get_or p k no_entry).0 = key-read read stack (omega arith) h in

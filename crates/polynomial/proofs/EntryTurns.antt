@@ -5,13 +5,12 @@ use mathlib.Core.Path.{◌≡◌, refl, sym, ◌∙◌, ap, subst}
 use mathlib.Core.List.{List, [], ◌∷◌}
 use Prim.Native.Nat.{ℕ, ◌+◌, ◌≤◌, ◌<◌}
 use native.Mathlib.Numerals.{add-one}
-use native.Mathlib.Omega.{arith}
 use lib.ListN.{length, get_or, set, drop, drop_of_length-le}
 use lib.Seq.{drop-cons, set-set}
 use Rattle.numbers.specs.Rational.{Rational}
 use Rattle.numbers.specs.Bytes.{Bytes}
 use Rattle.rules.specs.Refusal.{Result, ◌>>=◌}
-use Rattle.rules.specs.Refusal.Outcome.{ok}
+use Rattle.std.specs.Prelude.{Ok}
 use Rattle.index_map.specs.IndexMap.{Map}
 use Rattle.polynomial.specs.Polynomial.{Monomial}
 use Rattle.polynomial.specs.Memory.PolynomialArea.{places, Stacked, InsertsAt, Few, no_entry}
@@ -25,7 +24,7 @@ Turn = Monomial × Rational → Map Monomial → Result (Map Monomial)
 
 -- a turn for each entry
 unfoldable pub turns : Turn → Map Monomial → Map Monomial → Result (Map Monomial)
-turns f [] m = ok m
+turns f [] m = Ok m
 turns f (e ∷ r) m = f e m >>= turns f r
 
 -- all entries are to be worked into an area of a stack
@@ -105,14 +104,13 @@ module _ {t : Task} {w : Bytes} {len k : ℕ} (left : Left t w len k) where
 -- ---- the invariant: a family of tasks, since the code knows of no book and no stack
 
 pub record Looping {I : Type 0} (task : I → Task) (w₀ : Bytes) (n : ℕ) (w : Bytes) (len k : ℕ) : Type 0 where
-  pub inside : k ≤ n
   pub few : len ≤ places
   pub size : length w ≡ length w₀
   pub left : (i : I) → Left (task i) w len k
 
 module _ {I : Type 0} {task : I → Task} {w₀ : Bytes} {n : ℕ} where
   pub loop_begin : {m : ℕ} → m ≤ places → ((i : I) → Left (task i) w₀ m 0) → Looping task w₀ n w₀ m 0
-  loop_begin few left = record { inside = omega arith; few = few; size = refl; left = left }
+  loop_begin few left = record { few = few; size = refl; left = left }
 
   module _ (many : (i : I) → n ≡ length (task i).all) {w : Bytes} {len k : ℕ} (loop : Looping task w₀ n w len k) where
     module _
@@ -128,7 +126,6 @@ module _ {I : Type 0} {task : I → Task} {w₀ : Bytes} {n : ℕ} where
       pub loop_more : (longer : ℕ) → r ≡ Length longer → Looping task w₀ n w' longer (k + 1)
       loop_more longer e =
           record {
-            inside = omega arith;
             few = rw e at few;
             size = size ∙ loop.size;
             left = λ i. left-more (loop.left i) (here i) (rw e at (turned i));

@@ -1,13 +1,11 @@
 -- numbers, entries and maps in bytes
 pub mod MonomialBytes
 pub mod StoredMonomials
-pub mod KeyCopies
 pub mod AtomPlaces
 pub mod PlacedAtoms
 -- the areas of the work area
 pub mod MonomialEntry
 pub mod StackAreas
-pub mod MovedAreas
 -- combinations and products in memory
 pub mod EntryTurns
 pub mod ProductEntries

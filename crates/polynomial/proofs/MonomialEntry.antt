@@ -9,8 +9,6 @@ use borrow.Author.Tests.{le-leb, lt-leb}
 use lib.ListN.{length, length-append}
 use Rattle.numbers.specs.Rational.{Rational, Proper, Makes, Gives, add_q, is_zero, checked}
 use Rattle.numbers.specs.Bytes.{Bytes, number_at}
-use Rattle.numbers.specs.declared.number.Checked.{Checked}
-use Rattle.numbers.specs.declared.number.Checked.TheVariants as answer
 use Rattle.rules.specs.Refusal.{Result, ◌>>=◌, assert}
 use Rattle.rules.specs.Refusal.Refusal.{number_range, polynomial_size}
 use Rattle.rules.specs.Limits.{limited}
@@ -25,6 +23,8 @@ use Rattle.index_map.proofs.KeyedMaps.{insert-zero, insert-missing}
 use Rattle.index_map.proofs.MapEnds.{all_map}
 use Rattle.rules.proofs.Results.{refuses}
 use Rattle.polynomial.proofs.StoredMonomials.{bytes-copied, goods, good_new, same_key, entry_key}
+use Rattle.numbers.specs.Rational.{Checked}
+use Rattle.std.specs.Prelude.{None, Some}
 
 -- the answer r, where v is left of the bytes w
 abbrev pub Entering : Bytes → ℕ → Bytes → Rational → Bytes → Inserted → Type 0
@@ -92,7 +92,7 @@ module _ (w : Bytes) (n : ℕ) (key : Bytes) (value : Rational) where
     module _
         (below : k < n) {q : Rational} (makes : Makes q (number_at w (25 * k + 17))) {a : Checked}
         (gives : Gives a (checked (add_q q value))) where
-      pub none_entered : a ≡ answer.OutOfRange → (v : Bytes) → v ≡ blanked n w → Entering w n key value v (Refused 11)
+      pub none_entered : a ≡ None → (v : Bytes) → v ≡ blanked n w → Entering w n key value v (Refused 11)
       none_entered out v left b p x held size is_key l =
           let s = sought held size is_key in
           record {
@@ -104,7 +104,7 @@ module _ (w : Bytes) (n : ℕ) (key : Bytes) (value : Rational) where
             );
           }
 
-      module _ (sum : Rational) (is_sum : a ≡ answer.Value sum) where
+      module _ (sum : Rational) (is_sum : a ≡ Some sum) where
         pub entry-removed :
             is_zero sum ≡ true → (v : Bytes) → v ≡ swapped n k w → Entering w n key value v (Length (n - 1))
         entry-removed z v left b m x held size is_key l =

@@ -5,7 +5,7 @@
 use mathlib.Core.Path.{◌≡◌, refl, sym, ap, ◌∙◌, subst}
 use mathlib.Core.Bool.{Bool, true, false}
 use mathlib.Core.List.{[], ◌∷◌, ◌++◌, append_assoc, append-nil}
-use Prim.Native.Nat.{ℕ, suc, ◌+◌, ◌*◌, ◌-◌, ◌≤◌, ◌<◌}
+use Prim.Native.Nat.{ℕ, ◌+◌, ◌*◌, ◌-◌, ◌≤◌, ◌<◌}
 use native.Mathlib.Omega.{arith}
 use borrow.Author.Tests.{lt-ltb, le-ltb, ltb-true, ltb-false}
 use lib.Dec.{ltb}
@@ -19,7 +19,7 @@ use Rattle.polynomial.specs.Memory.PolynomialArea.{atom_bytes, monomial_bytes, f
 use Rattle.index_map.proofs.Zeros.{zeros-join}
 use Rattle.index_map.proofs.NumberBytes.{length-bytes_of}
 use Rattle.polynomial.proofs.AtomPlaces.{small, atom_of, atoms_with, front, read_at, write_at, front-more, key-parts, Turn}
-use Rattle.polynomial.proofs.AtomPlaces.{first, at, past, last, above-here, above-past, key-count}
+use Rattle.polynomial.proofs.AtomPlaces.{at, past, last, above-here, above-past, key-count}
 
 -- ---- an atom more
 
@@ -66,7 +66,6 @@ pub record Gap (w : Bytes) (n : ℕ) (f s : Monomial) : Type 0 where
 
 pub record Shifted (w₀ : Bytes) (at : ℕ) (w : Bytes) (k : ℕ) : Type 0 where
   pub above : at ≤ k
-  pub most : k ≤ get_or w₀ 0 0
   pub size : length w ≡ length w₀
   pub parts :
       (b : Bytes) (m : Monomial) → Key b w₀ m → length m < 8 → (f s : Monomial) → m ≡ f ++ s → length f ≡ k →
@@ -83,26 +82,26 @@ gap-end {m} h room =
 -- an atom goes up, and the gap down
 gap_down :
     {b w : Bytes} {n : ℕ} (f : Monomial) {t : Term} {s : Monomial} → Atom b t → Gap w n (f ++ t ∷ []) s →
-    (k x : ℕ) → suc (length f) ≡ k → x ≡ le 2 w (2 * k - 1) → Gap (put 2 x w (2 * k + 1)) n f (t ∷ s)
+    (k x : ℕ) → length f ≡ k → x ≡ le 2 w (2 * k + 1) → Gap (put 2 x w (2 * k + 3)) n f (t ∷ s)
 unfolding atom_bytes
 gap_down {b} {w} {n} f {t} {s} a g k x here is =
     let y : Bytes = bytes_of 2 (record_number t) in
     let r : Bytes = atom_bytes s ++ zeros n in
-    let spot : 2 * k - 1 ≡ 2 * length f + 1 = omega arith in
-    let long : length (f ++ t ∷ []) ≡ k = simp length-append (omega arith) in
-    let read : le 2 w (2 * k - 1) ≡ record_number t =
-    rw spot
-    (ap (λ (l : Bytes). le 2 l (2 * length f + 1)) (g.bytes ∙ front-more n f t (g.gap ++ r))
-    ∙ read_at n f refl (record_number t) (g.gap ++ r) (small a)) in
+    let spot : 2 * k + 3 ≡ 2 * (k + 1) + 1 = omega arith in
+    let long : length (f ++ t ∷ []) ≡ k + 1 = simp length-append (omega arith) in
+    let read : le 2 w (2 * k + 1) ≡ record_number t =
+    ap (λ (l : Bytes). le 2 l (2 * k + 1)) (g.bytes ∙ front-more n f t (g.gap ++ r))
+    ∙ read_at n f here (record_number t) (g.gap ++ r) (small a) in
     record {
       gap = y;
       two = length-bytes_of 2 (record_number t);
       bytes =
-          ap (λ (i : ℕ). put 2 i w (2 * k + 1)) (is ∙ read)
-          ∙ ap (λ (l : Bytes). put 2 (record_number t) l (2 * k + 1)) g.bytes
+          rw spot
+          (ap (λ (i : ℕ). put 2 i w (2 * (k + 1) + 1)) (is ∙ read)
+          ∙ ap (λ (l : Bytes). put 2 (record_number t) l (2 * (k + 1) + 1)) g.bytes
           ∙ write_at n (f ++ t ∷ []) long (record_number t) g.gap r g.two
           ∙ front-more n f t (y ++ r)
-          ∙ ap (λ (l : Bytes). front n f ++ (y ++ l)) (sym (append_assoc y (atom_bytes s) (zeros n)));
+          ∙ ap (λ (l : Bytes). front n f ++ (y ++ l)) (sym (append_assoc y (atom_bytes s) (zeros n))));
     }
 
 -- the gap is filled
@@ -142,7 +141,6 @@ module _ {w₀ : Bytes} {at : ℕ} where
   shifted_none most =
       record {
         above = most;
-        most = omega arith;
         size = refl;
         parts = λ b m h room f s whole here. all b m h room f s whole (here ∙ key-count h);
       }
@@ -157,11 +155,11 @@ module _ {w₀ : Bytes} {at : ℕ} where
 
   -- the atom is put at the gap
   pub shifted-done :
-      {w w' : Bytes} {k x : ℕ} → Shifted w₀ at w k → k ≤ at → w' ≡ put 2 x w (2 * at + 1) →
+      {w w' : Bytes} {k x : ℕ} → Shifted w₀ at w k → k ≤ get_or w₀ 0 0 → k ≤ at → w' ≡ put 2 x w (2 * at + 1) →
       (b : Bytes) (m : Monomial) (t : Term) → Key b w₀ m → length m < 8 → Atom b t → x ≡ record_number t →
       at ≡ first_above m x → Key b (set w' 0 (get_or w₀ 0 0 + 1)) (place t m)
-  shifted-done {w} {w'} {k} {x} s low wrote b m t h room a number spot =
-      let here : length (take at m) ≡ at = length-take-le at m (omega (arith, s.above, s.most, key-count h)) in
+  shifted-done {w} {w'} {k} {x} s most low wrote b m t h room a number spot =
+      let here : length (take at m) ≡ at = length-take-le at m (omega (arith, s.above, key-count h)) in
       let g : Gap w (length m) (take at m) (drop at m) =
       s.parts b m h room (take at m) (drop at m) (sym (take-append-drop at m)) (omega (arith, s.above)) in
       let same : set w' 0 (get_or w₀ 0 0 + 1) ≡ set (put 2 (record_number t) w (2 * at + 1)) 0 (length m + 1) =
@@ -169,26 +167,24 @@ module _ {w₀ : Bytes} {at : ℕ} where
       rw same (filled (take at m) (drop at m) (take-append-drop at m) h room a g here (spot ∙ ap (first_above m) number))
 
 pub shifted-more :
-    {w₀ : Bytes} {at : ℕ} {w w' : Bytes} {k x : ℕ} → Shifted w₀ at w k → at < k → x ≡ le 2 w (2 * k - 1) →
-    w' ≡ put 2 x w (2 * k + 1) → Shifted w₀ at w' (k - 1)
-shifted-more {w₀} {at} {w} {w'} {k} {x} s over is wrote =
+    {w₀ : Bytes} {at : ℕ} {w w' : Bytes} {k x : ℕ} → Shifted w₀ at w k → k ≤ get_or w₀ 0 0 → at < k →
+    x ≡ le 2 w (2 * (k - 1) + 1) → w' ≡ put 2 x w (2 * (k - 1) + 3) → Shifted w₀ at w' (k - 1)
+shifted-more {w₀} {at} {w} {w'} {k} {x} s most over is wrote =
     record {
       above = omega arith;
-      most = omega (arith, s.most);
-      size = ap length wrote ∙ length-put 2 x w (2 * k + 1) ∙ s.size;
+      size = ap length wrote ∙ length-put 2 x w (2 * (k - 1) + 3) ∙ s.size;
       parts = λ b m h room f r whole here. down b m h room f r whole here;
     }
   where
     down :
         (b : Bytes) (m : Monomial) → Key b w₀ m → length m < 8 → (f r : Monomial) → m ≡ f ++ r → length f ≡ k - 1 →
         Gap w' (length m) f r
-    down b m h room f [] whole here =
-        absurd (omega (arith, key-count h, s.most, ap length (whole ∙ append-nil f)))
+    down b m h room f [] whole here = absurd (omega (arith, key-count h, ap length (whole ∙ append-nil f)))
     down b m h room f (t ∷ r) whole here =
         let atoms : Atoms b (f ++ t ∷ r) = rw whole at h.atoms in
         let g : Gap w (length m) (f ++ t ∷ []) r =
         s.parts b m h room (f ++ t ∷ []) r (whole ∙ sym (append_snoc f t r)) (simp length-append (omega arith)) in
-        rw wrote (gap_down f (atom_of b f t r atoms) g k x (omega arith) is)
+        rw wrote (gap_down f (atom_of b f t r atoms) g (k - 1) x here is)
 
 -- ---- the atoms of another monomial
 
@@ -199,22 +195,12 @@ pub record Joins (b w : Bytes) (j : Monomial) (r : Monomial) : Type 0 where
   pub is : j ≡ joined so_far r
 
 pub record Joining (w₀ other w : Bytes) (k : ℕ) : Type 0 where
-  pub most : k ≤ get_or other 0 0
   pub size : length w ≡ length w₀
   pub count : get_or w 0 0 ≡ get_or w₀ 0 0 + k
   pub turn :
       (b : Bytes) (m l : Monomial) → Key b w₀ m → Key b other l → Turn (Joins b w (joined m l)) l k
 
 module _ {w₀ other : Bytes} where
-  pub join_none : Joining w₀ other w₀ 0
-  join_none =
-      record {
-        most = omega arith;
-        size = refl;
-        count = omega arith;
-        turn = λ b m l h o. first (record { so_far = m; key = h; is = refl });
-      }
-
   pub join-end :
       {w : Bytes} {k : ℕ} → Joining w₀ other w k → get_or other 0 0 ≤ k → (b : Bytes) (m l : Monomial) → Key b w₀ m →
       Key b other l → Key b w (joined m l)
@@ -232,7 +218,6 @@ module _ {w₀ other : Bytes} where
   unfolding joined
   join_more j below room read size count put =
       record {
-        most = omega arith;
         size = size ∙ j.size;
         count = omega (arith, j.count);
         turn = λ b m l h o.

@@ -7,12 +7,11 @@ use Prim.Native.Nat.{ℕ, suc, ◌+◌, ◌*◌, ◌≤◌, ◌<◌}
 use native.Mathlib.Omega.{arith}
 use borrow.Author.Tests.{le-leb, lt-leb}
 use lib.ListN.{length, get_or, set, take, drop, length-drop}
-use lib.Seq.{length-take-le, split_at, get_or-take, get_or-drop}
+use lib.Seq.{length-take-le, split_at}
 use Rattle.numbers.specs.Rational.{Rational, mul_q, checked}
 use Rattle.numbers.specs.Bytes.{Bytes, number_at}
-use Rattle.numbers.specs.declared.number.Checked.TheVariants as answer
 use Rattle.rules.specs.Refusal.{◌>>=◌, assert}
-use Rattle.rules.specs.Refusal.Outcome.{ok, refused}
+use Rattle.std.specs.Prelude.{Ok, Err}
 use Rattle.rules.specs.Refusal.Refusal.{number_range, polynomial_size}
 use Rattle.rules.specs.Limits.{limited}
 use Rattle.index_map.specs.IndexMap.{Map, combination, insert}
@@ -23,6 +22,7 @@ use Rattle.polynomial.specs.declared.monomials.Inserted.{Inserted}
 use Rattle.index_map.proofs.CheckedNumbers.{times-value, times_out}
 use Rattle.polynomial.proofs.AtomPlaces.{key-count}
 use Rattle.polynomial.proofs.StoredMonomials.{read-key, read-value}
+use Rattle.std.specs.Prelude.{None, Some}
 
 -- ---- what the functions promise of an answer r and of the bytes w' that they leave
 
@@ -78,19 +78,6 @@ part_length j w h =
     let rest = length-drop (1600 * j) w in
     length-take-le 1600 (drop (1600 * j) w) (omega arith)
 
--- the first byte of a monomial
-pub key-byte :
-    (w : Bytes) (j k : ℕ) → k < 64 → ((i : ℕ) → get_or w i 0 < 256) → get_or (key_at (part_at j w) k) 0 0 < 256
-unfolding key_at part_at
-key-byte w j k h known =
-    rw (
-      get_or-take 17 (drop (25 * k) (take 1600 (drop (1600 * j) w))) 0 0 (omega arith),
-      get_or-drop (25 * k) (take 1600 (drop (1600 * j) w)) 0 0,
-      get_or-take 1600 (drop (1600 * j) w) (25 * k + 0) 0 (omega arith),
-      get_or-drop (1600 * j) w (25 * k + 0) 0,
-    )
-    (known (1600 * j + (25 * k + 0)))
-
 module _ {b w : Bytes} (q : Map Monomial) (held : Held b w q) (k : ℕ) (h : k < length q) where
   split : Held b w (take k q ++ get_or q k no_entry ∷ drop (suc k) q)
   split = subst (Held b w) (split_at q k no_entry h) held
@@ -107,12 +94,12 @@ module _ {b w : Bytes} (q : Map Monomial) (held : Held b w q) (k : ℕ) (h : k <
 -- ---- one entry, times a number
 
 module _ (l : ℕ) (e : Monomial × Rational) (q : Rational) {c : Rational} (c-is : c ≡ e.1) (m : Map Monomial) where
-  pub scaled_out : checked (mul_q c q) ≡ answer.OutOfRange → enter_scaled (limited l) e q m ≡ refused number_range
+  pub scaled_out : checked (mul_q c q) ≡ None → enter_scaled (limited l) e q m ≡ Err number_range
   unfolding enter_scaled ◌>>=◌
   scaled_out out = rw (times_out l e.1 q (rw c-is at out))
 
   pub scaled_value :
-      (v : Rational) → checked (mul_q c q) ≡ answer.Value v →
+      (v : Rational) → checked (mul_q c q) ≡ Some v →
       enter_scaled (limited l) e q m ≡ insert monomials (limited l) m e.0 v
   unfolding enter_scaled ◌>>=◌
   scaled_value v value = rw (times-value l e.1 q v (rw c-is at value))
@@ -125,18 +112,18 @@ module _
   atoms : get_or x 0 0 + get_or other 0 0 ≡ length y + length e.0
   atoms = rw (key-count key, key-count key')
 
-  pub product-long : 8 < get_or x 0 0 + get_or other 0 0 → enter_product (limited l) y c e m ≡ refused polynomial_size
+  pub product-long : 8 < get_or x 0 0 + get_or other 0 0 → enter_product (limited l) y c e m ≡ Err polynomial_size
   unfolding enter_product ◌>>=◌ assert
   product-long h = rw (lt-leb (length y + length e.0) 8 (omega (arith, atoms)))
 
   module _ (short : get_or x 0 0 + get_or other 0 0 ≤ 8) where
-    pub product_out : checked (mul_q c d) ≡ answer.OutOfRange → enter_product (limited l) y c e m ≡ refused number_range
+    pub product_out : checked (mul_q c d) ≡ None → enter_product (limited l) y c e m ≡ Err number_range
     unfolding enter_product ◌>>=◌ assert
     product_out out =
         rw (le-leb (length y + length e.0) 8 (omega (arith, atoms)), times_out l c e.1 (rw d-is at out))
 
     pub product_value :
-        (v : Rational) → checked (mul_q c d) ≡ answer.Value v →
+        (v : Rational) → checked (mul_q c d) ≡ Some v →
         enter_product (limited l) y c e m ≡ insert monomials (limited l) m (joined y e.0) v
     unfolding enter_product ◌>>=◌ assert
     product_value v value =
@@ -146,15 +133,15 @@ module _
 
 module _
     (l : ℕ) (e : Monomial × Rational) (q : Map Monomial) (constant : Rational) {c : Rational} (c-is : c ≡ e.1)
-    (m : Map Monomial) {m1 : Map Monomial} (each : mul_each (limited l) e.0 c q m ≡ ok m1) where
+    (m : Map Monomial) {m1 : Map Monomial} (each : mul_each (limited l) e.0 c q m ≡ Ok m1) where
   pub entry_out :
-      checked (mul_q c constant) ≡ answer.OutOfRange →
-      mul_entry (limited l) e (combination q constant) m ≡ refused number_range
+      checked (mul_q c constant) ≡ None →
+      mul_entry (limited l) e (combination q constant) m ≡ Err number_range
   unfolding mul_entry ◌>>=◌
   entry_out out = rw (rw c-is at each, times_out l e.1 constant (rw c-is at out))
 
   pub entry_value :
-      (v : Rational) → checked (mul_q c constant) ≡ answer.Value v →
+      (v : Rational) → checked (mul_q c constant) ≡ Some v →
       mul_entry (limited l) e (combination q constant) m ≡ insert monomials (limited l) m1 e.0 v
   unfolding mul_entry ◌>>=◌
   entry_value v value = rw (rw c-is at each, times-value l e.1 constant v (rw c-is at value))

@@ -8,9 +8,8 @@ use native.Mathlib.Omega.{arith}
 use lib.ListN.{length}
 use Rattle.numbers.specs.Rational.{Rational, Proper, mul_q, checked}
 use Rattle.numbers.specs.Bytes.{Bytes}
-use Rattle.numbers.specs.declared.number.Checked.TheVariants as answer
 use Rattle.rules.specs.Refusal.{Result, ◌>>=◌}
-use Rattle.rules.specs.Refusal.Outcome.{ok, refused}
+use Rattle.std.specs.Prelude.{Ok, Err}
 use Rattle.rules.specs.Refusal.Refusal.{number_range}
 use Rattle.rules.specs.Limits.{limited}
 use Rattle.index_map.specs.IndexMap.{Map, combination}
@@ -26,6 +25,7 @@ use Rattle.index_map.proofs.CheckedNumbers.{times-value, times_out}
 use Rattle.polynomial.proofs.StackAreas.{stack-more, stack-less}
 use Rattle.rules.proofs.Results.{refuses, refused-then}
 use Rattle.polynomial.proofs.ProductEntries.{ClearSays, LeftSays, AllScaledSays}
+use Rattle.std.specs.Prelude.{None, Some}
 
 -- ---- what the functions promise of an answer r and of the bytes w' that they leave
 
@@ -50,21 +50,21 @@ module _ (l : ℕ) (p q : Polynomial) where
   unfolding mul
   left-refused r = refused-then _ r
 
-  module _ {m1 : Map Monomial} (left : mul_left (limited l) p.entries q [] ≡ ok m1) where
+  module _ {m1 : Map Monomial} (left : mul_left (limited l) p.entries q [] ≡ Ok m1) where
     scaled-refused :
         {c : ℕ} → Refuses c (insert_scaled (limited l) q.entries p.constant m1) → Refuses c (mul (limited l) p q)
     unfolding mul ◌>>=◌
     scaled-refused r = rw left (refused-then _ r)
 
-    module _ {m2 : Map Monomial} (scaled : insert_scaled (limited l) q.entries p.constant m1 ≡ ok m2) where
+    module _ {m2 : Map Monomial} (scaled : insert_scaled (limited l) q.entries p.constant m1 ≡ Ok m2) where
       constant_out :
-          checked (mul_q p.constant q.constant) ≡ answer.OutOfRange → mul (limited l) p q ≡ refused number_range
+          checked (mul_q p.constant q.constant) ≡ None → mul (limited l) p q ≡ Err number_range
       unfolding mul ◌>>=◌
       constant_out out = rw (left, scaled, times_out l p.constant q.constant out)
 
       product_is :
-          {v : Rational} → checked (mul_q p.constant q.constant) ≡ answer.Value v →
-          mul (limited l) p q ≡ ok (combination m2 v)
+          {v : Rational} → checked (mul_q p.constant q.constant) ≡ Some v →
+          mul (limited l) p q ≡ Ok (combination m2 v)
       unfolding mul ◌>>=◌
       product_is {v} value = rw (left, scaled, times-value l p.constant q.constant v value)
 
@@ -89,7 +89,7 @@ refused_as e number is = is ∙ ap combined.Refused (number ∙ ap inserted_refu
 -- the map of area 2 after `mul_left`, and the answer r of `insert_scaled` over it
 record Scaled (p q : Poly) (b w : Bytes) (u v : Map Monomial) (l : ℕ) (r : Inserted) : Type 0 where
   pub first : Map Monomial
-  pub is_first : mul_left (limited l) u (poly_with q v) [] ≡ ok first
+  pub is_first : mul_left (limited l) u (poly_with q v) [] ≡ Ok first
   pub done : InsertsAt b w (u ∷ v ∷ first ∷ []) 2 r (insert_scaled (limited l) v p.constant first)
 
 module _
@@ -134,7 +134,7 @@ module _
 
     module _ {k : ℕ} (e2 : r2 ≡ Length k) where
       pub constant-outside :
-          checked (mul_q p.constant q.constant) ≡ answer.OutOfRange → {w3 : Bytes} → ClearSays w2 2 k w3 →
+          checked (mul_q p.constant q.constant) ≡ None → {w3 : Bytes} → ClearSays w2 2 k w3 →
           {w4 : Bytes} {r : Combined} → r ≡ combined.Refused 11 → RefuseSays w3 p.len q.len w4 → MulSays w p q w4 r
       constant-outside out clear is refuse b u v stack hp hq l =
           let after = rw e2 at (after-scaled stack hp hq l) in
@@ -143,7 +143,7 @@ module _
           (refuse b u v _ (clear b _ after.done.held (omega arith) after.done.is.1) hp.size hq.size)
 
       pub product-made :
-          {z : Rational} → checked (mul_q p.constant q.constant) ≡ answer.Value z → Proper z →
+          {z : Rational} → checked (mul_q p.constant q.constant) ≡ Some z → Proper z →
           {w3 : Bytes} → MoveSays w2 w3 → {w4 : Bytes} → ClearSays w3 1 q.len w4 → {w5 : Bytes} →
           ClearSays w4 2 k w5 → MulSays w p q w5 (combined.Is (record { len = k; constant = z }))
       product-made value proper move clear clear' b u v stack hp hq l =

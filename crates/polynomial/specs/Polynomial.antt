@@ -5,7 +5,7 @@ use Rattle.numbers.specs.Rational.{Rational, is_zero}
 use Rattle.terms.specs.Term.{Term, same, record_number}
 use Rattle.terms.specs.Readers.{within}
 use Rattle.rules.specs.Refusal.{Result, ◌>>=◌, assert}
-use Rattle.rules.specs.Refusal.Outcome.{ok}
+use Rattle.std.specs.Prelude.{Ok}
 use Rattle.rules.specs.Refusal.Refusal.{polynomial_size}
 use Rattle.rules.specs.Limits.{Limits, times}
 use Rattle.index_map.specs.IndexMap.{Map, Combination, Keys, combination, insert, is_empty}
@@ -39,7 +39,7 @@ monomials = record { same = same_monomial; most = λ l. l.monomials }
 
 -- one monomial of the left against each of the right: length, then coefficient, then entry
 unfoldable pub mul_each : Limits → Monomial → Rational → Map Monomial → Map Monomial → Result (Map Monomial)
-mul_each l x1 c1 [] m = ok m
+mul_each l x1 c1 [] m = Ok m
 mul_each l x1 c1 (e ∷ r) m = do
   _ ← assert (within l.atoms (length x1 + length e.0)) polynomial_size
   c ← times l c1 e.1
@@ -48,7 +48,7 @@ mul_each l x1 c1 (e ∷ r) m = do
 
 -- each monomial of the left against the right and its constant
 unfoldable pub mul_left : Limits → Map Monomial → Polynomial → Map Monomial → Result (Map Monomial)
-mul_left l [] q m = ok m
+mul_left l [] q m = Ok m
 mul_left l (e ∷ r) q m = do
   m1 ← mul_each l e.0 e.1 q.entries m
   c ← times l e.1 q.constant
@@ -57,7 +57,7 @@ mul_left l (e ∷ r) q m = do
 
 -- each monomial times a number
 unfoldable pub insert_scaled : Limits → Map Monomial → Rational → Map Monomial → Result (Map Monomial)
-insert_scaled l [] k m = ok m
+insert_scaled l [] k m = Ok m
 insert_scaled l (e ∷ r) k m = do
   c ← times l e.1 k
   m' ← insert monomials l m e.0 c
@@ -68,7 +68,7 @@ mul l p q = do
   m1 ← mul_left l p.entries q []
   m2 ← insert_scaled l q.entries p.constant m1
   c ← times l p.constant q.constant
-  ok (combination m2 c)
+  Ok (combination m2 c)
 
 abbrev pub is_nought : Polynomial → Bool
 is_nought p = is_empty p.entries && is_zero p.constant

@@ -15,8 +15,8 @@ ghost use Rattle.polynomial.specs.Memory.PolynomialArea.{MonomialPlace, Monomial
 ghost use Rattle.polynomial.specs.Memory.PolynomialArea.{places, max_atoms, key_size, place_size, area_size};
 ghost use Rattle.rules.specs.Memory.Parts.{blank};
 
-use numbers::bytes::{paste, read_u16, same_bytes, write_u16};
-use numbers::number::{Checked, Number};
+use numbers::bytes::{read_u16, same_bytes, write_u16};
+use numbers::number::Number;
 use terms::areas::{MAX_MONOMIALS, MONOMIAL_BYTES, PLACE_BYTES};
 use terms::refusal::{NUMBER_RANGE, POLYNOMIAL_SIZE};
 
@@ -47,12 +47,10 @@ fn place_of(key: &[u8], n: usize, atom: usize) -> usize
     ensures value { (b : Bytes) (m : Monomial) → Key b key.now m → n ≡ length m →
         result ≡ first_above m atom }
 {
-    let mut k = 0;
-    while k < n {
+    for k in 0..n {
         if atom < read_u16(key, 2 * k + 1) as usize {
             return k;
         }
-        k += 1;
     }
     n
 }
@@ -66,11 +64,10 @@ pub fn put_atom(key: &mut [u8], atom: usize)
 {
     let n = key[0] as usize;
     let at = place_of(key, n, atom);
-    let mut k = n;
-    while at < k {
-        let moved = read_u16(key, 2 * k - 1);
-        write_u16(key, 2 * k + 1, moved);
-        k -= 1;
+    // By two bytes: copy_within goes by single bytes, and is slower for so few.
+    for k in (at..n).rev() {
+        let moved = read_u16(key, 2 * k + 1);
+        write_u16(key, 2 * k + 3, moved);
     }
     write_u16(key, 2 * at + 1, atom as u32);
     key[0] = n as u8 + 1;
@@ -83,11 +80,8 @@ pub fn join(key: &mut [u8], other: &[u8])
     ensures { (b : Bytes) (m n : Monomial) → Key b key.old m → Key b other.now n →
         Key b key.new (joined m n) }
 {
-    let n = other[0] as usize;
-    let mut k = 0;
-    while k < n {
+    for k in 0..other[0] as usize {
         put_atom(key, read_u16(other, 2 * k + 1) as usize);
-        k += 1;
     }
 }
 
@@ -99,8 +93,7 @@ pub fn copy_key(entries: &[u8], k: usize, key: &mut [u8])
     ensures { key.new ≡ key_at entries.now k }
 {
     let start = PLACE_BYTES * k;
-    let end = start + MONOMIAL_BYTES;
-    paste(key, 0, &entries[start..end]);
+    key.copy_from_slice(&entries[start..start + MONOMIAL_BYTES]);
 }
 
 // The coefficient of entry k.
@@ -116,8 +109,10 @@ pub fn put_entry(entries: &mut [u8], k: usize, key: &[u8], value: Number)
     ensures { entries.new ≡ put_entry entries.old k key.now value }
 {
     let start = PLACE_BYTES * k;
-    paste(entries, start, key);
-    value.write(entries, start + MONOMIAL_BYTES);
+    let end = start + MONOMIAL_BYTES;
+    // The compiler copies a part of known length without a call.
+    entries[start..end].copy_from_slice(&key[..MONOMIAL_BYTES]);
+    value.write(entries, end);
 }
 
 fn blank_entry(entries: &mut [u8], k: usize)
@@ -133,14 +128,11 @@ fn find(entries: &[u8], n: usize, key: &[u8]) -> usize
     requires { MonomialCount n entries.now }
     ensures { result ≡ area.place (keys_of entries.now n) key.now }
 {
-    let mut k = 0;
-    while k < n {
+    for k in 0..n {
         let start = PLACE_BYTES * k;
-        let end = start + MONOMIAL_BYTES;
-        if same_bytes(&entries[start..end], key) {
+        if same_bytes(&entries[start..start + MONOMIAL_BYTES], key) {
             return k;
         }
-        k += 1;
     }
     n
 }
@@ -150,10 +142,8 @@ pub fn clear(entries: &mut [u8], n: usize)
     requires { MonomialCount n entries.old }
     ensures { entries.new ≡ blanked n entries.old }
 {
-    let mut k = 0;
-    while k < n {
+    for k in 0..n {
         blank_entry(entries, k);
-        k += 1;
     }
 }
 
@@ -190,7 +180,7 @@ pub fn insert(entries: &mut [u8], n: usize, key: &[u8], value: Number) -> Insert
         put_entry(entries, n, key, value);
         return Inserted::Length(n + 1);
     }
-    let Checked::Value(sum) = value_at(entries, k).add(value) else {
+    let Some(sum) = value_at(entries, k).add(value) else {
         clear(entries, n);
         return Inserted::Refused(NUMBER_RANGE);
     };

@@ -15,8 +15,7 @@ ghost use Rattle.polynomial.specs.Memory.PolynomialArea.{enter_scaled, combined_
 ghost use Rattle.polynomial.specs.declared.polynomial.Combined.TheVariants as combined;
 
 use crate::monomials::{Inserted, clear, copy_key, insert, inserted_refusal, join, value_at};
-use numbers::bytes::paste;
-use numbers::number::{Checked, Number};
+use numbers::number::Number;
 use terms::areas::{MAX_ATOMS, MONOMIAL_BYTES, POLYNOMIAL_BYTES};
 use terms::refusal::{NUMBER_RANGE, POLYNOMIAL_SIZE};
 
@@ -69,8 +68,7 @@ pub fn area_at(stack: &[u8], j: usize) -> &[u8]
     ensures { result.now ≡ part_at j stack.now }
 {
     let start = POLYNOMIAL_BYTES * j;
-    let end = start + POLYNOMIAL_BYTES;
-    &stack[start..end]
+    &stack[start..start + POLYNOMIAL_BYTES]
 }
 
 // Empties area j of n entries.
@@ -80,8 +78,7 @@ pub fn clear_at(stack: &mut [u8], j: usize, n: usize)
         n ≡ length (get_or ms j []) → Stacked b stack.new (set ms j []) }
 {
     let start = POLYNOMIAL_BYTES * j;
-    let end = start + POLYNOMIAL_BYTES;
-    clear(&mut stack[start..end], n);
+    clear(&mut stack[start..start + POLYNOMIAL_BYTES], n);
 }
 
 // Enters a monomial into area j.
@@ -93,8 +90,7 @@ pub fn insert_at(stack: &mut [u8], j: usize, n: usize, key: &[u8], value: Number
         InsertsAt b stack.new ms j result (insert monomials (limited l) (get_or ms j []) x value) }
 {
     let start = POLYNOMIAL_BYTES * j;
-    let end = start + POLYNOMIAL_BYTES;
-    insert(&mut stack[start..end], n, key, value)
+    insert(&mut stack[start..start + POLYNOMIAL_BYTES], n, key, value)
 }
 
 // ---- mul
@@ -116,12 +112,12 @@ fn enter_product(stack: &mut [u8], x: &[u8], c: Number, k: usize, m: usize) -> I
         clear_at(stack, 2, m);
         return Inserted::Refused(POLYNOMIAL_SIZE);
     }
-    let Checked::Value(value) = c.mul(d) else {
+    let Some(value) = c.mul(d) else {
         clear_at(stack, 2, m);
         return Inserted::Refused(NUMBER_RANGE);
     };
     let mut key = [0u8; MONOMIAL_BYTES];
-    paste(&mut key, 0, x);
+    key.copy_from_slice(x);
     join(&mut key, &other);
     insert_at(stack, 2, m, &key, value)
 }
@@ -136,14 +132,12 @@ fn mul_each(stack: &mut [u8], x: &[u8], c: Number, n: usize, m: usize) -> Insert
         InsertsAt b stack.new (p ∷ q ∷ s ∷ []) 2 result (mul_each (limited l) y c q s) }
 {
     let mut len = m;
-    let mut k = 0;
-    while k < n {
+    for k in 0..n {
         let answer = enter_product(stack, x, c, k, len);
         let Inserted::Length(longer) = answer else {
             return answer;
         };
         len = longer;
-        k += 1;
     }
     Inserted::Length(len)
 }
@@ -164,7 +158,7 @@ fn mul_entry(stack: &mut [u8], k: usize, n: usize, constant: Number, m: usize) -
     let Inserted::Length(len) = answer else {
         return answer;
     };
-    let Checked::Value(value) = c.mul(constant) else {
+    let Some(value) = c.mul(constant) else {
         clear_at(stack, 2, len);
         return Inserted::Refused(NUMBER_RANGE);
     };
@@ -182,14 +176,12 @@ fn mul_left(stack: &mut [u8], p: usize, n: usize, constant: Number) -> Inserted
         (mul_left (limited l) u (combination q constant) []) }
 {
     let mut len = 0;
-    let mut k = 0;
-    while k < p {
+    for k in 0..p {
         let answer = mul_entry(stack, k, n, constant, len);
         let Inserted::Length(longer) = answer else {
             return answer;
         };
         len = longer;
-        k += 1;
     }
     Inserted::Length(len)
 }
@@ -206,7 +198,7 @@ fn enter_scaled(stack: &mut [u8], j: usize, k: usize, q: Number, t: usize, m: us
     let mut key = [0u8; MONOMIAL_BYTES];
     copy_key(area_at(stack, j), k, &mut key);
     let c = value_at(area_at(stack, j), k);
-    let Checked::Value(value) = c.mul(q) else {
+    let Some(value) = c.mul(q) else {
         clear_at(stack, t, m);
         return Inserted::Refused(NUMBER_RANGE);
     };
@@ -229,14 +221,12 @@ pub fn insert_scaled(
         InsertsAt b stack.new ms t result (insert_scaled (limited l) (get_or ms j []) q (get_or ms t [])) }
 {
     let mut len = m;
-    let mut k = 0;
-    while k < n {
+    for k in 0..n {
         let answer = enter_scaled(stack, j, k, q, t, len);
         let Inserted::Length(longer) = answer else {
             return answer;
         };
         len = longer;
-        k += 1;
     }
     Inserted::Length(len)
 }
@@ -248,11 +238,7 @@ fn move_down(stack: &mut [u8])
         Stacked b stack.new (s ∷ q ∷ s ∷ []) }
 {
     let from = 2 * POLYNOMIAL_BYTES;
-    let mut i = 0;
-    while i < POLYNOMIAL_BYTES {
-        stack[i] = stack[from + i];
-        i += 1;
-    }
+    stack.copy_within(from..from + POLYNOMIAL_BYTES, 0);
 }
 
 // Empties areas 0 and 1.
@@ -275,24 +261,20 @@ pub fn mul(stack: &mut [u8], p: Polynomial, q: Polynomial) -> Combined
         PolyHas q v → (l : ℕ) →
         area.Combines b stack.new result (mul (limited l) (poly_with p u) (poly_with q v)) }
 {
-    let n = p.len;
-    let c = p.constant;
-    let m = q.len;
-    let d = q.constant;
-    let left = mul_left(stack, n, m, d);
+    let left = mul_left(stack, p.len, q.len, q.constant);
     let Inserted::Length(len) = left else {
-        return refuse(stack, n, m, inserted_refusal(left));
+        return refuse(stack, p.len, q.len, inserted_refusal(left));
     };
-    let scaled = insert_scaled(stack, 1, m, c, 2, len);
+    let scaled = insert_scaled(stack, 1, q.len, p.constant, 2, len);
     let Inserted::Length(k) = scaled else {
-        return refuse(stack, n, m, inserted_refusal(scaled));
+        return refuse(stack, p.len, q.len, inserted_refusal(scaled));
     };
-    let Checked::Value(constant) = c.mul(d) else {
+    let Some(constant) = p.constant.mul(q.constant) else {
         clear_at(stack, 2, k);
-        return refuse(stack, n, m, NUMBER_RANGE);
+        return refuse(stack, p.len, q.len, NUMBER_RANGE);
     };
     move_down(stack);
-    clear_at(stack, 1, m);
+    clear_at(stack, 1, q.len);
     clear_at(stack, 2, k);
     Combined::Is(Polynomial { len: k, constant })
 }

@@ -2,7 +2,7 @@
 -- other are found at once (`pairs`), as the differences of the premise.
 use mathlib.Core.Path.{◌≡◌, refl, sym, ◌∙◌, ap}
 use mathlib.Core.List.{List}
-use mathlib.Core.Option.{Option, some, none}
+use Rattle.std.specs.Prelude.{Option, Some, None}
 use Prim.Native.Nat.{ℕ, zero, suc, ◌%◌, ◌<◌}
 use native.Mathlib.Omega.{arith}
 use borrow.Author.Tests.{eq-eqb, ne_eqb}
@@ -13,11 +13,8 @@ use Rattle.terms.specs.Operator.{Equals, Sub, ToReal}
 use Rattle.terms.specs.Term.{Term, unary, binary}
 use Rattle.terms.specs.Book.{tree}
 use Rattle.terms.specs.Readers.{Child, Children, found, found_two}
-use Rattle.terms.specs.declared.term.Only.{Only}
-use Rattle.terms.specs.declared.term.Only.TheVariants as only
-use Rattle.terms.specs.declared.term.Two.{Two}
 use Rattle.rules.specs.Refusal.{Refusal, Result, ◌>>=◌, assert, or_else}
-use Rattle.rules.specs.Refusal.Outcome.{ok, refused}
+use Rattle.std.specs.Prelude.{Ok, Err}
 use Rattle.rules.specs.Refusal.Refusal.{term_of_wrong_form}
 use Rattle.rules.specs.Limits.{bitvector_err}
 use Rattle.rules.specs.Shapes.{assert_eq, both, bounds_case, solve_all, max_names}
@@ -43,21 +40,21 @@ pub pairs :
     {A : Type 0} (r : Refusal) (f : Term × Term → Term × Term → Result A) (m n : Option (Term × Term)) →
     (or_else m r >>= λ x. or_else n r >>= λ y. f x y) ≡ (or_else (both m n) r >>= λ q. f q.0 q.1)
 unfolding or_else ◌>>=◌
-pairs r f (some x) (some y) = refl
-pairs r f (some x) none = refl
-pairs r f none n = refl
+pairs r f (Some x) (Some y) = refl
+pairs r f (Some x) None = refl
+pairs r f None n = refl
 
 -- a table that holds record i alone is matched
 module _
     (b : Bytes) (i o n : ℕ) (names : List ℕ)
     (matched : found_names b i n names ≡ solve_all (equated_form o) (names_in b i 1 (replicate max_names i))) where
-  pub not-equated : n ≡ 0 → none ≡ equated o (tree b i)
+  pub not-equated : n ≡ 0 → None ≡ equated o (tree b i)
   unfolding equated
   not-equated e = ap equated_in (sym (ap (λ (n : ℕ). found_names b i n names) e) ∙ matches_of b i (equated_form o) matched)
 
   pub both-equated :
       (n ≡ 0 → ⊥) → length names ≡ max_names →
-      some (pair_of b (get_or names 3 0) (get_or names 4 0), pair_of b (get_or names 5 0) (get_or names 6 0))
+      Some (pair_of b (get_or names 3 0) (get_or names 4 0), pair_of b (get_or names 5 0) (get_or names 6 0))
       ≡ equated o (tree b i)
   unfolding equated
   both-equated h l = go n h ∙ ap equated_in (matches_of b i (equated_form o) matched)
@@ -67,7 +64,7 @@ module _
 
       go :
           (n : ℕ) → (n ≡ 0 → ⊥) →
-          some (pair_of b (get_or names 3 0) (get_or names 4 0), pair_of b (get_or names 5 0) (get_or names 6 0))
+          Some (pair_of b (get_or names 3 0) (get_or names 4 0), pair_of b (get_or names 5 0) (get_or names 6 0))
           ≡ equated_in (found_names b i n names)
       go zero h = absurd (h refl)
       go (suc n) h =
@@ -76,50 +73,50 @@ module _
 -- ---- differences
 
 module _ (b : Bytes) (i d : ℕ) where
-  pub plain-difference : (d ≡ Sub → ⊥) → {w : Two} → Children b i w (binary d (tree b i)) →
+  pub plain-difference : (d ≡ Sub → ⊥) → {w : Option (ℕ × ℕ)} → Children b i w (binary d (tree b i)) →
       found_two b w ≡ difference d (tree b i)
   unfolding difference when◌then◌else◌
   plain-difference h c = c.is ∙ sym (rw (ne_eqb d Sub h))
 
-  module _ (e : d ≡ Sub) {u : Only} (c : Child b i u (unary ToReal (tree b i))) {w : Two} where
+  module _ (e : d ≡ Sub) {u : Option ℕ} (c : Child b i u (unary ToReal (tree b i))) {w : Option (ℕ × ℕ)} where
     pub number-difference :
-        u ≡ only.NotOne → Children b i w (binary d (tree b i)) → found_two b w ≡ difference d (tree b i)
+        u ≡ None → Children b i w (binary d (tree b i)) → found_two b w ≡ difference d (tree b i)
     unfolding difference when◌then◌else◌
     number-difference f k = k.is ∙ sym (rw (eq-eqb d Sub e, sym c.is ∙ ap (found b) f))
 
     pub real-difference :
-        {x : ℕ} → u ≡ only.Of x → Children b x w (binary d (tree b x)) → found_two b w ≡ difference d (tree b i)
+        {x : ℕ} → u ≡ Some x → Children b x w (binary d (tree b x)) → found_two b w ≡ difference d (tree b i)
     unfolding difference when◌then◌else◌
     real-difference f k = k.is ∙ sym (rw (eq-eqb d Sub e, sym c.is ∙ ap (found b) f))
 
 -- ---- the premise
 
 module _ (b : Bytes) (i o d : ℕ) (r : Bounds) (h : found_bounds b r ≡ equated o (tree b i)) where
-  pub not-scaled : r ≡ bounds.NotBoth → refused term_of_wrong_form ≡ scaled o d (tree b i)
+  pub not-scaled : r ≡ bounds.NotBoth → Err term_of_wrong_form ≡ scaled o d (tree b i)
   unfolding scaled or_else ◌>>=◌
   not-scaled e = sym (rw (no_bounds b r h e))
 
   module _
-      {c1 xs c2 ys : ℕ} (r-is : r ≡ bounds.Are c1 xs c2 ys) (x y : Two) (s : Bounds)
+      {c1 xs c2 ys : ℕ} (r-is : r ≡ bounds.Are c1 xs c2 ys) (x y : Option (ℕ × ℕ)) (s : Bounds)
       (at_once : (b : Bytes) → found_bounds b s ≡ both (found_two b x) (found_two b y))
       (left : found_two b x ≡ difference d (tree b xs)) (right : found_two b y ≡ difference d (tree b ys)) where
     differences :
         scaled o d (tree b i)
-        ≡ (or_else (found_bounds b s) term_of_wrong_form >>= λ q. ok (tree b c1, q.0, tree b c2, q.1))
+        ≡ (or_else (found_bounds b s) term_of_wrong_form >>= λ q. Ok (tree b c1, q.0, tree b c2, q.1))
     unfolding scaled or_else ◌>>=◌
     differences =
         rw (bounds-are b r h r-is, scaled)
-        (pairs term_of_wrong_form (λ x y. ok (tree b c1, x, tree b c2, y)) (difference d (tree b xs))
+        (pairs term_of_wrong_form (λ x y. Ok (tree b c1, x, tree b c2, y)) (difference d (tree b xs))
         (difference d (tree b ys))
         ∙ rw (both-asked x y s b at_once left right))
 
-    pub no_differences : s ≡ bounds.NotBoth → refused term_of_wrong_form ≡ scaled o d (tree b i)
+    pub no_differences : s ≡ bounds.NotBoth → Err term_of_wrong_form ≡ scaled o d (tree b i)
     unfolding or_else ◌>>=◌
     no_differences e = sym (differences ∙ rw e)
 
     pub is_scaled :
         {x1 x2 y1 y2 : ℕ} → s ≡ bounds.Are x1 x2 y1 y2 →
-        ok (tree b c1, pair_of b x1 x2, tree b c2, pair_of b y1 y2) ≡ scaled o d (tree b i)
+        Ok (tree b c1, pair_of b x1 x2, tree b c2, pair_of b y1 y2) ≡ scaled o d (tree b i)
     unfolding or_else ◌>>=◌
     is_scaled e = sym (differences ∙ rw e)
 
@@ -177,12 +174,12 @@ module _ (p : Scaled) (phi : Term) {first : Asserted} (first_is_lem : first ≡ 
       unfolding bitvector_case
       both-odd k = goes_on _ _ first_is_lem holds (goes_on _ _ second_is holds-too k)
 
-      pub not-equal-sides : equated Equals phi ≡ none → asserted.Refused 24 ≡ asserted_of (bitvector_case p phi)
+      pub not-equal-sides : equated Equals phi ≡ None → asserted.Refused 24 ≡ asserted_of (bitvector_case p phi)
       unfolding or_else ◌>>=◌
       not-equal-sides e = both-odd (rw e)
 
       pub equal-sides :
-          {x y : Term × Term} {r : Asserted} → equated Equals phi ≡ some (x, y) →
+          {x y : Term × Term} {r : Asserted} → equated Equals phi ≡ Some (x, y) →
           r ≡ asserted_of (assert_sides x y p) → r ≡ asserted_of (bitvector_case p phi)
       unfolding or_else ◌>>=◌
       equal-sides e k = both-odd (rw e k)

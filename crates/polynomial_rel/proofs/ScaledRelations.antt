@@ -9,10 +9,8 @@ use Rattle.numbers.specs.Bytes.{Bytes}
 use Rattle.terms.specs.Operator.{Sub, Mult, BvSub, BvMul}
 use Rattle.terms.specs.Term.{Term}
 use Rattle.terms.specs.Book.{tree}
-use Rattle.terms.specs.declared.term.Only.{Only}
-use Rattle.terms.specs.declared.term.Only.TheVariants as only
 use Rattle.rules.specs.Refusal.{Result, ◌>>=◌, assert}
-use Rattle.rules.specs.Refusal.Outcome.{ok, refused}
+use Rattle.std.specs.Prelude.{Ok, Err}
 use Rattle.rules.specs.Refusal.Refusal.{wrong_length_of_clause, wrong_length_of_premise_clause, coeff_is_zero}
 use Rattle.rules.specs.Limits.{Limits, limited, fraction_err}
 use Rattle.rules.specs.Shapes.{Clause, only_literal}
@@ -34,6 +32,7 @@ use Rattle.polynomial_rel.specs.declared.polynomial_rel.Premise.TheVariants as p
 use Rattle.polynomial_rel.specs.declared.polynomial_rel.Signs.{Signs}
 use Rattle.polynomial_rel.specs.declared.polynomial_rel.Signs.TheVariants as signs
 use Rattle.rules.proofs.ExpectedTerms.{number-found, no_number_by}
+use Rattle.std.specs.Prelude.{Option, None, Some}
 
 -- ---- the coefficients of numbers
 
@@ -63,10 +62,6 @@ module _ (s t : Term) {x : Expected} (first : (l : ℕ) → Expects x (fraction_
     unfolding ◌>>=◌
     both-numbers r h k l = rw (first_read l, number-found (second l) h) k
 
-pub positive_like : (t : Bool) → beq true t ≡ t
-positive_like true = refl
-positive_like false = refl
-
 module _ (p q : Rational) where
   pub first_zero : is_zero p ≡ true → Refuses 37 (one_sign p q)
   unfolding one_sign assert ◌>>=◌
@@ -78,10 +73,9 @@ module _ (p q : Rational) where
     second_zero e = refuses coeff_is_zero (rw (first, one_sign, e))
 
     pub same_signs :
-        {s t r : Bool} → is_zero q ≡ false → is_positive p ≡ s → is_positive q ≡ t → beq s t ≡ r →
-        one_sign p q ≡ ok r
+        {s t : Bool} → is_zero q ≡ false → s ≡ is_positive p → t ≡ is_positive q → one_sign p q ≡ Ok (beq s t)
     unfolding one_sign assert ◌>>=◌
-    same_signs second e f g = rw (first, one_sign, second, e, f, g)
+    same_signs second e f = rw (first, one_sign, second, e, f)
 
 -- ---- the case over numbers
 
@@ -104,14 +98,14 @@ signs_first :
     (p : Scaled) (phi : Term) (x y : Result Rational) →
     numbers_of p phi x y ≡ ((x >>= λ c1. y >>= λ c2. one_sign c1 c2) >>= λ same. relation_case same p phi)
 unfolding one_sign assert ◌>>=◌
-signs_first p phi (refused r) y = refl
-signs_first p phi (ok a) (refused r) = refl
-signs_first p phi (ok a) (ok b) = go (is_zero a) (is_zero b) (beq (is_positive a) (is_positive b))
+signs_first p phi (Err r) y = refl
+signs_first p phi (Ok a) (Err r) = refl
+signs_first p phi (Ok a) (Ok b) = go (is_zero a) (is_zero b) (beq (is_positive a) (is_positive b))
   where
     go :
         (s t same : Bool) →
         (assert (not s) coeff_is_zero >>= λ u. assert (not t) coeff_is_zero >>= λ v. relation_case same p phi)
-        ≡ ((assert (not s) coeff_is_zero >>= λ u. assert (not t) coeff_is_zero >>= λ v. ok same) >>= λ same.
+        ≡ ((assert (not s) coeff_is_zero >>= λ u. assert (not t) coeff_is_zero >>= λ v. Ok same) >>= λ same.
         relation_case same p phi)
     go true t same = refl
     go false true same = refl
@@ -139,7 +133,7 @@ module _ (p : Scaled) (phi : Term) (r : Signs) (h : (l : ℕ) → SignsAre r (si
   unfolding ◌>>=◌
   signs_are {same} e k l =
       let signs = signs_of (limited l) p.0 p.2 in
-      let is : signs ≡ ok same = subst (λ (r : Signs). SignsAre r signs) e (h l) in
+      let is : signs ≡ Ok same = subst (λ (r : Signs). SignsAre r signs) e (h l) in
       k ∙ sym (ap asserted_of (numbers_in_turn (limited l) p phi) ∙ rw is)
 
 -- ---- the step
@@ -166,14 +160,14 @@ module _ (b : Bytes) (i : ℕ) (phi : Term) (r : Premise)
     unfolding scaled_case ◌>>=◌
     neither_case f l = rw (sym h ∙ ap (scaled_in b) e, scaled_case, sym g ∙ ap (scaled_in b) f)
 
-premise_is : (c : Clause) {t : Term} → only_literal c ≡ ok t → premise_term c ≡ ok t
+premise_is : (c : Clause) {t : Term} → only_literal c ≡ Ok t → premise_term c ≡ Ok t
 unfolding only_literal
 premise_is [] e = cc
 premise_is (t ∷ []) e = e
 premise_is (t ∷ u ∷ c) e = cc
 
 no_premise :
-    (c : Clause) → only_literal c ≡ refused wrong_length_of_clause → premise_term c ≡ refused wrong_length_of_premise_clause
+    (c : Clause) → only_literal c ≡ Err wrong_length_of_clause → premise_term c ≡ Err wrong_length_of_premise_clause
 unfolding only_literal
 no_premise [] e = refl
 no_premise (t ∷ []) e = cc
@@ -201,12 +195,12 @@ module _ (b part given : Bytes) (count n : ℕ) where
     unfolding poly_simp_rel scaled_case ◌>>=◌
     one_premise l ps are = rw (are.1 one)
 
-    pub other-conclusion : {r : Only} → OnlyIn part r → r ≡ only.NotOne → Judged (verdict.Refused 22)
+    pub other-conclusion : {r : Option ℕ} → OnlyIn part r → r ≡ None → Judged (verdict.Refused 22)
     unfolding ◌>>=◌
     other-conclusion h e l ps are = rw (one_premise l ps are, no_literal part b h e)
 
-    module _ {r s : Only} {phi : ℕ} (h : OnlyIn part r) (e : r ≡ only.Of phi) (g : OnlyIn given s) where
-      pub other-premise : s ≡ only.NotOne → Judged (verdict.Refused 23)
+    module _ {r s : Option ℕ} {phi : ℕ} (h : OnlyIn part r) (e : r ≡ Some phi) (g : OnlyIn given s) where
+      pub other-premise : s ≡ None → Judged (verdict.Refused 23)
       unfolding ◌>>=◌
       other-premise f l ps are =
           rw (
@@ -215,7 +209,7 @@ module _ (b part given : Bytes) (count n : ℕ) where
             no_premise (terms_in b given) (no_literal given b g f),
           )
 
-      module _ {t : ℕ} (f : s ≡ only.Of t) where
+      module _ {t : ℕ} (f : s ≡ Some t) where
         both-clauses :
             (l : ℕ) (ps : List Clause) → PremisesAre b count given ps →
             poly_simp_rel (limited l) (terms_in b part) ps ≡ scaled_case (limited l) (tree b t) (tree b phi)

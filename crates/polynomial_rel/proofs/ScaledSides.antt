@@ -2,21 +2,20 @@
 -- are found at once (`sides-steps`).
 use mathlib.Core.Path.{◌≡◌, refl, sym, ◌∙◌, ap}
 use mathlib.Core.Bool.{Bool, true, false, ◌&&◌, ◌||◌, cond}
-use mathlib.Core.Option.{Option, some, none}
-use Prim.Native.Nat.{ℕ, ◌≤◌, ◌<◌}
-use borrow.Author.Tests.{eq-eqb, ne_eqb, le-leb, lt-leb}
+use mathlib.Core.Logic.{◌⊎◌, inl, inr}
+use Rattle.std.specs.Prelude.{Option, Some, None}
+use Prim.Native.Nat.{ℕ}
+use borrow.Author.Tests.{eq-eqb, ne_eqb}
 use lib.Dec.{eqb}
 use Rattle.numbers.specs.Bytes.{Bytes}
-use Rattle.terms.specs.Operator.{Equals, GreaterEq}
+use Rattle.terms.specs.Operator.{Equals}
 use Rattle.terms.specs.Term.{Term, Terms, binary, two?}
 use Rattle.terms.specs.Term.Term.{integer, rational, bitvector, atom, op}
 use Rattle.terms.specs.Term.Terms.{nil, ◌▹◌}
 use Rattle.terms.specs.Book.{tree}
 use Rattle.terms.specs.Readers.{Children, as_op, operator_of}
-use Rattle.terms.specs.declared.term.Two.{Two}
-use Rattle.terms.specs.declared.term.Two.TheVariants as two
 use Rattle.rules.specs.Refusal.{Result, ◌>>=◌, assert, or_else}
-use Rattle.rules.specs.Refusal.Outcome.{refused}
+use Rattle.std.specs.Prelude.{Err}
 use Rattle.rules.specs.Refusal.Refusal.{coeff_different_signums, invalid_operators}
 use Rattle.rules.specs.Limits.{op_err}
 use Rattle.rules.specs.Shapes.{is_relation, both}
@@ -36,7 +35,7 @@ use Rattle.polynomial_rel.proofs.ScaledPremises.{pairs}
 
 -- an operation's two arguments, asked for by its operator
 abbrev two_in : ℕ → Option (ℕ × Terms) → Option (Term × Term)
-two_in o m = elim m [ some q ↦ elim (eqb o q.0) [ true ↦ two? q.1 | false ↦ none ] | none ↦ none ]
+two_in o m = elim m [ Some q ↦ elim (eqb o q.0) [ true ↦ two? q.1 | false ↦ None ] | None ↦ None ]
 
 binary_in : (o : ℕ) (t : Term) → binary o t ≡ two_in o (as_op t)
 unfolding binary as_op
@@ -49,8 +48,8 @@ binary_in o (op i q ts) = go (eqb o q)
     go :
         (t : Bool) →
         ◌≡◌ {A = Option (Term × Term)}
-        (elim (cond t (some ts) none) [ some us ↦ two? us | none ↦ none ])
-        (elim t [ true ↦ two? ts | false ↦ none ])
+        (elim (cond t (Some ts) None) [ Some us ↦ two? us | None ↦ None ])
+        (elim t [ true ↦ two? ts | false ↦ None ])
     go true = refl
     go false = refl
 
@@ -61,23 +60,13 @@ operands-two (a ▹ nil) = refl
 operands-two (a ▹ b ▹ nil) = refl
 operands-two (a ▹ b ▹ c ▹ ts) = refl
 
-both_none : (m : Option (Term × Term)) → both m none ≡ none
-both_none (some p) = refl
-both_none none = refl
-
-module _ (o : ℕ) where
-  pub among_relations : Equals ≤ o → o ≤ GreaterEq → true ≡ is_relation o
-  among_relations h k = rw (le-leb Equals o h, le-leb o GreaterEq k)
-
-  pub below_relations : o < Equals → false ≡ is_relation o
-  below_relations h = rw (lt-leb Equals o h)
-
-  pub above_relations : Equals ≤ o → GreaterEq < o → false ≡ is_relation o
-  above_relations h k = rw (le-leb Equals o h, lt-leb o GreaterEq k)
+both_none : (m : Option (Term × Term)) → both m None ≡ None
+both_none (Some p) = refl
+both_none None = refl
 
 -- what an operation is as an operator and arguments
 abbrev operation_in : Option (ℕ × Terms) → ℕ × Terms
-operation_in m = (elim m [ some q ↦ q.0 | none ↦ 0 ], elim m [ some q ↦ q.1 | none ↦ nil ])
+operation_in m = (elim m [ Some q ↦ q.0 | None ↦ 0 ], elim m [ Some q ↦ q.1 | None ↦ nil ])
 
 module _ (same : Bool) (p : Scaled) where
   abbrev rest_of_sides : ℕ → Term × Term → Term × Term → Result (Unit {0})
@@ -99,7 +88,7 @@ module _ (same : Bool) (p : Scaled) where
   asked_for_none :
       (o : ℕ) (r t : Bool) (ts : Terms) →
       (assert (r && t) invalid_operators >>= λ u. operands ts >>= λ x. operands nil >>= λ y. rest_of_sides o x y)
-      ≡ refused invalid_operators
+      ≡ Err invalid_operators
   unfolding assert or_else ◌>>=◌
   asked_for_none o true true nil = refl
   asked_for_none o true true (a ▹ nil) = refl
@@ -111,8 +100,8 @@ module _ (same : Bool) (p : Scaled) where
   found_none :
       (o : ℕ) (r : Bool) (m : Option (Term × Term)) →
       (assert r invalid_operators >>= λ u.
-      or_else (both m none) invalid_operators >>= λ q. rest_of_sides o q.0 q.1)
-      ≡ refused invalid_operators
+      or_else (both m None) invalid_operators >>= λ q. rest_of_sides o q.0 q.1)
+      ≡ Err invalid_operators
   unfolding assert or_else ◌>>=◌
   found_none o true m = rw (both_none m)
   found_none o false m = refl
@@ -121,14 +110,14 @@ module _ (same : Bool) (p : Scaled) where
       (o : ℕ) (ts : Terms) (n : Option (ℕ × Terms)) →
       sides_case same p (o, ts) (operation_in n) ≡ found_sides o (two? ts) (two_in o n)
   unfolding sides_case assert or_else ◌>>=◌
-  sides_of o ts none = asked_for_none o (is_relation o) (eqb o 0) ts ∙ sym (found_none o (is_relation o) (two? ts))
-  sides_of o ts (some (q, us)) = go (is_relation o) (eqb o q)
+  sides_of o ts None = asked_for_none o (is_relation o) (eqb o 0) ts ∙ sym (found_none o (is_relation o) (two? ts))
+  sides_of o ts (Some (q, us)) = go (is_relation o) (eqb o q)
     where
       go :
           (r t : Bool) →
           (assert (r && t) invalid_operators >>= λ u. operands ts >>= λ x. operands us >>= λ y. rest_of_sides o x y)
           ≡ (assert r invalid_operators >>= λ u.
-          or_else (both (two? ts) (elim t [ true ↦ two? us | false ↦ none ])) invalid_operators >>= λ q.
+          or_else (both (two? ts) (elim t [ true ↦ two? us | false ↦ None ])) invalid_operators >>= λ q.
           rest_of_sides o q.0 q.1)
       go true true = operands-pairs o ts us
       go true false = sym (found_none o true (two? ts))
@@ -139,9 +128,9 @@ module _ (same : Bool) (p : Scaled) where
       sides_case same p (operation_in m) (operation_in n)
       ≡ found_sides (operation_in m).0 (two_in (operation_in m).0 m) (two_in (operation_in m).0 n)
   unfolding sides_case assert or_else ◌>>=◌
-  sides_in none n = refl
-  sides_in (some (o, ts)) n =
-      let own : two_in o (some (o, ts)) ≡ two? ts = rw (two_in, eq-eqb o o refl) in
+  sides_in None n = refl
+  sides_in (Some (o, ts)) n =
+      let own : two_in o (Some (o, ts)) ≡ two? ts = rw (two_in, eq-eqb o o refl) in
       sides_of o ts n ∙ ap (λ (m : Option (Term × Term)). found_sides o m (two_in o n)) (sym own)
 
   module _ (s t : Term) {o : ℕ} (o_is : o ≡ operator_of s) where
@@ -156,13 +145,13 @@ module _ (same : Bool) (p : Scaled) where
 
     module _ (relation : is_relation o ≡ true) where
       pub no_sides :
-          both (binary o s) (binary o t) ≡ none →
+          both (binary o s) (binary o t) ≡ None →
           asserted.Refused 40 ≡ asserted_of (sides_case same p (operation_of s) (operation_of t))
       unfolding assert or_else ◌>>=◌
       no_sides e = sym (ap asserted_of sides-steps ∙ rw (relation, e))
 
       module _
-          {x y : Term × Term} (are : both (binary o s) (binary o t) ≡ some (x, y)) {signs : Asserted}
+          {x y : Term × Term} (are : both (binary o s) (binary o t) ≡ Some (x, y)) {signs : Asserted}
           (signs_are : signs ≡ asserted_of (assert (eqb o Equals || same) coeff_different_signums)) where
         sides-are : sides_case same p (operation_of s) (operation_of t) ≡ rest_of_sides o x y
         unfolding assert or_else ◌>>=◌
@@ -184,28 +173,25 @@ module _ (o : ℕ) (same : Bool) where
   abbrev Signed : Asserted → Type 0
   Signed r = r ≡ asserted_of (assert (eqb o Equals || same) coeff_different_signums)
 
-  pub equal-relation : o ≡ Equals → Signed asserted.Holds
+  pub signs-agree : ((o ≡ Equals) ⊎ ((o ≡ Equals → ⊥) × (same ≡ true))) → Signed asserted.Holds
   unfolding assert
-  equal-relation e = rw (eq-eqb o Equals e)
+  signs-agree (inl e) = rw (eq-eqb o Equals e)
+  signs-agree (inr h) = rw (ne_eqb o Equals h.0, h.1)
 
-  pub same_relation : (o ≡ Equals → ⊥) → same ≡ true → Signed asserted.Holds
+  pub signs-differ : (o ≡ Equals → ⊥) × (same ≡ false) → Signed (asserted.Refused 38)
   unfolding assert
-  same_relation h e = rw (ne_eqb o Equals h, e)
-
-  pub other-relation : (o ≡ Equals → ⊥) → same ≡ false → Signed (asserted.Refused 38)
-  unfolding assert
-  other-relation h e = rw (ne_eqb o Equals h, e)
+  signs-differ h = rw (ne_eqb o Equals h.0, h.1)
 
 -- ---- two operations
 
 module _
-    (same : Bool) (p : Scaled) (b : Bytes) (i : ℕ) {w : Two} (c : Children b i w (binary Equals (tree b i))) where
-  pub no_equation : w ≡ two.NotTwo → asserted.Refused 24 ≡ asserted_of (relation_case same p (tree b i))
+    (same : Bool) (p : Scaled) (b : Bytes) (i : ℕ) {w : Option (ℕ × ℕ)} (c : Children b i w (binary Equals (tree b i))) where
+  pub no_equation : w ≡ None → asserted.Refused 24 ≡ asserted_of (relation_case same p (tree b i))
   unfolding relation_case ◌>>=◌
   no_equation e = rw (no_pair b i Equals c e, relation_case)
 
   module _
-      {x y : ℕ} (e : w ≡ two.Both x y) {first : ExpectedOperator}
+      {x y : ℕ} (e : w ≡ Some (x, y)) {first : ExpectedOperator}
       (left : first ≡ expected_operator (op_err (tree b x))) where
     opened :
         relation_case same p (tree b i)

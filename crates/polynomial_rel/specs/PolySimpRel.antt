@@ -1,14 +1,14 @@
 -- The rule poly_simp_rel on one step, src/checker/rules/polynomial.rs, line by line in the Rust's order.
 use Rattle.std.specs.Prelude.{◌&&◌, ◌||◌, not, List, [], ◌∷◌, ℕ, ◌%◌, eqb}
 use Rattle.std.specs.Bool.{beq}
-use Rattle.std.proofs.Math.Option.{Option, some, none}
+use Rattle.std.specs.Prelude.{Option, Some, None}
 use Rattle.numbers.specs.Choice.{when◌then◌else◌}
 use Rattle.numbers.specs.Rational.{is_zero, is_positive}
 use Rattle.terms.specs.Operator.{Equals, Sub, Mult, ToReal, BvSub, BvMul}
 use Rattle.terms.specs.Term.{Term, Terms, unary, binary}
 use Rattle.terms.specs.Term.Terms.{nil, ◌▹◌}
 use Rattle.rules.specs.Refusal.{Result, ◌>>=◌, assert, or_else}
-use Rattle.rules.specs.Refusal.Outcome.{ok, refused}
+use Rattle.std.specs.Prelude.{Ok, Err}
 use Rattle.rules.specs.Refusal.Refusal.{wrong_number_of_premises, wrong_length_of_premise_clause}
 use Rattle.rules.specs.Refusal.Refusal.{coeff_is_zero, coeff_different_signums, coeff_even, invalid_operators}
 use Rattle.rules.specs.Refusal.Refusal.{term_of_wrong_form}
@@ -17,15 +17,15 @@ use Rattle.rules.specs.Shapes.{Clause, only_literal, binary_err, is_relation, as
 
 -- get_premise_term
 abbrev pub premise_term : Clause → Result Term
-premise_term [] = refused wrong_length_of_premise_clause
-premise_term (t ∷ []) = ok t
-premise_term (t ∷ u ∷ ts) = refused wrong_length_of_premise_clause
+premise_term [] = Err wrong_length_of_premise_clause
+premise_term (t ∷ []) = Ok t
+premise_term (t ∷ u ∷ ts) = Err wrong_length_of_premise_clause
 
 -- assert_num_premises(premises, 1)
 abbrev pub only_premise : List Clause → Result Clause
-only_premise [] = refused wrong_number_of_premises
-only_premise (c ∷ []) = ok c
-only_premise (c ∷ d ∷ cs) = refused wrong_number_of_premises
+only_premise [] = Err wrong_number_of_premises
+only_premise (c ∷ []) = Ok c
+only_premise (c ∷ d ∷ cs) = Err wrong_number_of_premises
 
 -- c1, (x1, x2), c2, (y1, y2)
 abbrev pub Scaled : Type 0
@@ -36,8 +36,8 @@ abbrev pub equated_form : ℕ → Form
 equated_form o = (0 ≔ Equals of (1 ∷ 2 ∷ [])) ∷ (1 ≔ o of (3 ∷ 4 ∷ [])) ∷ (2 ≔ o of (5 ∷ 6 ∷ [])) ∷ []
 
 abbrev pub equated_in : Option Names → Option ((Term × Term) × (Term × Term))
-equated_in (some σ) = some ((σ.at 3, σ.at 4), (σ.at 5, σ.at 6))
-equated_in none = none
+equated_in (Some σ) = Some ((σ.at 3, σ.at 4), (σ.at 5, σ.at 6))
+equated_in None = None
 
 -- a, b, c and d
 unfoldable pub equated : ℕ → Term → Option ((Term × Term) × (Term × Term))
@@ -45,7 +45,7 @@ equated o t = equated_in (matches (equated_form o) t)
 
 -- (d x y), and of numbers also (to_real (- x y))
 unfoldable pub difference : ℕ → Term → Option (Term × Term)
-difference d t = when eqb d Sub then elim (unary ToReal t) [ some u ↦ binary d u | none ↦ binary d t ] else binary d t
+difference d t = when eqb d Sub then elim (unary ToReal t) [ Some u ↦ binary d u | None ↦ binary d t ] else binary d t
 
 -- (= (o c1 xs) (o c2 ys)), where xs and ys are differences by d
 unfoldable pub scaled : ℕ → ℕ → Term → Result Scaled
@@ -53,7 +53,7 @@ scaled o d t = do
   p ← or_else (equated o t) term_of_wrong_form
   x ← or_else (difference d p.0.1) term_of_wrong_form
   y ← or_else (difference d p.1.1) term_of_wrong_form
-  ok (p.0.0, x, p.1.0, y)
+  Ok (p.0.0, x, p.1.0, y)
 
 unfoldable pub assert_sides : Term × Term → Term × Term → Scaled → Result (Unit {0})
 assert_sides l r p = do
@@ -76,10 +76,10 @@ bitvector_case p phi = do
 
 -- two arguments, or InvalidOperators
 abbrev pub operands : Terms → Result (Term × Term)
-operands nil = refused invalid_operators
-operands (a ▹ nil) = refused invalid_operators
-operands (a ▹ b ▹ nil) = ok (a, b)
-operands (a ▹ b ▹ c ▹ ts) = refused invalid_operators
+operands nil = Err invalid_operators
+operands (a ▹ nil) = Err invalid_operators
+operands (a ▹ b ▹ nil) = Ok (a, b)
+operands (a ▹ b ▹ c ▹ ts) = Err invalid_operators
 
 unfoldable pub number_case : Limits → Scaled → Term → Result (Unit {0})
 number_case l p phi = do
@@ -102,6 +102,6 @@ poly_simp_rel l conclusion premises = do
   phi ← only_literal conclusion
   t ← premise_term premise
   elim (scaled BvMul BvSub t) [
-    | ok p ↦ bitvector_case p phi
-    | refused r ↦ scaled Mult Sub t >>= λ p. number_case l p phi
+    | Ok p ↦ bitvector_case p phi
+    | Err r ↦ scaled Mult Sub t >>= λ p. number_case l p phi
   ]

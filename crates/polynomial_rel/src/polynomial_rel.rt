@@ -31,7 +31,7 @@ use terms::refusal::{
     COEFF_DIFFERENT_SIGNUMS, COEFF_EVEN, COEFF_IS_ZERO, INVALID_OPERATORS, TERM_OF_WRONG_FORM,
     WRONG_LENGTH_OF_CLAUSE, WRONG_LENGTH_OF_PREMISE_CLAUSE, WRONG_NUMBER_OF_PREMISES,
 };
-use terms::term::{Only, Two, binary, unary};
+use terms::term::{binary, unary};
 
 // The records in c1 (x1 - x2) = c2 (y1 - y2).
 #[derive(Clone, Copy)]
@@ -94,15 +94,15 @@ fn equated(book: &[u8], id: usize, o: u8) -> Bounds
 }
 
 // (d x y), and of numbers also (to_real (- x y)): the records of x and y.
-fn difference(book: &[u8], id: usize, d: u8) -> Two
+fn difference(book: &[u8], id: usize, d: u8) -> Option<(usize, usize)>
     ensures { found_two book.now result ≡ difference d (tree book.now id) }
 {
     if d != SUB {
         return binary(book, id, d);
     }
     match unary(book, id, TO_REAL) {
-        Only::Of(x) => binary(book, x, d),
-        Only::NotOne => binary(book, id, d),
+        Some(x) => binary(book, x, d),
+        None => binary(book, id, d),
     }
 }
 
@@ -133,15 +133,11 @@ fn assert_sides(l1: usize, l2: usize, r1: usize, r2: usize, p: Scaled) -> Assert
     ensures { (b : Bytes) →
         result ≡ asserted_of (assert_sides (pair_of b l1 l2) (pair_of b r1 r2) (scaled_at b p)) }
 {
-    let x1 = p.x1;
-    let x2 = p.x2;
-    let y1 = p.y1;
-    let y2 = p.y2;
-    let left = bounds_eq(l1, l2, x1, x2);
+    let left = bounds_eq(l1, l2, p.x1, p.x2);
     let Asserted::Holds = left else {
         return left;
     };
-    bounds_eq(r1, r2, y1, y2)
+    bounds_eq(r1, r2, p.y1, p.y2)
 }
 
 // An odd bit-vector.
@@ -163,13 +159,11 @@ fn assert_odd(book: &[u8], id: usize) -> Asserted
 fn bitvector_case(book: &[u8], p: Scaled, phi: usize) -> Asserted
     ensures { result ≡ asserted_of (bitvector_case (scaled_at book.now p) (tree book.now phi)) }
 {
-    let c1 = p.c1;
-    let c2 = p.c2;
-    let first = assert_odd(book, c1);
+    let first = assert_odd(book, p.c1);
     let Asserted::Holds = first else {
         return first;
     };
-    let second = assert_odd(book, c2);
+    let second = assert_odd(book, p.c2);
     let Asserted::Holds = second else {
         return second;
     };
@@ -182,19 +176,10 @@ fn bitvector_case(book: &[u8], p: Scaled, phi: usize) -> Asserted
 fn one_sign(p: Number, q: Number) -> Signs
     ensures { SignsAre result (one_sign p q) }
 {
-    if p.is_zero() {
+    if p.is_zero() || q.is_zero() {
         return Signs::Refused(COEFF_IS_ZERO);
     }
-    if q.is_zero() {
-        return Signs::Refused(COEFF_IS_ZERO);
-    }
-    if p.is_positive() {
-        return Signs::Same(q.is_positive());
-    }
-    if q.is_positive() {
-        return Signs::Same(false);
-    }
-    Signs::Same(true)
+    Signs::Same(p.is_positive() == q.is_positive())
 }
 
 fn signs_of(book: &[u8], c1: usize, c2: usize) -> Signs
@@ -215,23 +200,18 @@ fn signs_of(book: &[u8], c1: usize, c2: usize) -> Signs
 fn is_relation(o: u8) -> bool
     ensures { result ≡ is_relation o }
 {
-    match o {
-        EQUALS..=GREATER_EQ => true,
-        _ => false,
-    }
+    matches!(o, EQUALS..=GREATER_EQ)
 }
 
 // The relation is =, or the coefficients have the same sign.
 fn assert_signs(o: u8, same: bool) -> Asserted
     ensures { result ≡ asserted_of (assert (eqb o Equals || same) coeff_different_signums) }
 {
-    if o == EQUALS {
-        return Asserted::Holds;
+    if o == EQUALS || same {
+        Asserted::Holds
+    } else {
+        Asserted::Refused(COEFF_DIFFERENT_SIGNUMS)
     }
-    if same {
-        return Asserted::Holds;
-    }
-    Asserted::Refused(COEFF_DIFFERENT_SIGNUMS)
 }
 
 // (o x1 x2) and (o y1 y2) with a relation o, which is the operator of `left`
@@ -256,7 +236,7 @@ fn sides_case(book: &[u8], p: Scaled, left: usize, right: usize, o: u8, same: bo
 fn relation_case(book: &[u8], p: Scaled, phi: usize, same: bool) -> Asserted
     ensures { result ≡ asserted_of (relation_case same (scaled_at book.now p) (tree book.now phi)) }
 {
-    let Two::Both(left, right) = binary(book, phi, EQUALS) else {
+    let Some((left, right)) = binary(book, phi, EQUALS) else {
         return Asserted::Refused(TERM_OF_WRONG_FORM);
     };
     let first = as_op_err(book, left);
@@ -274,9 +254,7 @@ fn number_case(book: &[u8], p: Scaled, phi: usize) -> Asserted
     ensures { (l : ℕ) →
         result ≡ asserted_of (number_case (limited l) (scaled_at book.now p) (tree book.now phi)) }
 {
-    let c1 = p.c1;
-    let c2 = p.c2;
-    let signs = signs_of(book, c1, c2);
+    let signs = signs_of(book, p.c1, p.c2);
     let Signs::Same(same) = signs else {
         return Asserted::Refused(signs_refusal(signs));
     };
@@ -315,10 +293,10 @@ pub fn poly_simp_rel(
     if premises != 1 {
         return Verdict::Refused(WRONG_NUMBER_OF_PREMISES);
     }
-    let Only::Of(phi) = only_literal(literals) else {
+    let Some(phi) = only_literal(literals) else {
         return Verdict::Refused(WRONG_LENGTH_OF_CLAUSE);
     };
-    let Only::Of(t) = only_literal(premise) else {
+    let Some(t) = only_literal(premise) else {
         return Verdict::Refused(WRONG_LENGTH_OF_PREMISE_CLAUSE);
     };
     verdict_after(scaled_case(book, t, phi), visits)

@@ -7,7 +7,6 @@ use Prim.Native.Nat.{ℕ}
 use Rattle.numbers.specs.Rational.{Rational, Lowest}
 use Rattle.terms.specs.Term.{Term}
 use Rattle.terms.specs.Readers.{unbounded, as_fraction}
-use Rattle.terms.specs.declared.term.Reading.TheVariants.{Value}
 use Rattle.numbers.proofs.Ring.{◌⊕◌, ◌⊗◌, 𝟙, ◌≐◌, ◌·◌, ◌and◌, ◌from◌, derive}
 use Rattle.book.proofs.Fractions.{as_fraction-value}
 use Rattle.book.proofs.BookTerms.{Closed}
@@ -29,12 +28,13 @@ use Rattle.polynomial_theory.proofs.Coefficients.{variable, coefficients-equal}
 use Rattle.polynomial_theory.proofs.NeatMaps.{Unless, weaken, also, Keyed, neat_keyed}
 use Rattle.polynomial_theory.proofs.NeatPolynomials.{Full, from_term-full}
 use Rattle.polynomial_theory.proofs.CollectedProducts.{entries_of, products_of, entries-good}
+use Rattle.std.specs.Prelude.{Ok}
 open product_ring use {carrier, add as ◌+◌, mul as ◌*◌, ι}
 
 infixl 6 ◌+◌
 infixl 7 ◌*◌
 module _ {P : Term → Type 0} (closed : Closed P) where
-  pub read-lowest : (t : Term) → P t → (q : Rational) → as_fraction unbounded t ≡ Value q → Lowest q
+  pub read-lowest : (t : Term) → P t → (q : Rational) → as_fraction unbounded t ≡ Ok q → Lowest q
   read-lowest t p q e = (as_fraction-value t (closed.formed t p) q e some_assignment).1
 
   -- terms as polynomials

@@ -5,7 +5,7 @@
 --     comes_append, comes-scale, comes-multiply       sums, multiples and products of lists
 use mathlib.Core.Path.{◌≡◌, refl, sym, ◌∙◌, ap, ap₂}
 use mathlib.Core.List.{List, [], ◌∷◌, ◌++◌}
-use mathlib.Core.Option.{some}
+use Rattle.std.specs.Prelude.{Some}
 use Prim.Native.Nat.{ℕ, suc}
 use native.Mathlib.Omega.{arith}
 use borrow.Author.Tests.{ne_eqb}
@@ -259,7 +259,7 @@ module _ {R : Ring} {N : Valuation R} (T : TermReading N) (formed : (t : Term) �
       let k = product_of_lem s i ts f in comes-as N Fits v (sym k.1) (factors_come h c k.0)
   one_step (quotient {a} {b} {q = q} (is i) w z h) c f =
       let k = T.operation i RealDiv (a ▹ b ▹ nil) f in
-      let d : DividedBy (a ▹ b ▹ nil) (some q) = (written_read w, z) in
+      let d : DividedBy (a ▹ b ▹ nil) (Some q) = (written_read w, z) in
       comes-as N Fits v
       (derive R (N.number (div_q one q) ∷ value a ∷ N.number one ∷ value (op i RealDiv (a ▹ b ▹ nil)) ∷ [])
       (λ d a c x. d ⊗ a ≐ x from 𝟙 · d ⊗ a ≐ c ⊗ x and x · c ≐ 𝟙) tt

@@ -2,7 +2,7 @@
 -- are no numbers. Indivisible terms are such (`indivisible_leaf`).
 use mathlib.Core.Path.{◌≡◌, refl, ◌∙◌, ap}
 use mathlib.Core.Bool.{Bool, true, false}
-use mathlib.Core.Option.{Option, some, none}
+use Rattle.std.specs.Prelude.{Option, Some, None}
 use Prim.Native.Nat.{ℕ, suc}
 use native.Mathlib.Omega.{arith}
 use borrow.Author.Tests.{eqb-true}
@@ -16,8 +16,6 @@ use Rattle.terms.specs.Term.Terms.{nil, ◌▹◌}
 use Rattle.terms.specs.Readers.{unbounded, bounded, negated, over, divided, as_number, as_signed_number, quotient_of}
 use Rattle.terms.specs.Readers.{as_unsigned_fraction, as_fraction}
 use Rattle.terms.specs.Book.{count_ok}
-use Rattle.terms.specs.declared.term.Reading.{Reading}
-use Rattle.terms.specs.declared.term.Reading.TheVariants.{Value, NotNumber, OutOfRange}
 use Rattle.numbers.proofs.Truths.{never}
 use Rattle.book.proofs.WellFormed.{WellFormed, Operation}
 use Rattle.terms.proofs.Operators.{by_operator}
@@ -25,14 +23,17 @@ use Rattle.polynomial_walk.specs.PolynomialTerms.{Arm, arm_of}
 use Rattle.alethe.specs.AletheTerms.{is, Constant, Unsigned, Written, IsSum, IsMinus, IsDifference, IsProduct}
 use Rattle.alethe.specs.AletheTerms.{Indivisible}
 use Rattle.rules_theory.proofs.WrittenNumbers.{read-written}
+use Rattle.terms.specs.Readers.{Reading}
+use Rattle.std.specs.Prelude.{Ok, Err}
+use Rattle.terms.specs.declared.term.NotRead.TheVariants.{NotNumber, OutOfRange}
 
 -- ---- without a bound no number is out of range
 
 pub data InRange : Reading → Type 0 where
-  read : (q : Rational) → InRange (Value q)
-  unread : InRange NotNumber
+  read : (q : Rational) → InRange (Ok q)
+  unread : InRange (Err NotNumber)
 
-pub not-outside : {r : Reading} → InRange r → r ≡ OutOfRange → ⊥
+pub not-outside : {r : Reading} → InRange r → r ≡ Err OutOfRange → ⊥
 not-outside (read q) e = let z : ◌≡◌ {A = ℕ} 0 1 = cc in omega arith
 not-outside unread e = let z : ◌≡◌ {A = ℕ} 0 1 = cc in omega arith
 
@@ -50,23 +51,23 @@ number_read (op i o ts) = unread
 
 over-read : (r : Reading) (d : Rational) → InRange (over unbounded r d)
 unfolding bounded
-over-read (Value n) d = read _
-over-read NotNumber d = unread
-over-read OutOfRange d = unread
+over-read (Ok n) d = read _
+over-read (Err NotNumber) d = unread
+over-read (Err OutOfRange) d = unread
 
 divided-read : (a : Term) (r : Reading) → InRange (divided unbounded a r)
-divided-read a (Value d) = at (is_zero d)
+divided-read a (Ok d) = at (is_zero d)
   where
-    at : (z : Bool) → InRange (elim z [ true ↦ NotNumber | false ↦ over unbounded (as_signed_number a) d ])
+    at : (z : Bool) → InRange (elim z [ true ↦ Err NotNumber | false ↦ over unbounded (as_signed_number a) d ])
     at true = unread
     at false = over-read (as_signed_number a) d
-divided-read a NotNumber = unread
-divided-read a OutOfRange = unread
+divided-read a (Err NotNumber) = unread
+divided-read a (Err OutOfRange) = unread
 
 maybe-read : {A : Type 0} (o : Option A) {f : A → Reading} {y : Reading} → ((a : A) → InRange (f a)) → InRange y →
-    InRange (elim o as (λ z. Reading) [ some a ↦ f a | none ↦ y ])
-maybe-read (some a) p q = p a
-maybe-read none p q = q
+    InRange (elim o as (λ z. Reading) [ Some a ↦ f a | None ↦ y ])
+maybe-read (Some a) p q = p a
+maybe-read None p q = q
 
 unsigned-read : (t : Term) → InRange (as_unsigned_fraction unbounded t)
 unfolding as_unsigned_fraction
@@ -76,55 +77,55 @@ pub fraction-read : (t : Term) → InRange (as_fraction unbounded t)
 unfolding as_fraction
 fraction-read t = maybe-read (unary Sub t) (λ x. negated-read (unsigned-read x)) (unsigned-read t)
 
-pub unread-number : (t : Term) → ((q : Rational) → Written t q → ⊥) → as_fraction unbounded t ≡ NotNumber
+pub unread-number : (t : Term) → ((q : Rational) → Written t q → ⊥) → as_fraction unbounded t ≡ Err NotNumber
 unread-number t h = go (as_fraction unbounded t) refl (fraction-read t)
   where
-    go : (r : Reading) → as_fraction unbounded t ≡ r → InRange r → r ≡ NotNumber
-    go (Value q) e k = absurd (h q (read-written t q e))
-    go NotNumber e k = refl
-    go OutOfRange e k = absurd (not-outside k refl)
+    go : (r : Reading) → as_fraction unbounded t ≡ r → InRange r → r ≡ Err NotNumber
+    go (Ok q) e k = absurd (h q (read-written t q e))
+    go (Err NotNumber) e k = refl
+    go (Err OutOfRange) e k = absurd (not-outside k refl)
 
 -- ---- divisors
 
 -- a number that is not 0
 unfoldable pub divisor_in : Reading → Option Rational
-divisor_in (Value q) = elim (is_zero q) [ true ↦ none | false ↦ some q ]
-divisor_in NotNumber = none
-divisor_in OutOfRange = none
+divisor_in (Ok q) = elim (is_zero q) [ true ↦ None | false ↦ Some q ]
+divisor_in (Err NotNumber) = None
+divisor_in (Err OutOfRange) = None
 
 unfoldable pub first_divisor : Terms → Option Rational
-first_divisor nil = none
+first_divisor nil = None
 first_divisor (b ▹ ts) = divisor_in (as_fraction unbounded b)
 
-pub divisor-read : (b : Term) (ts : Terms) (q : Rational) → as_fraction unbounded b ≡ Value q → is_zero q ≡ false →
-    first_divisor (b ▹ ts) ≡ some q
+pub divisor-read : (b : Term) (ts : Terms) (q : Rational) → as_fraction unbounded b ≡ Ok q → is_zero q ≡ false →
+    first_divisor (b ▹ ts) ≡ Some q
 unfolding first_divisor divisor_in
 divisor-read b ts q e z =
-    ap divisor_in e ∙ ap (λ (t : Bool). elim t as (λ x. Option Rational) [ true ↦ none | false ↦ some q ]) z
+    ap divisor_in e ∙ ap (λ (t : Bool). elim t as (λ x. Option Rational) [ true ↦ None | false ↦ Some q ]) z
 
 unfoldable pub second_divisor : Terms → Option Rational
-second_divisor nil = none
+second_divisor nil = None
 second_divisor (t ▹ ts) = first_divisor ts
 
-pub no_divisor : (b : Term) (ts : Terms) → ((q : Rational) → as_fraction unbounded b ≡ Value q → is_zero q ≡ true) →
-    first_divisor (b ▹ ts) ≡ none
+pub no_divisor : (b : Term) (ts : Terms) → ((q : Rational) → as_fraction unbounded b ≡ Ok q → is_zero q ≡ true) →
+    first_divisor (b ▹ ts) ≡ None
 unfolding first_divisor divisor_in
 no_divisor b ts h = go (as_fraction unbounded b) refl
   where
-    go : (r : Reading) → as_fraction unbounded b ≡ r → divisor_in r ≡ none
-    go (Value q) e = ap (λ (t : Bool). elim t as (λ x. Option Rational) [ true ↦ none | false ↦ some q ]) (h q e)
-    go NotNumber e = refl
-    go OutOfRange e = refl
+    go : (r : Reading) → as_fraction unbounded b ≡ r → divisor_in r ≡ None
+    go (Ok q) e = ap (λ (t : Bool). elim t as (λ x. Option Rational) [ true ↦ None | false ↦ Some q ]) (h q e)
+    go (Err NotNumber) e = refl
+    go (Err OutOfRange) e = refl
 
 -- ---- leaves
 
 pub data Leaf : Term → Type 0 where
   atom : (i : ℕ) (s : Sort) (n : ℕ) → Leaf (Term.atom i s n)
-  leaf : (i o : ℕ) (ts : Terms) → arm_of o ts ≡ Arm.leaf → as_fraction unbounded (op i o ts) ≡ NotNumber →
+  leaf : (i o : ℕ) (ts : Terms) → arm_of o ts ≡ Arm.leaf → as_fraction unbounded (op i o ts) ≡ Err NotNumber →
       Leaf (op i o ts)
   quotient :
-      (i o : ℕ) (ts : Terms) → arm_of o ts ≡ Arm.quotient → second_divisor ts ≡ none →
-      as_fraction unbounded (op i o ts) ≡ NotNumber →
+      (i o : ℕ) (ts : Terms) → arm_of o ts ≡ Arm.quotient → second_divisor ts ≡ None →
+      as_fraction unbounded (op i o ts) ≡ Err NotNumber →
       Leaf (op i o ts)
 
 quotient-leaf : (i : ℕ) (ts : Terms) → count_ok RealDiv (length (sorts ts)) ≡ true → Indivisible (op i RealDiv ts) →
@@ -136,7 +137,7 @@ quotient-leaf i (a ▹ b ▹ nil) c h =
     quotient i RealDiv (a ▹ b ▹ nil) refl (no_divisor b nil λ q e. zero q e (is_zero q) refl)
     (unread-number _ h.no_number)
   where
-    zero : (q : Rational) → as_fraction unbounded b ≡ Value q → (z : Bool) → is_zero q ≡ z → z ≡ true
+    zero : (q : Rational) → as_fraction unbounded b ≡ Ok q → (z : Bool) → is_zero q ≡ z → z ≡ true
     zero q e true z = refl
     zero q e false z = absurd (h.not_quotient a b q (is i) (read-written b q e) z)
 quotient-leaf i (a ▹ b ▹ e ▹ ts) c h = absurd (omega (arith, eqb-true (suc (suc (suc (length (sorts ts))))) 2 c))

@@ -9,10 +9,8 @@ use Rattle.terms.specs.Term.Term.{integer, rational, bitvector, atom, op}
 use Rattle.terms.specs.Term.Terms.{nil, ◌▹◌}
 use Rattle.terms.specs.Operator.{BvMul, BvSub}
 use Rattle.terms.specs.Readers.{as_bitvector}
-use Rattle.terms.specs.declared.term.BitVector.{BitVector}
-use Rattle.terms.specs.declared.term.BitVector.TheVariants.{Bits, NotBitvector}
 use Rattle.rules.specs.Refusal.{Result}
-use Rattle.rules.specs.Refusal.Outcome.{ok, refused}
+use Rattle.std.specs.Prelude.{Ok, Err}
 use Rattle.rules.specs.Limits.{Limits, the_rust}
 use Rattle.index_map.specs.IndexMap.{Map, Walked, walked, new, combination, insert}
 use Rattle.rules.specs.Shapes.{Clause}
@@ -27,6 +25,7 @@ use Rattle.rules_theory.proofs.Limited.{times-limited, over-limited, insert-limi
 use Rattle.rules_theory.proofs.Limited.{add_entry-limited, add_constant-limited, add_product-limited, Unbounded}
 use Rattle.rules_theory.proofs.Limited.◌≼◌.{equal}
 use Rattle.rules_theory.proofs.Limited.IsLimit.{twelve}
+use Rattle.std.specs.Prelude.{Option, Some, None}
 
 -- ---- products
 
@@ -85,17 +84,17 @@ module _ {A : Type 0} where
   at_arm_lem quotient p q r s t u = t
   at_arm_lem leaf p q r s t u = u
 
-  at_bits : {f f' : ℕ → ℕ → Result A} {y y' : Result A} (b : BitVector) → ((v n : ℕ) → f v n ≼ f' v n) →
-      y ≼ y' → ◌≼◌ {A = A} (elim b [ Bits v n ↦ f v n | NotBitvector ↦ y ])
-      (elim b [ Bits v n ↦ f' v n | NotBitvector ↦ y' ])
-  at_bits (Bits v n) p q = p v n
-  at_bits NotBitvector p q = q
+  at_bits : {f f' : ℕ → ℕ → Result A} {y y' : Result A} (b : Option (ℕ × ℕ)) → ((v n : ℕ) → f v n ≼ f' v n) →
+      y ≼ y' → ◌≼◌ {A = A} (elim b [ Some (v, n) ↦ f v n | None ↦ y ])
+      (elim b [ Some (v, n) ↦ f' v n | None ↦ y' ])
+  at_bits (Some (v, n)) p q = p v n
+  at_bits None p q = q
 
   -- by an attempt, whose refusal does not matter
   at_attempt : {B : Type 0} {f f' : B → Result A} {y y' : Result A} (m : Result B) → ((b : B) → f b ≼ f' b) →
-      y ≼ y' → ◌≼◌ {A = A} (elim m [ ok b ↦ f b | refused r ↦ y ]) (elim m [ ok b ↦ f' b | refused r ↦ y' ])
-  at_attempt (ok b) p q = p b
-  at_attempt (refused r) p q = q
+      y ≼ y' → ◌≼◌ {A = A} (elim m [ Ok b ↦ f b | Err r ↦ y ]) (elim m [ Ok b ↦ f' b | Err r ↦ y' ])
+  at_attempt (Ok b) p q = p b
+  at_attempt (Err r) p q = q
 
 module _ (l : Limits) where
   add_leaf-limited : (t : Term) (c : Rational) (w : Walked Monomial) → add_leaf l t c w ≼ add_leaf the_rust t c w

@@ -3,16 +3,15 @@
 -- (`Unless`).
 use mathlib.Core.Path.{◌≡◌, refl, ◌∙◌, ap}
 use mathlib.Core.Bool.{Bool, true, false, ◌&&◌, cond}
-use mathlib.Core.Option.{Option, some, none}
+use Rattle.std.specs.Prelude.{Option, Some, None}
 use mathlib.Core.List.{[], ◌∷◌}
 use Prim.Native.Nat.{ℕ, suc}
 use lib.IntN.{nat_abs}
 use Rattle.numbers.specs.Rational.{Rational, neg_q, is_zero}
 use Rattle.terms.specs.Readers.{Bound, unbounded, within, bounded}
-use Rattle.terms.specs.declared.term.Reading.TheVariants.{Value, OutOfRange}
 use Rattle.numbers.proofs.Truths.{if_either, never}
 use Rattle.rules.specs.Refusal.{Refusal, Result, ◌>>=◌, assert}
-use Rattle.rules.specs.Refusal.Outcome.{ok, refused}
+use Rattle.std.specs.Prelude.{Ok, Err}
 use Rattle.rules.specs.Limits.{Limits, the_rust, in_limit, ranged, plus, times, over}
 use Rattle.index_map.specs.IndexMap as IndexMap
 use Rattle.index_map.specs.IndexMap.{Map, Combination, last_first, swap_remove, neg_all, enter, insert, insert_all, sub}
@@ -21,12 +20,13 @@ use Rattle.alethe.specs.AletheTerms.{same_atoms}
 use Rattle.rules.proofs.Yields.{Yields, at_ok}
 use Rattle.alethe.proofs.Exponents.{same_atoms-sym}
 use Rattle.polynomial_theory.proofs.SortedMonomials.{Proper, proper-apart}
+use Rattle.terms.specs.declared.term.NotRead.TheVariants.{OutOfRange}
 
 -- ---- results that are refused only where there are limits
 
 pub data Unless {A : Type 0} (l : Limits) (P : A → Type 0) : Result A → Type 0 where
-  gives : {a : A} → P a → Unless l P (ok a)
-  stopped : {r : Refusal} → (l ≡ the_rust → ⊥) → Unless l P (refused r)
+  gives : {a : A} → P a → Unless l P (Ok a)
+  stopped : {r : Refusal} → (l ≡ the_rust → ⊥) → Unless l P (Err r)
 
 pub yields : {A : Type 0} {l : Limits} {P : A → Type 0} {x : Result A} → Unless l P x → Yields P x
 yields (gives p) = Yields.gives p
@@ -45,7 +45,7 @@ also (stopped n) q = stopped n
 
 pub record Answer {A : Type 0} (P : A → Type 0) (x : Result A) : Type 0 where
   pub value : A
-  pub is : x ≡ ok value
+  pub is : x ≡ Ok value
   pub holds : P value
 
 pub answer : {A : Type 0} {P : A → Type 0} {x : Result A} → Unless the_rust P x → Answer P x
@@ -74,9 +74,9 @@ module _ {l : Limits} where
     by_test false f g = g refl
 
     pub by_option : {B : Type 0} (o : Option B) {f : B → Result A} {y : Result A} → ((b : B) → Unless l P (f b)) →
-        (o ≡ none → Unless l P y) → Unless l P (elim o as (λ z. Result A) [ some b ↦ f b | none ↦ y ])
-    by_option (some b) f g = f b
-    by_option none f g = g refl
+        (o ≡ None → Unless l P y) → Unless l P (elim o as (λ z. Result A) [ Some b ↦ f b | None ↦ y ])
+    by_option (Some b) f g = f b
+    by_option None f g = g refl
 
 -- a bound of the Rust is no bound
 pub unbounded-within : (l : Limits) (f : Limits → Bound) (n : ℕ) → f the_rust ≡ unbounded → l ≡ the_rust →
@@ -90,7 +90,7 @@ module _ (l : Limits) where
       go (within l.numbers (nat_abs q.num) && within l.numbers (nat_abs q.den))
       (λ h. ap (λ (l : Limits). within l.numbers (nat_abs q.num) && within l.numbers (nat_abs q.den)) h)
     where
-      go : (t : Bool) → (l ≡ the_rust → t ≡ true) → Unless l (λ r. Unit {0}) (in_limit (cond t (Value q) OutOfRange))
+      go : (t : Bool) → (l ≡ the_rust → t ≡ true) → Unless l (λ r. Unit {0}) (in_limit (cond t (Ok q) (Err OutOfRange)))
       go true n = gives tt
       go false n = stopped (λ e. never (n e))
 

@@ -3,7 +3,7 @@
 -- arguments.
 use mathlib.Core.Path.{◌≡◌, refl, sym, ap, subst}
 use mathlib.Core.Bool.{Bool, true, false}
-use mathlib.Core.Option.{Option, some, none}
+use Rattle.std.specs.Prelude.{Option, Some, None}
 use mathlib.Core.List.{[], ◌∷◌}
 use Prim.Native.Nat.{ℕ, suc, ◌+◌}
 use native.Mathlib.Omega.{arith}
@@ -14,13 +14,9 @@ use Rattle.terms.specs.Term.{Term, Terms, unary, binary}
 use Rattle.terms.specs.Term.Term.{integer, rational, bitvector, atom, op}
 use Rattle.terms.specs.Term.Terms.{nil, ◌▹◌}
 use Rattle.terms.specs.Readers.{unbounded, as_number, quotient_of, as_unsigned_fraction, as_fraction, as_bitvector}
-use Rattle.terms.specs.declared.term.Reading.{Reading}
-use Rattle.terms.specs.declared.term.Reading.TheVariants.{Value, NotNumber, OutOfRange}
-use Rattle.terms.specs.declared.term.BitVector.{BitVector}
-use Rattle.terms.specs.declared.term.BitVector.TheVariants.{Bits, NotBitvector}
 use Rattle.terms.proofs.Readings.{fraction-unbounded}
 use Rattle.rules.specs.Refusal.{Result, ◌>>=◌}
-use Rattle.rules.specs.Refusal.Outcome.{ok}
+use Rattle.std.specs.Prelude.{Ok}
 use Rattle.rules.specs.Limits.{Limits, the_rust, number_or, times, fraction_of}
 use Rattle.index_map.specs.IndexMap.{Map, combination, insert, new, Walked, walked, visit, add_entry, add_constant}
 use Rattle.polynomial.specs.Polynomial.{Monomial, Polynomial, monomials, joined, mul_each, mul_left, insert_scaled, mul}
@@ -35,6 +31,9 @@ use Rattle.polynomial_theory.proofs.NeatMaps.{Unless, and_then, tested, by_optio
 use Rattle.polynomial_theory.proofs.NeatMaps.{times_unless, over_unless, Neat, Keyed, neat_keyed, insert-neat}
 use Rattle.polynomial_theory.proofs.NeatMaps.Unless.{gives, stopped}
 use Rattle.polynomial_theory.proofs.NeatMaps.Neat.{empty}
+use Rattle.terms.specs.Readers.{Reading}
+use Rattle.std.specs.Prelude.{Err}
+use Rattle.terms.specs.declared.term.NotRead.TheVariants.{NotNumber, OutOfRange}
 
 -- ---- polynomials
 
@@ -103,23 +102,23 @@ module _ (l : Limits) where
   add_entry-full t e c w h = and_then (insert-full w.sum.entries (t ∷ []) c (atom-proper t e) h) λ m k. gives k
 
   -- what is not read under limits is not read without them
-  unread : (t : Term) → fraction_of l t ≡ ok none → as_fraction unbounded t ≡ NotNumber
+  unread : (t : Term) → fraction_of l t ≡ Ok None → as_fraction unbounded t ≡ Err NotNumber
   unfolding fraction_of
   unread t e = go (as_fraction unbounded t) (at_none (fraction_of-limited l t) e)
     where
-      at_none : {x y : Result (Option Rational)} → x ≼ y → x ≡ ok none → y ≡ ok none
+      at_none : {x y : Result (Option Rational)} → x ≼ y → x ≡ Ok None → y ≡ Ok None
       at_none (◌≼◌.equal r) e = e
       at_none (◌≼◌.stopped p) e = let z : ◌≡◌ {A = ℕ} 0 1 = cc in absurd (omega arith)
 
-      go : (r : Reading) → number_or r ≡ ok none → r ≡ NotNumber
-      go (Value q) e = let z : ◌≡◌ {A = ℕ} 0 1 = cc in absurd (omega arith)
-      go NotNumber e = refl
-      go OutOfRange e = let z : ◌≡◌ {A = ℕ} 0 1 = cc in absurd (omega arith)
+      go : (r : Reading) → number_or r ≡ Ok None → r ≡ Err NotNumber
+      go (Ok q) e = let z : ◌≡◌ {A = ℕ} 0 1 = cc in absurd (omega arith)
+      go (Err NotNumber) e = refl
+      go (Err OutOfRange) e = let z : ◌≡◌ {A = ℕ} 0 1 = cc in absurd (omega arith)
 
   -- a number that is read, or none is
   abbrev Reads : Term → Option Rational → Type 0
-  Reads t (some q) = as_fraction unbounded t ≡ Value q
-  Reads t none = as_fraction unbounded t ≡ NotNumber
+  Reads t (Some q) = as_fraction unbounded t ≡ Ok q
+  Reads t None = as_fraction unbounded t ≡ Err NotNumber
 
   fraction_unless : (t : Term) → Unless l (Reads t) (fraction_of l t)
   unfolding fraction_of
@@ -128,53 +127,53 @@ module _ (l : Limits) where
       (λ e. subst (λ (l : Limits). InRange (as_fraction l.numbers t)) (sym e) (fraction-read t))
     where
       go : (r : Reading) → as_fraction l.numbers t ≡ r → (l ≡ the_rust → InRange r) → Unless l (Reads t) (number_or r)
-      go (Value q) e h = gives (fraction-unbounded l.numbers t q e)
-      go NotNumber e h = gives (unread t (ap number_or e))
-      go OutOfRange e h = stopped (λ e. not-outside (h e) refl)
+      go (Ok q) e h = gives (fraction-unbounded l.numbers t q e)
+      go (Err NotNumber) e h = gives (unread t (ap number_or e))
+      go (Err OutOfRange) e h = stopped (λ e. not-outside (h e) refl)
 
-  add_leaf-full : (t : Term) → (as_fraction unbounded t ≡ NotNumber → as_bitvector t ≡ NotBitvector → Leaf t) →
+  add_leaf-full : (t : Term) → (as_fraction unbounded t ≡ Err NotNumber → as_bitvector t ≡ None → Leaf t) →
       (c : Rational) (w : Walked Monomial) → WalkFull w → Unless l WalkFull (add_leaf l t c w)
   unfolding add_leaf
   add_leaf-full t leaf c w h =
       and_then (fraction_unless t)
       (by_read (λ q. and_then (times_unless l q c) λ r v. add_constant-full r w h) (λ e. go (as_bitvector t) (leaf e)))
     where
-      go : (b : BitVector) → (b ≡ NotBitvector → Leaf t) →
+      go : (b : Option (ℕ × ℕ)) → (b ≡ None → Leaf t) →
           Unless {A = Walked Monomial} l WalkFull
           (elim b [
-            | Bits v n ↦ (times l (whole (pos v)) c >>= λ r. add_constant l r w)
-            | NotBitvector ↦ add_entry monomials l (t ∷ []) c w
+            | Some (v, n) ↦ (times l (whole (pos v)) c >>= λ r. add_constant l r w)
+            | None ↦ add_entry monomials l (t ∷ []) c w
           ])
-      go (Bits v n) k = and_then (times_unless l (whole (pos v)) c) λ r u. add_constant-full r w h
-      go NotBitvector k = add_entry-full t (k refl) c w h
+      go (Some (v, n)) k = and_then (times_unless l (whole (pos v)) c) λ r u. add_constant-full r w h
+      go None k = add_entry-full t (k refl) c w h
 
       by_read : {f : Rational → Result (Walked Monomial)} {y : Result (Walked Monomial)} →
           ((q : Rational) → Unless l WalkFull (f q)) →
-          (as_fraction unbounded t ≡ NotNumber → Unless l WalkFull y) → (o : Option Rational) → Reads t o →
-          Unless l WalkFull (elim o as (λ z. Result (Walked Monomial)) [ some q ↦ f q | none ↦ y ])
-      by_read f g (some q) e = f q
-      by_read f g none e = g e
+          (as_fraction unbounded t ≡ Err NotNumber → Unless l WalkFull y) → (o : Option Rational) → Reads t o →
+          Unless l WalkFull (elim o as (λ z. Result (Walked Monomial)) [ Some q ↦ f q | None ↦ y ])
+      by_read f g (Some q) e = f q
+      by_read f g None e = g e
 
-  divisor_of_unless : (ts : Terms) → Unless l (λ q. q ≡ none → second_divisor ts ≡ none) (divisor_of l ts)
+  divisor_of_unless : (ts : Terms) → Unless l (λ q. q ≡ None → second_divisor ts ≡ None) (divisor_of l ts)
   unfolding divisor_of second_divisor first_divisor
   divisor_of_unless nil = gives (λ e. refl)
   divisor_of_unless (a ▹ nil) = gives (λ e. refl)
   divisor_of_unless (a ▹ b ▹ ts) = and_then (fraction_unless b) λ q u. gives (at q u)
     where
       test : (p : Rational) (z : Bool) → is_zero p ≡ z →
-          ◌≡◌ {A = Option Rational} (elim z [ true ↦ none | false ↦ some p ]) none → is_zero p ≡ true
+          ◌≡◌ {A = Option Rational} (elim z [ true ↦ None | false ↦ Some p ]) None → is_zero p ≡ true
       test p true z e = z
       test p false z e = let y : ◌≡◌ {A = ℕ} 0 1 = cc in absurd (omega arith)
 
-      at : (q : Option Rational) → Reads b q → nonzero q ≡ none → first_divisor (b ▹ ts) ≡ none
-      at (some p) u e =
+      at : (q : Option Rational) → Reads b q → nonzero q ≡ None → first_divisor (b ▹ ts) ≡ None
+      at (Some p) u e =
           no_divisor b ts λ r h.
           let k : p ≡ r = cc in subst (λ (x : Rational). is_zero x ≡ true) k (test p (is_zero p) refl e)
-      at none u e = no_divisor b ts λ r h. let y : ◌≡◌ {A = ℕ} 0 1 = cc in absurd (omega arith)
+      at None u e = no_divisor b ts λ r h. let y : ◌≡◌ {A = ℕ} 0 1 = cc in absurd (omega arith)
 
   -- ---- the walk
 
-  plain-read : {r : Reading} {q : Rational} → Value q ≡ r → r ≡ NotNumber → ⊥
+  plain-read : {r : Reading} {q : Rational} → Ok q ≡ r → r ≡ Err NotNumber → ⊥
   plain-read e h = let z : ◌≡◌ {A = ℕ} 0 1 = cc in omega arith
 
   mutual

@@ -4,7 +4,7 @@
 use mathlib.Core.Path.{◌≡◌, refl, sym, ◌∙◌, ap}
 use mathlib.Core.Bool.{true, false, ◌&&◌}
 use mathlib.Core.List.{[], ◌∷◌}
-use mathlib.Core.Option.{some}
+use Rattle.std.specs.Prelude.{Some}
 use Prim.Native.Nat.{ℕ, suc}
 use native.Mathlib.Omega.{arith}
 use borrow.Author.Tests.{eqb-true, ne_eqb}
@@ -22,7 +22,6 @@ use Rattle.terms.specs.Term.Term.{bitvector, op}
 use Rattle.terms.specs.Term.Terms.{nil, ◌▹◌}
 use Rattle.terms.specs.Readers.{unbounded, as_fraction}
 use Rattle.terms.specs.Book.{count_ok}
-use Rattle.terms.specs.declared.term.Reading.TheVariants.{Value}
 use Rattle.terms.specs.Smtlib
 use Rattle.terms.specs.Smtlib.{Assignment, as_pair, reduce, minus, meaning, value, values}
 use Rattle.numbers.proofs.Ring.{◌⊗◌, neg, ◌≐◌, ◌·◌, ◌and◌, ◌from◌, derive}
@@ -40,6 +39,7 @@ use Rattle.polynomial_walk.specs.PolynomialTerms.{arm_of}
 use Rattle.rules.proofs.Valuations.{rationals, numberℚ}
 use Rattle.polynomial_theory.proofs.TermReadings.{TermReading, First, DividedBy, sum_of, difference_of, factors_of}
 use Rattle.polynomial_theory.proofs.TermReadings.{product_of, first_of, Quotient, Taken}
+use Rattle.std.specs.Prelude.{Ok}
 
 -- a term of P of sort Int, Real or Bool
 pub record NumberOf (P : Term → Type 0) (t : Term) : Type 0 where
@@ -113,7 +113,7 @@ module _ (ρ : Assignment) where
 
     -- a number over a number that a term is read as
     divided :
-        (a b : Term) (i : ℕ) → Fits b → (c q : Rational) → Lowest c → DividedBy (a ▹ b ▹ nil) (some q) →
+        (a b : Term) (i : ℕ) → Fits b → (c q : Rational) → Lowest c → DividedBy (a ▹ b ▹ nil) (Some q) →
         product (numberℚ (div_q c q)) (meant_by a) ≡ product (numberℚ c) (meant_by (op i RealDiv (a ▹ b ▹ nil)))
     divided a b i hb c q lc (r, z) =
         let lq = (as_fraction-value b (closed.formed b hb.of) q r ρ).1 in
@@ -174,7 +174,7 @@ module _ (ρ : Assignment) where
         (all_fit ts (closed.below i o ts h.of)) h.no_vector
 
     pub fraction :
-        (t : Term) → Fits t → (q : Rational) → as_fraction unbounded t ≡ Value q →
+        (t : Term) → Fits t → (q : Rational) → as_fraction unbounded t ≡ Ok q →
         Lowest q × (meant_by t ≡ numberℚ q)
     fraction t h q e = let k = as_fraction-value t (closed.formed t h.of) q e ρ in (k.1, mk-eq _ _ k.0)
 

@@ -2,17 +2,16 @@
 -- of a term. Q says what is known of the case.
 use mathlib.Core.Path.{◌≡◌, refl}
 use Prim.Native.Nat.{ℕ}
-use Rattle.terms.specs.declared.term.BitVector.{BitVector}
-use Rattle.terms.specs.declared.term.BitVector.TheVariants.{Bits, NotBitvector}
 use Rattle.polynomial_walk.specs.PolynomialTerms.{Arm}
 use Rattle.polynomial_walk.specs.PolynomialTerms.Arm.{sum, negation, difference, product, quotient, leaf}
+use Rattle.std.specs.Prelude.{Option, Some, None}
 
 module _ {X : Type 0} (R : X → Type 0) where
   pub by_vector :
-      (b : BitVector) {f : ℕ → ℕ → X} {y : X} → ((v n : ℕ) → b ≡ Bits v n → R (f v n)) →
-      R y → R (elim b as (λ x. X) [ Bits v n ↦ f v n | NotBitvector ↦ y ])
-  by_vector (Bits v n) g h = g v n refl
-  by_vector NotBitvector g h = h
+      (b : Option (ℕ × ℕ)) {f : ℕ → ℕ → X} {y : X} → ((v n : ℕ) → b ≡ Some (v, n) → R (f v n)) →
+      R y → R (elim b as (λ x. X) [ Some (v, n) ↦ f v n | None ↦ y ])
+  by_vector (Some (v, n)) g h = g v n refl
+  by_vector None g h = h
 
   pub by_arm :
       (Q : Arm → Type 0) (a : Arm) → Q a → {u v w x y z : X} → (Q sum → R u) →

@@ -19,7 +19,7 @@ use Rattle.numbers.proofs.Truths.{never}
 use Rattle.book.proofs.BookTerms.{Closed}
 use Rattle.rules.specs.Refusal.{Refusal, Result, ◌>>=◌, assert, or_else}
 use Rattle.rules.specs.Refusal.Refusal.{polynomials_not_equal}
-use Rattle.rules.specs.Refusal.Outcome.{ok, refused}
+use Rattle.std.specs.Prelude.{Ok, Err}
 use Rattle.rules.specs.Limits.{Limits, the_rust}
 use Rattle.index_map.specs.IndexMap.{Map, combination, Walked}
 use Rattle.rules.specs.Shapes.{only_literal}
@@ -125,7 +125,7 @@ module _ (P : Term → Type 0) (c : Rational) (lc : Lowest c) where
 
 -- ---- the run
 
-goes_on : {A B : Type 0} {x : Result A} {a : A} (f : A → Result B) → x ≡ ok a → (x >>= f) ≡ f a
+goes_on : {A B : Type 0} {x : Result A} {a : A} (f : A → Result B) → x ≡ Ok a → (x >>= f) ≡ f a
 unfolding ◌>>=◌
 goes_on f e = ap (λ x. x >>= f) e
 
@@ -172,11 +172,11 @@ module _ {P : Term → Type 0} (closed : Closed P) where
 
   -- where no entry of the left polynomial vanishes
   accepted : (a : Sort) (t s : Term) (n : ℕ) (p q : Walked Monomial) {m k : Products} →
-      from_term the_rust t n ≡ ok p → from_term the_rust s p.visits ≡ ok q →
+      from_term the_rust t n ≡ Ok p → from_term the_rust s p.visits ≡ Ok q →
       Collects closed m p.sum → Collects closed k q.sum →
       ((ts : List Term) → reduce a (coefficient_in ts m) ≡ reduce a (coefficient_in ts k)) →
       Full (reduced a p.sum).entries →
-      compared the_rust a t s n ≡ ok q.visits
+      compared the_rust a t s n ≡ Ok q.visits
   unfolding assert
   accepted a t s n p q ep eq h j e f =
       let kp = reduced_keyed a p.sum (neat_keyed h.full) in
@@ -219,7 +219,7 @@ module _ {P : Term → Type 0} (closed : Closed P) where
           vanishes = ap (λ (q : Rational). modulo q.num (2 ^ w)) is ∙ v.vanishes;
         }
 
-    pub poly-simp-accepted : ((m : ℕ) × (poly_simp the_rust (phi ∷ []) n ≡ ok m)) ⊎ VanishingMonomial by phi
+    pub poly-simp-accepted : ((m : ℕ) × (poly_simp the_rust (phi ∷ []) n ≡ Ok m)) ⊎ VanishingMonomial by phi
     poly-simp-accepted =
         let sides = equated closed h.conclusion p in
         let x = answer (from_term-collects closed the_rust h.left_side sides.left n) in
@@ -236,10 +236,10 @@ module _ {P : Term → Type 0} (closed : Closed P) where
         (search_reduced (sort h.t) x.value.sum x.holds.full x.holds.good)
 
     -- under any limits
-    pub poly-simp-refused : (l : Limits) (r : Refusal) → poly_simp l (phi ∷ []) n ≡ refused r →
+    pub poly-simp-refused : (l : Limits) (r : Refusal) → poly_simp l (phi ∷ []) n ≡ Err r →
         IsLimit r ⊎ VanishingMonomial by phi
     poly-simp-refused l r e = ⊎_elim (λ a. inl (limit (poly_simp-limited l (phi ∷ []) n) e a.1)) inr poly-simp-accepted
       where
-        limit : {x y : Result ℕ} {m : ℕ} → x ≼ y → x ≡ refused r → y ≡ ok m → IsLimit r
+        limit : {x y : Result ℕ} {m : ℕ} → x ≼ y → x ≡ Err r → y ≡ Ok m → IsLimit r
         limit (◌≼◌.equal x) e a = let z : ◌≡◌ {A = ℕ} 0 1 = cc in absurd (omega arith)
         limit (◌≼◌.stopped {r = q} i) e a = let k : q ≡ r = cc in subst IsLimit k i

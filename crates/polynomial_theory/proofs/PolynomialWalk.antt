@@ -4,7 +4,7 @@
 -- is made from a term has its value (`from_term-amounts`).
 use mathlib.Core.Path.{◌≡◌, refl, sym, ◌∙◌, ap, subst}
 use mathlib.Core.Bool.{Bool, true, false}
-use mathlib.Core.Option.{Option, some, none}
+use Rattle.std.specs.Prelude.{Option, Some, None}
 use mathlib.Core.List.{[], ◌∷◌}
 use Prim.Native.Nat.{ℕ, suc}
 use lib.IntN.{pos}
@@ -13,11 +13,10 @@ use Rattle.terms.specs.Term.{Term, Terms}
 use Rattle.terms.specs.Term.Term.{integer, rational, bitvector, atom, op}
 use Rattle.terms.specs.Term.Terms.{nil, ◌▹◌}
 use Rattle.terms.specs.Readers.{as_bitvector}
-use Rattle.terms.specs.declared.term.BitVector.TheVariants.{Bits}
 use Rattle.book.proofs.BookTerms.{Each}
 use Rattle.numbers.proofs.Ring.{Ring, ◌⊕◌, ◌⊗◌, neg, 𝟘, 𝟙, ◌≐◌, ◌·◌, ◌and◌, ◌from◌, solve, derive}
 use Rattle.rules.specs.Refusal.{Result, ◌>>=◌}
-use Rattle.rules.specs.Refusal.Outcome.{ok}
+use Rattle.std.specs.Prelude.{Ok}
 use Rattle.rules.specs.Limits.{Limits, times, over}
 use Rattle.index_map.specs.IndexMap.{combination, new, Walked, walked, visit, add_entry, add_constant}
 use Rattle.polynomial.specs.Polynomial.{Monomial, monomials, insert_scaled}
@@ -80,12 +79,13 @@ module _ {R : Ring} {N : Valuation R} (T : TermReading N) where
     entry-adds : (t : Term) → Fits t → AddsTimes (monomial R value (t ∷ [])) (add_entry monomials l (t ∷ []))
     entry-adds t f c w gc g = add_entry-adds S l (t ∷ []) c w (record { known = (f, tt); good = gc }) g
 
-    vector-value : (t : Term) → Fits t → (v n : ℕ) → as_bitvector t ≡ Bits v n → value t ≡ number (whole (pos v))
+    vector-value : (t : Term) → Fits t → (v n : ℕ) → as_bitvector t ≡ Some (v, n) → value t ≡ number (whole (pos v))
     unfolding as_bitvector
     vector-value (integer i z) f v n e = cc
     vector-value (rational i q) f v n e = cc
     vector-value (bitvector i u m) f v n e =
-        let h : u ≡ v = cc in
+        let same : ◌≡◌ {A = ℕ × ℕ} (u, m) (v, n) = cc in
+        let h : u ≡ v = ap (λ (z : ℕ × ℕ). z.0) same in
         T.vector i u m f ∙ sym (N.number-whole (pos u)) ∙ ap (λ (v : ℕ). number (whole (pos v))) h
     vector-value (atom i s m) f v n e = cc
     vector-value (op i o ts) f v n e = cc
@@ -127,14 +127,14 @@ module _ {R : Ring} {N : Valuation R} (T : TermReading N) where
     divisor-yields (a ▹ b ▹ ts) = and_then (fraction-yields l b) (λ q r. gives (read q r))
       where
         test :
-            (q : Rational) → ReadAs b (some q) → (z : Bool) → is_zero q ≡ z →
-            DividedBy (a ▹ b ▹ ts) (elim z as (λ x. Option Rational) [ true ↦ none | false ↦ some q ])
+            (q : Rational) → ReadAs b (Some q) → (z : Bool) → is_zero q ≡ z →
+            DividedBy (a ▹ b ▹ ts) (elim z as (λ x. Option Rational) [ true ↦ None | false ↦ Some q ])
         test q r true e = tt
         test q r false e = (r, e)
 
         read : (q : Option Rational) → ReadAs b q → DividedBy (a ▹ b ▹ ts) (nonzero q)
-        read (some q) r = test q r (is_zero q) refl
-        read none r = tt
+        read (Some q) r = test q r (is_zero q) refl
+        read None r = tt
 
     module _ (ts : Terms) (h : TermsAdd ts) where
       negation-adds : Each Fits ts → (d : ℕ) → AddsTimes (- sum_of R value ts) (λ c. add_args ts l d (neg_q c))
@@ -173,7 +173,7 @@ module _ {R : Ring} {N : Valuation R} (T : TermReading N) where
 
       -- the first argument, with the coefficient over the number that the second is
       quotient-adds :
-          (x : carrier) → Quotient N value Fits ts x → (d : ℕ) (q : Rational) → DividedBy ts (some q) →
+          (x : carrier) → Quotient N value Fits ts x → (d : ℕ) (q : Rational) → DividedBy ts (Some q) →
           AddsTimes x (λ c w. over l c q >>= λ k. add_first ts l d k w)
       quotient-adds x p d q b c w gc g =
           and_then (over-yields l c q)
@@ -211,7 +211,7 @@ module _ {R : Ring} {N : Valuation R} (T : TermReading N) where
       factors = λ f d p g. gives (record { good = g; is = sym (R.mul-one (worth S p.sum)) });
     }
       where
-        stays : AddsTimes (ι (pos 0)) (λ c. ok)
+        stays : AddsTimes (ι (pos 0)) (λ c. Ok)
         stays c w gc g = adds-as S (solve R (number c ∷ []) (λ c. 𝟘 ≐ c ⊗ 𝟘) tt) (gives (adds_none S w g))
 
     -- a factor is made on its own

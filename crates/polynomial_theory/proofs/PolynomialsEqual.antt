@@ -5,7 +5,7 @@
 use mathlib.Core.Path.{◌≡◌, refl, sym, ◌∙◌, ap, subst}
 use mathlib.Core.Bool.{true, false}
 use mathlib.Core.List.{List, [], ◌∷◌}
-use mathlib.Core.Option.{Option, some, none}
+use Rattle.std.specs.Prelude.{Option, Some, None}
 use Prim.Native.Nat.{ℕ, ◌^◌}
 use native.Mathlib.Omega.{arith}
 use lib.IntN.{pos, nat_abs}
@@ -27,7 +27,7 @@ use Rattle.numbers.proofs.Residues.{residue-eq, cong_of_residue-eq}
 use Rattle.book.proofs.Vectors.{width_positive, vector-value, equal-vectors}
 use Rattle.rules.specs.Refusal.{Result, ◌>>=◌, assert, or_else}
 use Rattle.rules.specs.Refusal.Refusal.{polynomials_not_equal, term_of_wrong_form}
-use Rattle.rules.specs.Refusal.Outcome.{ok}
+use Rattle.std.specs.Prelude.{Ok}
 use Rattle.rules.specs.Limits.{Limits}
 use Rattle.index_map.specs.IndexMap.{Map, combination, sub}
 use Rattle.rules.specs.Shapes.{only_literal}
@@ -65,7 +65,7 @@ compared l a t s n = do
   q ← from_term l s p.visits
   d ← sub monomials l (reduced a p.sum) (reduced a q.sum)
   _ ← assert (is_nought d) polynomials_not_equal
-  ok q.visits
+  Ok q.visits
 
 module _ {P : Term → Type 0} (closed : Closed P) where
   abbrev S : Values monomials
@@ -150,15 +150,15 @@ module _ (t s : Term) (m n : Products)
       (subst (λ (a : Sort). reduce a (coefficient_in ts m) ≡ reduce a (coefficient_in ts n)) p (e ts))
 
 module _ {P : Term → Type 0} (closed : Closed P) where
-  pub poly-simp-form : (l : Limits) (phi : Term) → P phi → (n m : ℕ) → poly_simp l (phi ∷ []) n ≡ ok m →
+  pub poly-simp-form : (l : Limits) (phi : Term) → P phi → (n m : ℕ) → poly_simp l (phi ∷ []) n ≡ Ok m →
       PolySimp carcara phi
   unfolding poly_simp only_literal ◌>>=◌ or_else
   poly-simp-form l phi p n m = go (binary Equals phi) refl
     where
       go :
           (o : Option (Term × Term)) → binary Equals phi ≡ o →
-          (or_else o term_of_wrong_form >>= λ (t, s). compared l (sort t) t s n) ≡ ok m → PolySimp carcara phi
-      go (some (t, s)) b e =
+          (or_else o term_of_wrong_form >>= λ (t, s). compared l (sort t) t s n) ≡ Ok m → PolySimp carcara phi
+      go (Some (t, s)) b e =
           let i = record_number phi in
           let shape = binary-shape Equals phi (t, s) b in
           let q = subst P shape p in
@@ -179,7 +179,7 @@ module _ {P : Term → Type 0} (closed : Closed P) where
                 (at_ok (compared_same closed l (sort t) x.1 y.1 below.0 below.1.0 n) e)
                 (equation-sides i t s formed) refl refl (equation_numeric i t s formed);
           }
-      go none b e = let z : ◌≡◌ {A = ℕ} 0 1 = cc in absurd (omega arith)
+      go None b e = let z : ◌≡◌ {A = ℕ} 0 1 = cc in absurd (omega arith)
 
   -- ---- and it is true
 

@@ -4,7 +4,7 @@
 use mathlib.Core.Path.{◌≡◌, refl, sym, ◌∙◌, ap}
 use mathlib.Core.Bool.{false}
 use mathlib.Core.List.{[], ◌∷◌}
-use mathlib.Core.Option.{Option, some, none}
+use Rattle.std.specs.Prelude.{Option, Some, None}
 use Prim.Native.Nat.{ℕ}
 use lib.IntN.{pos}
 use Rattle.numbers.specs.Rational.{Rational, whole, div_q, neg_q, is_zero}
@@ -14,8 +14,6 @@ use Rattle.numbers.specs.Choice.{when◌then◌else◌}
 use Rattle.terms.specs.Term.Term.{integer, rational, bitvector, atom, op}
 use Rattle.terms.specs.Term.Terms.{nil, ◌▹◌}
 use Rattle.terms.specs.Readers.{unbounded, as_fraction}
-use Rattle.terms.specs.declared.term.Reading.{Reading}
-use Rattle.terms.specs.declared.term.Reading.TheVariants.{Value, NotNumber, OutOfRange}
 use Rattle.numbers.proofs.Ring.{Ring, ◌⊗◌, neg, 𝟙, ◌≐◌, ◌·◌, ◌and◌, ◌from◌, derive}
 use Rattle.book.proofs.BookTerms.{Each, Closed}
 use Rattle.polynomial_walk.specs.PolynomialTerms.{Arm, arm_of}
@@ -26,6 +24,9 @@ use Rattle.polynomial_theory.proofs.TermReadings.{TermReading, First, sum_of, di
 use Rattle.polynomial_theory.proofs.TermReadings.{first_of, Quotient, Taken}
 use Rattle.rules_theory.proofs.WrittenNumbers.{written_read, read-written, signed-written}
 use Rattle.polynomial_theory.proofs.LeafTerms.{first_divisor, divisor-read, second_divisor, Leaf}
+use Rattle.terms.specs.Readers.{Reading}
+use Rattle.std.specs.Prelude.{Ok, Err}
+use Rattle.terms.specs.declared.term.NotRead.TheVariants.{NotNumber, OutOfRange}
 
 module _ {R : Ring} (N : Valuation R) (x : Term → R.carrier) where
   open R use {carrier, add as ◌+◌, mul as ◌*◌, neg as -◌, ι}
@@ -35,9 +36,9 @@ module _ {R : Ring} (N : Valuation R) (x : Term → R.carrier) where
   infix 8 -◌
   -- a number, or an atom
   unfoldable pub leaf_of : Reading → Term → carrier
-  leaf_of (Value q) t = N.number q
-  leaf_of NotNumber t = x t
-  leaf_of OutOfRange t = x t
+  leaf_of (Ok q) t = N.number q
+  leaf_of (Err NotNumber) t = x t
+  leaf_of (Err OutOfRange) t = x t
 
   -- what an arm makes of the values of its arguments
   abbrev pub arm_value : Arm → carrier → carrier → carrier → carrier → carrier → carrier
@@ -78,7 +79,7 @@ module _ {R : Ring} (N : Valuation R) (x : Term → R.carrier) where
     -- the first over the second, where that is a number
     pub reckon_quotient : Terms → carrier → carrier
     reckon_quotient nil y = y
-    reckon_quotient (t ▹ ts) y = elim (first_divisor ts) [ some q ↦ N.number (div_q one q) * reckon t | none ↦ y ]
+    reckon_quotient (t ▹ ts) y = elim (first_divisor ts) [ Some q ↦ N.number (div_q one q) * reckon t | None ↦ y ]
 
   sum_is : (ts : Terms) → reckon_sum ts ≡ sum_of R reckon ts
   unfolding reckon sum_of
@@ -101,7 +102,7 @@ module _ {R : Ring} (N : Valuation R) (x : Term → R.carrier) where
   product_is (t ▹ ts) = ap (◌*◌ (reckon t)) (factors-are ts)
 
   module _ (D : Division N) {P : Term → Type 0} (closed : Closed P)
-      (good : (t : Term) → P t → (q : Rational) → as_fraction unbounded t ≡ Value q → N.Good q) where
+      (good : (t : Term) → P t → (q : Rational) → as_fraction unbounded t ≡ Ok q → N.Good q) where
     -- ---- quotients
 
     over_one : (c q : Rational) → N.Good c → N.Good q → is_zero q ≡ false → (a : carrier) →
@@ -112,12 +113,12 @@ module _ {R : Ring} (N : Valuation R) (x : Term → R.carrier) where
         d ⊗ a ≐ c ⊗ (e ⊗ a) from e ⊗ a · d ⊗ q ≐ c and neg (d ⊗ a) · e ⊗ q ≐ o and neg (d ⊗ a) · o ≐ 𝟙) tt
         (D.number-div c q gc gq z) (D.number-div one q (N.good-whole (pos 1)) gq z) (N.number-whole (pos 1))
 
-    quotient_is : (a b : Term) (ts : Terms) (q : Rational) → as_fraction unbounded b ≡ Value q → is_zero q ≡ false →
+    quotient_is : (a b : Term) (ts : Terms) (q : Rational) → as_fraction unbounded b ≡ Ok q → is_zero q ≡ false →
         (y : carrier) →
         reckon_quotient (a ▹ b ▹ ts) y ≡ N.number (div_q one q) * reckon a
     unfolding reckon
     quotient_is a b ts q e z y =
-        ap (λ (o : Option Rational). elim o as (λ p. carrier) [ some q ↦ N.number (div_q one q) * reckon a | none ↦ y ])
+        ap (λ (o : Option Rational). elim o as (λ p. carrier) [ Some q ↦ N.number (div_q one q) * reckon a | None ↦ y ])
         (divisor-read b ts q e z)
 
     quotient-taken : (ts : Terms) → Each P ts → (y : carrier) → Quotient N reckon P ts (reckon_quotient ts y)
@@ -213,11 +214,11 @@ module _ {R : Ring} (N : Valuation R) (x : Term → R.carrier) where
 
   -- ---- leaves are atoms
 
-  undivided : (ts : Terms) (y : carrier) → second_divisor ts ≡ none → reckon_quotient ts y ≡ y
+  undivided : (ts : Terms) (y : carrier) → second_divisor ts ≡ None → reckon_quotient ts y ≡ y
   unfolding reckon second_divisor
   undivided nil y d = refl
   undivided (t ▹ ts) y d =
-      ap (λ (o : Option Rational). elim o as (λ p. carrier) [ some q ↦ N.number (div_q one q) * reckon t | none ↦ y ]) d
+      ap (λ (o : Option Rational). elim o as (λ p. carrier) [ Some q ↦ N.number (div_q one q) * reckon t | None ↦ y ]) d
 
   pub reckon-leaf : {t : Term} → Leaf t → reckon t ≡ x t
   unfolding reckon leaf_of

@@ -4,7 +4,7 @@
 use mathlib.Core.Path.{◌≡◌, refl, ◌∙◌, ap}
 use mathlib.Core.Bool.{Bool, true, false, not, ◌||◌, beq}
 use mathlib.Core.List.{[], ◌∷◌}
-use mathlib.Core.Option.{some}
+use Rattle.std.specs.Prelude.{Some}
 use mathlib.Core.Logic.{◌⊎◌, inl, inr, ⊎_elim}
 use Prim.Native.Nat.{ℕ, ◌%◌}
 use borrow.Author.Tests.{eq-eqb}
@@ -16,7 +16,7 @@ use Rattle.terms.specs.Term.{Term, Terms, unary, binary}
 use Rattle.terms.specs.Term.Term.{bitvector}
 use Rattle.terms.specs.Readers.{as_bitvector, as_op}
 use Rattle.rules.specs.Refusal.{Refusal, Result, ◌>>=◌, or_else}
-use Rattle.rules.specs.Refusal.Outcome.{ok, refused}
+use Rattle.std.specs.Prelude.{Ok, Err}
 use Rattle.rules.specs.Refusal.Refusal.{term_of_wrong_form, expected_operation_term}
 use Rattle.rules.specs.Limits.{Limits, the_rust, bitvector_err, op_err}
 use Rattle.rules.specs.Shapes.{only_literal, is_relation, assert_eq, bind, bind_all, solve, solve_all}
@@ -33,17 +33,17 @@ use Rattle.rules_theory.proofs.Shapes.{same_self, binary_err_of, operation_of_le
 
 -- ---- the readers
 
-vector-difference : {x y d : Term} → Is2 BvSub x y d → difference BvSub d ≡ some (x, y)
+vector-difference : {x y d : Term} → Is2 BvSub x y d → difference BvSub d ≡ Some (x, y)
 unfolding difference binary when◌then◌else◌
 vector-difference (is i) = refl
 
-difference_of_lem : {by : Departures} {x y d : Term} → Difference by x y d → difference Sub d ≡ some (x, y)
+difference_of_lem : {by : Departures} {x y d : Term} → Difference by x y d → difference Sub d ≡ Some (x, y)
 unfolding difference unary binary when◌then◌else◌
 difference_of_lem (plain (is i)) = refl
 difference_of_lem (real_difference g (is i) (is j)) = refl
 
 operation_err_of :
-    {o : ℕ} {ts : Terms} {t : Term} → Is o ts t → op_err t ≡ ok (o, ts)
+    {o : ℕ} {ts : Terms} {t : Term} → Is o ts t → op_err t ≡ Ok (o, ts)
 unfolding op_err or_else
 operation_err_of h = ap (λ o. or_else o expected_operation_term) (operation_of_lem h)
 
@@ -56,7 +56,7 @@ relation-accepted greater_eq = refl
 
 equated_of :
     {o : ℕ} {a b c d left right t : Term} → Is2 Equals left right t → Is2 o a b left → Is2 o c d right →
-    or_else (equated o t) term_of_wrong_form ≡ ok ((a, b), (c, d))
+    or_else (equated o t) term_of_wrong_form ≡ Ok ((a, b), (c, d))
 unfolding equated solve_all solve bind_all bind as_op or_else when◌then◌else◌
 equated_of {o} (is i) (is j) (is k) =
     rw (eq-eqb o o refl, equated, solve_all, solve, bind_all, bind, eq-eqb o o refl)
@@ -64,29 +64,29 @@ equated_of {o} (is i) (is j) (is k) =
 -- (= (o c1 dx) (o c2 dy)), where dx and dy are differences
 scaled_of_lem :
     (o d : ℕ) {c1 c2 dx dy left right t : Term} {x y : Term × Term} →
-    Is2 Equals left right t → Is2 o c1 dx left → Is2 o c2 dy right → difference d dx ≡ some x →
-    difference d dy ≡ some y → scaled o d t ≡ ok (c1, x, c2, y)
+    Is2 Equals left right t → Is2 o c1 dx left → Is2 o c2 dy right → difference d dx ≡ Some x →
+    difference d dy ≡ Some y → scaled o d t ≡ Ok (c1, x, c2, y)
 unfolding scaled or_else ◌>>=◌
 scaled_of_lem o d e l r a b = next _ (equated_of e l r) ∙ rw (a, b)
 
 -- a product by * is none of bit-vectors
 no_vectors :
     {a b left right t : Term} → Is2 Equals left right t → Is2 Mult a b left →
-    scaled BvMul BvSub t ≡ refused term_of_wrong_form
+    scaled BvMul BvSub t ≡ Err term_of_wrong_form
 unfolding scaled equated solve_all solve bind_all bind as_op or_else when◌then◌else◌ ◌>>=◌
 no_vectors (is i) (is j) = refl
 
 -- what the rule makes of the first attempt
 abbrev attempted : Term → Term → Result Scaled → Result (Unit {0})
 attempted premise phi x = elim x [
-  | ok p ↦ bitvector_case p phi
-  | refused r ↦ scaled Mult Sub premise >>= λ p. number_case the_rust p phi
+  | Ok p ↦ bitvector_case p phi
+  | Err r ↦ scaled Mult Sub premise >>= λ p. number_case the_rust p phi
 ]
 
 -- ---- the tests
 
 sides-accepted :
-    (c1 c2 : Term) (x y : Term × Term) → assert_sides x y (c1, x, c2, y) ≡ ok tt
+    (c1 c2 : Term) (x y : Term × Term) → assert_sides x y (c1, x, c2, y) ≡ Ok tt
 unfolding assert_sides assert_eq
 sides-accepted c1 c2 x y =
     next _ (asserts _ (same_self x.0))
@@ -104,7 +104,7 @@ signs_accepted o s t (inr e) = rw e (go (eqb o Equals) t)
     go false false = refl
 
 -- t is a bit-vector of an odd value
-odd-accepted : (i n w : ℕ) → n % 2 ≡ 1 → assert_odd (bitvector i n w) ≡ ok tt
+odd-accepted : (i n w : ℕ) → n % 2 ≡ 1 → assert_odd (bitvector i n w) ≡ Ok tt
 unfolding bitvector_err as_bitvector ◌>>=◌
 odd-accepted i n w e = asserts _ (eq-eqb (n % 2) 1 e)
 
@@ -113,7 +113,7 @@ odd-accepted i n w e = asserts _ (eq-eqb (n % 2) 1 e)
 vectors-accepted :
     {o : ℕ} {premise phi x1 x2 y1 y2 left right : Term} → ScaledVectors o premise x1 x2 y1 y2 → Is2 o x1 x2 left →
     Is2 o y1 y2 right → Is2 Equals left right phi →
-    poly_simp_rel the_rust (phi ∷ []) ((premise ∷ []) ∷ []) ≡ ok tt
+    poly_simp_rel the_rust (phi ∷ []) ((premise ∷ []) ∷ []) ≡ Ok tt
 unfolding poly_simp_rel only_literal ◌>>=◌ bitvector_case
 vectors-accepted {o} {premise} {phi} {x1} {x2} {y1} {y2} {left} {right} s l r c =
     let f : Is2 Equals x1 x2 left = rw s.relation at l in
@@ -129,7 +129,7 @@ vectors-accepted {o} {premise} {phi} {x1} {x2} {y1} {y2} {left} {right} s l r c 
 numbers-accepted :
     (by : Departures) {o : ℕ} {premise phi x1 x2 y1 y2 left right : Term} → IsRelation o →
     ScaledNumbers by o premise x1 x2 y1 y2 → Is2 o x1 x2 left → Is2 o y1 y2 right → Is2 Equals left right phi →
-    poly_simp_rel the_rust (phi ∷ []) ((premise ∷ []) ∷ []) ≡ ok tt
+    poly_simp_rel the_rust (phi ∷ []) ((premise ∷ []) ∷ []) ≡ Ok tt
 unfolding poly_simp_rel only_literal ◌>>=◌ number_case or_else
 numbers-accepted by {o} {premise} {phi} {x1} {x2} {y1} {y2} {left} {right} k s l r c =
     ap (attempted premise phi) (no_vectors s.equation s.left_product)
@@ -150,13 +150,13 @@ numbers-accepted by {o} {premise} {phi} {x1} {x2} {y1} {y2} {left} {right} k s l
 -- ---- the rule
 
 module _ (by : Departures) (premise phi : Term) (h : PolySimpRel by premise phi) where
-  pub poly-simp_rel_accepted : poly_simp_rel the_rust (phi ∷ []) ((premise ∷ []) ∷ []) ≡ ok tt
+  pub poly-simp_rel_accepted : poly_simp_rel the_rust (phi ∷ []) ((premise ∷ []) ∷ []) ≡ Ok tt
   poly-simp_rel_accepted =
       ⊎_elim (λ s. numbers-accepted by h.relation s h.left_side h.right_side h.conclusion)
       (λ s. vectors-accepted s h.left_side h.right_side h.conclusion) h.premise_form
 
   -- under limits, a step is refused by a limit at most
   pub poly-simp_rel_limited :
-      (l : Limits) (r : Refusal) → poly_simp_rel l (phi ∷ []) ((premise ∷ []) ∷ []) ≡ refused r → IsLimit r
+      (l : Limits) (r : Refusal) → poly_simp_rel l (phi ∷ []) ((premise ∷ []) ∷ []) ≡ Err r → IsLimit r
   poly-simp_rel_limited l r e =
       limit-alone (poly_simp_rel-limited l (phi ∷ []) ((premise ∷ []) ∷ [])) poly-simp_rel_accepted e

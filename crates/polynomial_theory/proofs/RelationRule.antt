@@ -16,7 +16,7 @@ use Rattle.terms.specs.Term.Terms.{nil, ◌▹◌}
 use Rattle.numbers.proofs.Truths.{both, never}
 use Rattle.book.proofs.BookTerms.{Closed}
 use Rattle.rules.specs.Refusal.{Refusal, ◌>>=◌}
-use Rattle.rules.specs.Refusal.Outcome.{ok, refused}
+use Rattle.std.specs.Prelude.{Ok, Err}
 use Rattle.rules.specs.Limits.{Limits}
 use Rattle.rules.specs.Shapes.{Clause, only_literal, is_relation}
 use Rattle.polynomial_rel.specs.PolySimpRel.{Scaled, assert_sides, bitvector_case, number_case, poly_simp_rel}
@@ -36,11 +36,11 @@ pub record Literals (c : Clause) (ps : List Clause) : Type 0 where
   pub conclusion : c ≡ phi ∷ []
   pub premises : ps ≡ (premise ∷ []) ∷ []
 
-pub refused_not_ok : {A X : Type 0} {r : Refusal} {a : A} → refused r ≡ ok a → X
+pub refused_not_ok : {A X : Type 0} {r : Refusal} {a : A} → Err r ≡ Ok a → X
 refused_not_ok e = let z : ◌≡◌ {A = ℕ} 0 1 = cc in absurd (omega arith)
 
 pub poly-simp_rel_literals :
-    (l : Limits) (c : Clause) (ps : List Clause) → poly_simp_rel l c ps ≡ ok tt → Literals c ps
+    (l : Limits) (c : Clause) (ps : List Clause) → poly_simp_rel l c ps ≡ Ok tt → Literals c ps
 unfolding poly_simp_rel only_literal ◌>>=◌
 poly-simp_rel_literals l c [] e = refused_not_ok e
 poly-simp_rel_literals l [] (p ∷ []) e = refused_not_ok e
@@ -180,7 +180,7 @@ module _ {P : Term → Type 0} (closed : Closed P) where
         e.shape f g
 
 module _ {P : Term → Type 0} (closed : Closed P) (l : Limits) (premise phi : Term) (p : P premise) (q : P phi) where
-  pub poly-simp_rel_form : poly_simp_rel l (phi ∷ []) ((premise ∷ []) ∷ []) ≡ ok tt → PolySimpRel carcara premise phi
+  pub poly-simp_rel_form : poly_simp_rel l (phi ∷ []) ((premise ∷ []) ∷ []) ≡ Ok tt → PolySimpRel carcara premise phi
   unfolding poly_simp_rel only_literal ◌>>=◌
   poly-simp_rel_form =
       at_ok {P = λ u. PolySimpRel carcara premise phi}

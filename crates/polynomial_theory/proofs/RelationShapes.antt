@@ -5,7 +5,7 @@
 --     vector-parts, number-parts       the differences
 --     sides-equal       what `assert_sides` asserts
 use mathlib.Core.Path.{◌≡◌, refl}
-use mathlib.Core.Option.{Option, some, none}
+use Rattle.std.specs.Prelude.{Option, Some, None}
 use Prim.Native.Nat.{ℕ, zero, suc, ◌%◌, ◌<◌}
 use native.Mathlib.Omega.{arith}
 use borrow.Author.Tests.{eqb-true}
@@ -17,7 +17,7 @@ use Rattle.terms.specs.Term.Terms.{nil, ◌▹◌}
 use Rattle.terms.specs.Readers.{as_bitvector, as_op}
 use Rattle.book.proofs.BookTerms.{Closed}
 use Rattle.rules.specs.Refusal.{Refusal, Result, ◌>>=◌, or_else}
-use Rattle.rules.specs.Refusal.Outcome.{ok, refused}
+use Rattle.std.specs.Prelude.{Ok, Err}
 use Rattle.rules.specs.Refusal.Refusal.{term_of_wrong_form}
 use Rattle.rules.specs.Limits.{bitvector_err, op_err}
 use Rattle.rules.specs.Shapes.{Names, matches}
@@ -37,7 +37,7 @@ use Rattle.terms.proofs.Readings.{by_option}
 pub or_next :
     {A B : Type 0} {R : A → Type 0} {Q : B → Type 0} {x : Result A} {f : A → Result B} {y : Result B} →
     Yields R x → ((a : A) → R a → Yields Q (f a)) → Yields Q y →
-    Yields {E = Refusal} Q (elim x as (λ z. Result B) [ ok a ↦ f a | refused r ↦ y ])
+    Yields {E = Refusal} Q (elim x as (λ z. Result B) [ Ok a ↦ f a | Err r ↦ y ])
 or_next (gives {a} h) f g = f a h
 or_next refuses f g = g
 
@@ -120,7 +120,7 @@ module _ {P : Term → Type 0} (closed : Closed P) where
       go :
           (m : Option Names) → matches (equated_form o) t ≡ m →
           Yields (Equated P o t) (or_else (equated_in m) term_of_wrong_form)
-      go (some σ) e =
+      go (Some σ) e =
           let f = form-found closed (equated_form o) t σ p e in
           let equation : Is2 Equals (σ.at 1) (σ.at 2) t = rw f.whole at f.holds.0 in
           let inside = (found_of equation p).inside in
@@ -131,11 +131,11 @@ module _ {P : Term → Type 0} (closed : Closed P) where
             second = found_of (operation_is o h f.holds.1.1.0) inside.1.0;
             equation = equation;
           })
-      go none e = refuses
+      go None e = refuses
 
   pub scaled-found :
       (o d : ℕ) (D : Term → Term → Term → Type 0) → 0 < o →
-      ((t : Term) → P t → (q : Term × Term) → difference d t ≡ some q → Parts P D t q) → (t : Term) → P t →
+      ((t : Term) → P t → (q : Term × Term) → difference d t ≡ Some q → Parts P D t q) → (t : Term) → P t →
       Yields (Scales P o D t) (scaled o d t)
   unfolding scaled
   scaled-found o d D h reads t p =
@@ -145,16 +145,16 @@ module _ {P : Term → Type 0} (closed : Closed P) where
       gives (record { dx = q.0.1; dy = q.1.1; products = e; x = h; y = k })
 
   module _ (t : Term) (p : P t) (q : Term × Term) where
-    pub vector-parts : difference BvSub t ≡ some q → Parts P (Is2 BvSub) t q
+    pub vector-parts : difference BvSub t ≡ Some q → Parts P (Is2 BvSub) t q
     unfolding difference when◌then◌else◌
     vector-parts e =
         let f = binary-found closed BvSub t p q e in
         record { shape = f.shape; inside = inside_both f }
 
-    pub number-parts : difference Sub t ≡ some q → Parts P (Difference carcara) t q
+    pub number-parts : difference Sub t ≡ Some q → Parts P (Difference carcara) t q
     unfolding difference when◌then◌else◌
     number-parts =
-        by_option (unary ToReal t) (binary Sub) (binary Sub t) (some q)
+        by_option (unary ToReal t) (binary Sub) (binary Sub t) (Some q)
         (λ u e f.
         let g = unary-found closed ToReal t p u e in
         let h = binary-found closed Sub u g.inside.0 q f in

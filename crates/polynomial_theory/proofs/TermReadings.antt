@@ -4,7 +4,7 @@
 -- VectorReadings.
 use mathlib.Core.Path.{◌≡◌}
 use mathlib.Core.Bool.{false}
-use mathlib.Core.Option.{Option, some, none}
+use Rattle.std.specs.Prelude.{Option, Some, None}
 use Prim.Native.Nat.{ℕ}
 use lib.IntN.{pos}
 use Rattle.numbers.specs.Rational.{Rational, div_q, is_zero}
@@ -12,12 +12,12 @@ use Rattle.terms.specs.Term.{Term, Terms}
 use Rattle.terms.specs.Term.Term.{bitvector, op}
 use Rattle.terms.specs.Term.Terms.{nil, ◌▹◌}
 use Rattle.terms.specs.Readers.{unbounded, as_fraction}
-use Rattle.terms.specs.declared.term.Reading.TheVariants.{Value}
 use Rattle.numbers.proofs.Ring.{Ring}
 use Rattle.book.proofs.BookTerms.{Each}
 use Rattle.polynomial_walk.specs.PolynomialTerms.{Arm, arm_of}
 use Rattle.polynomial_walk.specs.PolynomialTerms.Arm.{sum, negation, difference, product, quotient, leaf}
 use Rattle.rules.proofs.Valuations.{Valuation, Respects}
+use Rattle.std.specs.Prelude.{Ok}
 
 -- ---- the value of a list of arguments
 
@@ -50,10 +50,10 @@ First P (t ▹ ts) = P t
 
 -- the second argument is read as a number that is not 0, or as none
 abbrev pub DividedBy : Terms → Option Rational → Type 0
-DividedBy ts none = Unit {0}
-DividedBy nil (some q) = ⊥
-DividedBy (a ▹ nil) (some q) = ⊥
-DividedBy (a ▹ b ▹ ts) (some q) = (as_fraction unbounded b ≡ Value q) × (is_zero q ≡ false)
+DividedBy ts None = Unit {0}
+DividedBy nil (Some q) = ⊥
+DividedBy (a ▹ nil) (Some q) = ⊥
+DividedBy (a ▹ b ▹ ts) (Some q) = (as_fraction unbounded b ≡ Ok q) × (is_zero q ≡ false)
 
 -- ---- the premise
 
@@ -65,9 +65,9 @@ module _ {R : Ring} (N : Valuation R) (value : Term → R.carrier) (Fits : Term 
   -- x is the first argument over any number that the second is read as
   pub record Quotient (ts : Terms) (x : carrier) : Type 0 where
     pub first : First Fits ts
-    pub good : (c q : Rational) → N.Good c → DividedBy ts (some q) → N.Good (div_q c q)
+    pub good : (c q : Rational) → N.Good c → DividedBy ts (Some q) → N.Good (div_q c q)
     pub is :
-        (c q : Rational) → N.Good c → DividedBy ts (some q) →
+        (c q : Rational) → N.Good c → DividedBy ts (Some q) →
         N.number (div_q c q) * first_of R value ts ≡ N.number c * x
 
   -- x is what an arm of the walk takes these arguments for
@@ -85,7 +85,7 @@ pub record TermReading {R : Ring} (N : Valuation R) : Type 1 where
   pub Fits : Term → Type 0
   pub respects : Respects Fits value
   pub fraction :
-      (t : Term) → Fits t → (q : Rational) → as_fraction unbounded t ≡ Value q →
+      (t : Term) → Fits t → (q : Rational) → as_fraction unbounded t ≡ Ok q →
       N.Good q × (value t ≡ N.number q)
   pub vector : (i v n : ℕ) → Fits (bitvector i v n) → value (bitvector i v n) ≡ R.ι (pos v)
   pub operation :

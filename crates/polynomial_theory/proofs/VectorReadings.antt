@@ -19,7 +19,6 @@ use Rattle.terms.specs.Readers.{unbounded, as_number, quotient_of, as_unsigned_f
 use Rattle.terms.specs.Book.{count_ok}
 use Rattle.terms.specs.Smtlib.{Assignment, as_vector, sum_z, product_z, difference_z, opposite_z, width_of, meaning, value}
 use Rattle.terms.specs.Smtlib.{values}
-use Rattle.terms.specs.declared.term.Reading.TheVariants.{Value}
 use Rattle.numbers.proofs.Ring.{neg, Ring}
 use Rattle.numbers.proofs.Truths.{both}
 use Rattle.book.proofs.WellFormed.{WellFormed, Operation}
@@ -31,6 +30,7 @@ use Rattle.book.proofs.Vectors.{not_vector, by_vector-operator, width_is, argume
 use Rattle.polynomial_walk.specs.PolynomialTerms.{arm_of}
 use Rattle.rules.proofs.WholeNumbers.{wholes, IsWhole, numberₘ}
 use Rattle.polynomial_theory.proofs.TermReadings.{TermReading, sum_of, difference_of, factors_of, product_of, Taken}
+use Rattle.std.specs.Prelude.{Ok}
 
 -- a term of P of sort bits w
 pub record VectorOf (P : Term → Type 0) (w : ℕ) (t : Term) : Type 0 where
@@ -158,7 +158,7 @@ module _ (w : ℕ) (ρ : Assignment) where
 
       -- no bit-vector is read as a fraction
       pub fraction :
-          (t : Term) → Fits t → (q : Rational) → as_fraction unbounded t ≡ Value q →
+          (t : Term) → Fits t → (q : Rational) → as_fraction unbounded t ≡ Ok q →
           IsWhole q × (residue_of t ≡ numberₘ (2 ^ w) q)
       unfolding as_fraction as_unsigned_fraction quotient_of unary binary as_number sort WellFormed
       fraction (integer i v) h q e = not_vector int refl h.sized
@@ -168,7 +168,7 @@ module _ (w : ℕ) (ρ : Assignment) where
       fraction (op i o ts) h q e =
           by_vector-operator
           (λ o.
-          as_fraction unbounded (op i o ts) ≡ Value q → IsWhole q × (residue_of (op i o ts) ≡ numberₘ (2 ^ w) q))
+          as_fraction unbounded (op i o ts) ≡ Ok q → IsWhole q × (residue_of (op i o ts) ≡ numberₘ (2 ^ w) q))
           o ts (closed.formed (op i o ts) h.of).0 h.sized not-number not-number not-number not-number e
 
       pub vector : (i v n : ℕ) → Fits (bitvector i v n) → residue_of (bitvector i v n) ≡ class (pos v)

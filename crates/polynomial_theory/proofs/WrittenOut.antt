@@ -14,8 +14,6 @@ use Rattle.terms.specs.Term.Term.{integer, rational, bitvector, atom, op}
 use Rattle.terms.specs.Term.Terms.{nil, ◌▹◌}
 use Rattle.terms.specs.Readers.{unbounded, as_fraction}
 use Rattle.terms.specs.Book.{count_ok}
-use Rattle.terms.specs.declared.term.Reading.{Reading}
-use Rattle.terms.specs.declared.term.Reading.TheVariants.{Value, NotNumber, OutOfRange}
 use Rattle.numbers.proofs.Truths.{never}
 use Rattle.terms.proofs.Readings.{not-number, out_of_range}
 use Rattle.book.proofs.WellFormed.{WellFormed, AllWellFormed, Operation}
@@ -24,6 +22,9 @@ use Rattle.book.proofs.BookTerms.{Each}
 use Rattle.alethe.specs.AletheTerms.{Is, is, Is2, Constant, Unsigned, Written, Products, IsSum, IsMinus, IsDifference}
 use Rattle.alethe.specs.AletheTerms.{IsProduct, Indivisible, Expands, ExpandsAll, Factors}
 use Rattle.rules_theory.proofs.WrittenNumbers.{written_read, read-written}
+use Rattle.terms.specs.Readers.{Reading}
+use Rattle.std.specs.Prelude.{Ok, Err}
+use Rattle.terms.specs.declared.term.NotRead.TheVariants.{NotNumber, OutOfRange}
 
 abbrev pub WrittenOut : Term → Type 0
 WrittenOut t = (m : Products) × Expands t m
@@ -102,14 +103,14 @@ module _ (t : Term) (kept : Kept (operator_at t)) where
   leaf : ((i v w : ℕ) → t ≡ bitvector i v w → ⊥) → NoQuotient t → WrittenOut t
   leaf v q = go (as_fraction unbounded t) refl
     where
-      none_read : {r : Reading} → as_fraction unbounded t ≡ r → ((q : Rational) → r ≡ Value q → ⊥) →
+      none_read : {r : Reading} → as_fraction unbounded t ≡ r → ((q : Rational) → r ≡ Ok q → ⊥) →
           (q : Rational) → Written t q → ⊥
       none_read e n q w = n q (sym e ∙ written_read w)
 
       go : (r : Reading) → as_fraction unbounded t ≡ r → WrittenOut t
-      go (Value q) e = (_, Expands.number (read-written t q e))
-      go NotNumber e = (_, Expands.atom (undivided (none_read e λ q. not-number) v q))
-      go OutOfRange e = (_, Expands.atom (undivided (none_read e λ q. out_of_range) v q))
+      go (Ok q) e = (_, Expands.number (read-written t q e))
+      go (Err NotNumber) e = (_, Expands.atom (undivided (none_read e λ q. not-number) v q))
+      go (Err OutOfRange) e = (_, Expands.atom (undivided (none_read e λ q. out_of_range) v q))
 
 no_vector : (i o : ℕ) (ts : Terms) (j v w : ℕ) → op i o ts ≡ bitvector j v w → ⊥
 no_vector i o ts j v w e = let z : ◌≡◌ {A = ℕ} 0 1 = cc in omega arith
@@ -174,7 +175,7 @@ quotient_out i a b h = go (as_fraction unbounded b) refl
         leaf (op i RealDiv (a ▹ b ▹ nil)) (λ p e l. (omega arith, omega arith)) (no_vector i RealDiv (a ▹ b ▹ nil))
         (λ x y q s w z. n q (subst (λ (t : Term). Written t q) (sym (second_is s)) w) z)
 
-    at : (q : Rational) → as_fraction unbounded b ≡ Value q → (z : Bool) → is_zero q ≡ z →
+    at : (q : Rational) → as_fraction unbounded b ≡ Ok q → (z : Bool) → is_zero q ≡ z →
         WrittenOut (op i RealDiv (a ▹ b ▹ nil))
     at q e true z =
         undivided_by λ p w y.
@@ -182,9 +183,9 @@ quotient_out i a b h = go (as_fraction unbounded b) refl
     at q e false z = (_, Expands.quotient (is i) (read-written b q e) z h.1)
 
     go : (r : Reading) → as_fraction unbounded b ≡ r → WrittenOut (op i RealDiv (a ▹ b ▹ nil))
-    go (Value q) e = at q e (is_zero q) refl
-    go NotNumber e = undivided_by λ p w y. let z : ◌≡◌ {A = ℕ} 0 1 = cc (written_read w) in omega arith
-    go OutOfRange e = undivided_by λ p w y. let z : ◌≡◌ {A = ℕ} 0 1 = cc (written_read w) in omega arith
+    go (Ok q) e = at q e (is_zero q) refl
+    go (Err NotNumber) e = undivided_by λ p w y. let z : ◌≡◌ {A = ℕ} 0 1 = cc (written_read w) in omega arith
+    go (Err OutOfRange) e = undivided_by λ p w y. let z : ◌≡◌ {A = ℕ} 0 1 = cc (written_read w) in omega arith
 
 over_out : (i : ℕ) (ts : Terms) → Each WrittenOut ts → count_ok RealDiv (length (sorts ts)) ≡ true →
     WrittenOut (op i RealDiv ts)

@@ -24,12 +24,6 @@ use Rattle.terms.specs.Term.Term.{integer, rational, bitvector, atom, op}
 use Rattle.terms.specs.Book.{record_of, kind, field1, field2, is_width, is_vector, numbers, nothing, arguments, argument_at}
 use Rattle.terms.specs.Book.{forest, tree}
 use Rattle.terms.specs.Readers.{Finds, ranged, as_fraction, as_bitvector, as_op, operator_of, arguments_of}
-use Rattle.numbers.specs.declared.number.Checked.{Checked}
-use Rattle.numbers.specs.declared.number.Checked.TheVariants as checked
-use Rattle.terms.specs.declared.term.Reading.{Reading}
-use Rattle.terms.specs.declared.term.Reading.TheVariants.{Value, NotNumber, OutOfRange}
-use Rattle.terms.specs.declared.term.BitVector.{BitVector}
-use Rattle.terms.specs.declared.term.BitVector.TheVariants.{Bits, NotBitvector}
 use Rattle.numbers.proofs.Truths.{both}
 use Rattle.terms.proofs.NumberedNodes.{record_number-tree}
 use Rattle.terms.proofs.Layouts.{width-bounded}
@@ -46,6 +40,10 @@ use Rattle.polynomial_walk.specs.declared.polynomial_walk.Node.{Node}
 use Rattle.polynomial_walk.specs.declared.polynomial_walk.Node.TheVariants as node
 use Rattle.rules.proofs.ArgumentsLeft.{arguments-count, by_operator}
 use Rattle.index_map.proofs.CheckedNumbers.{whole-proper, small-fits, small-back}
+use Rattle.numbers.specs.Rational.{Checked}
+use Rattle.terms.specs.Readers.{Reading}
+use Rattle.std.specs.Prelude.{Ok, Err, Option, Some, None}
+use Rattle.terms.specs.declared.term.NotRead.TheVariants.{NotNumber, OutOfRange}
 
 node_is : {r d : Node} → NodeProper r → r ≡ d → NodeIs r d
 node_is p e = record { is = e; proper = p }
@@ -56,11 +54,11 @@ node_of_lem n e = node_is n.proper (n.is ∙ e)
 -- ---- constant
 
 module _ (q coeff : Rational) {a : Checked} (g : Gives a (checked (mul_q q coeff))) where
-  pub scaled : {c : Rational} → a ≡ checked.Value c → NodeIs (node.Constant c) (constant_of q coeff)
+  pub scaled : {c : Rational} → a ≡ Some c → NodeIs (node.Constant c) (constant_of q coeff)
   unfolding constant_of
   scaled e = node_is (g.proper _ e) (ap constant_node (sym e ∙ g.is))
 
-  pub scaled-outside : a ≡ checked.OutOfRange → NodeIs node.OutOfRange (constant_of q coeff)
+  pub scaled-outside : a ≡ None → NodeIs node.OutOfRange (constant_of q coeff)
   unfolding constant_of
   scaled-outside e = node_is tt (ap constant_node (sym e ∙ g.is))
 
@@ -77,12 +75,14 @@ vector-small r e =
 module _ (b : Bytes) (i : ℕ) {v w : ℕ} where
   read_small :
       (r : Bytes) (t : Bool) → eqb (kind r) 3 && is_vector r ≡ t →
-      cond t (Bits (field1 r) (field2 r)) NotBitvector ≡ Bits v w → v ≤ limit
+      cond {A = Option (ℕ × ℕ)} t (Some (field1 r, field2 r)) None ≡ Some (v, w) → v ≤ limit
   read_small r true e is =
-      let same : field1 r ≡ v = cc in rw (← same) (vector-small r (both (eqb (kind r) 3) (is_vector r) e).1)
+      let parts : ◌≡◌ {A = ℕ × ℕ} (field1 r, field2 r) (v, w) = cc in
+      let same : field1 r ≡ v = ap (λ (z : ℕ × ℕ). z.0) parts in
+      rw (← same) (vector-small r (both (eqb (kind r) 3) (is_vector r) e).1)
   read_small r false e is = let z : ◌≡◌ {A = ℕ} 0 1 = cc in absurd (omega arith)
 
-  module _ {x : BitVector} (x-is : x ≡ as_bitvector (tree b i)) (e : x ≡ Bits v w) where
+  module _ {x : Option (ℕ × ℕ)} (x-is : x ≡ as_bitvector (tree b i)) (e : x ≡ Some (v, w)) where
     pub bits_small : v ≤ limit
     bits_small =
         let r = record_of b i in
@@ -100,28 +100,28 @@ module _ (b : Bytes) (i : ℕ) {v w : ℕ} where
     bits-proper is = rw (bits-whole is) (whole-proper (pos v) bits_small)
 
 module _ (t : Term) (coeff : Rational) {r : Reading} (f : Finds r (as_fraction ranged t)) where
-  pub leaf-number : {q : Rational} {n : Node} → r ≡ Value q → NodeIs n (constant_of q coeff) → NodeIs n (leaf_node t coeff)
+  pub leaf-number : {q : Rational} {n : Node} → r ≡ Ok q → NodeIs n (constant_of q coeff) → NodeIs n (leaf_node t coeff)
   unfolding leaf_node
   leaf-number e n = node_of_lem n (rw (← f.is, leaf_node, e))
 
-  pub leaf-outside : r ≡ OutOfRange → NodeIs node.OutOfRange (leaf_node t coeff)
+  pub leaf-outside : r ≡ Err OutOfRange → NodeIs node.OutOfRange (leaf_node t coeff)
   unfolding leaf_node
   leaf-outside e = node_is tt (rw (← f.is, leaf_node, e))
 
-  module _ (r-is : r ≡ NotNumber) {x : BitVector} (x-is : x ≡ as_bitvector t) where
+  module _ (r-is : r ≡ Err NotNumber) {x : Option (ℕ × ℕ)} (x-is : x ≡ as_bitvector t) where
     pub leaf-vector :
-        {v w : ℕ} {q : Rational} {n : Node} → x ≡ Bits v w → q ≡ whole (pos v) → NodeIs n (constant_of q coeff) →
+        {v w : ℕ} {q : Rational} {n : Node} → x ≡ Some (v, w) → q ≡ whole (pos v) → NodeIs n (constant_of q coeff) →
         NodeIs n (leaf_node t coeff)
     unfolding leaf_node
     leaf-vector e q-is n = node_of_lem n (rw (← f.is, leaf_node, r-is, ← x-is, e, q-is))
 
-    pub leaf-atom : x ≡ NotBitvector → NodeIs node.Atom (leaf_node t coeff)
+    pub leaf-atom : x ≡ None → NodeIs node.Atom (leaf_node t coeff)
     unfolding leaf_node
     leaf-atom e = node_is tt (rw (← f.is, leaf_node, r-is, ← x-is, e))
 
 -- ---- quotient
 
-pub a_divisor : {r a : Reading} {q : Rational} → Finds r a → r ≡ Value q → is_zero q ≡ false → Divisor q
+pub a_divisor : {r a : Reading} {q : Rational} → Finds r a → r ≡ Ok q → is_zero q ≡ false → Divisor q
 a_divisor f e z = record { proper = f.proper _ e; nonzero = z }
 
 module _ (t : Term) (coeff : Rational) (f : ℕ → Term) where
@@ -164,14 +164,14 @@ module _
         divisor_node (tree b i) (tree b (argument_at args 0 i)) s coeff ≡ quotient_of (tree b i) coeff
     at e = rw (← e) read-node
 
-    pub divisor-outside : r ≡ OutOfRange → NodeIs node.OutOfRange (quotient_of (tree b i) coeff)
+    pub divisor-outside : r ≡ Err OutOfRange → NodeIs node.OutOfRange (quotient_of (tree b i) coeff)
     divisor-outside e = node_is tt (at e)
 
     pub no_divisor :
-        {n : Node} → r ≡ NotNumber → NodeIs n (leaf_node (tree b i) coeff) → NodeIs n (quotient_of (tree b i) coeff)
+        {n : Node} → r ≡ Err NotNumber → NodeIs n (leaf_node (tree b i) coeff) → NodeIs n (quotient_of (tree b i) coeff)
     no_divisor e n = node_of_lem n (at e)
 
-    module _ {q : Rational} (e : r ≡ Value q) where
+    module _ {q : Rational} (e : r ≡ Ok q) where
       pub zero-divisor :
           {n : Node} → is_zero q ≡ true → NodeIs n (leaf_node (tree b i) coeff) → NodeIs n (quotient_of (tree b i) coeff)
       zero-divisor z n = node_of_lem n (rw (z, divisor_node) at (at e))
@@ -181,11 +181,11 @@ module _
           divided-node : divided_node (argument_at args 0 i) a ≡ quotient_of (tree b i) coeff
           divided-node = rw (g.is, ← record_number-tree b (argument_at args 0 i)) (rw (z, divisor_node) at (at e))
 
-          pub quotient-outside : a ≡ checked.OutOfRange → NodeIs node.OutOfRange (quotient_of (tree b i) coeff)
+          pub quotient-outside : a ≡ None → NodeIs node.OutOfRange (quotient_of (tree b i) coeff)
           quotient-outside out = node_is tt (rw out at divided-node)
 
           pub quotient-found :
-              {x : ℕ} {c : Rational} → x ≡ argument_at args 0 i → a ≡ checked.Value c →
+              {x : ℕ} {c : Rational} → x ≡ argument_at args 0 i → a ≡ Some c →
               NodeIs (node.Quotient x c) (quotient_of (tree b i) coeff)
           quotient-found x-is value = node_is (g.proper _ value) (rw x-is (rw value at divided-node))
 

@@ -1,7 +1,7 @@
 -- The walk of a record's arguments into the polynomial in the lowest area of a stack, one after the other. `Walking` is
 -- the invariant of its loop: whichever polynomial stood there before, what is left to walk from argument k on, from the
 -- one that stands there at the turn, is the whole walk.
---     walking_none, walking_more, walking_refused, walking_done       along the loop
+--     walking_more, walking_refused, walking_done       along the loop
 --     argument-below, argument_pre       what the walk of argument k asks
 use mathlib.Core.Path.{◌≡◌, refl, ◌∙◌}
 use mathlib.Core.List.{[], ◌∷◌}
@@ -14,7 +14,7 @@ use Rattle.terms.specs.Term.{Term, Terms}
 use Rattle.terms.specs.Term.Terms.{nil, ◌▹◌}
 use Rattle.terms.specs.Book.{tree, argument_at}
 use Rattle.rules.specs.Refusal.{Refusal, Result, ◌>>=◌}
-use Rattle.rules.specs.Refusal.Outcome.{ok, refused}
+use Rattle.std.specs.Prelude.{Ok, Err}
 use Rattle.rules.specs.Limits.{Limits, limited}
 use Rattle.index_map.specs.IndexMap.{Map, Walked, walked}
 use Rattle.polynomial.specs.Polynomial.{Monomial}
@@ -37,11 +37,11 @@ each_same (t ▹ ts) l d q w = refl
 
 module _ (t : Term) (ts : Terms) (l : Limits) (d : ℕ) (p q : Rational) (w : Walked Monomial) where
   each_after :
-      {w' : Walked Monomial} → add_term t l d p w ≡ ok w' → add_each (t ▹ ts) l d p q w ≡ add_each ts l d q q w'
+      {w' : Walked Monomial} → add_term t l d p w ≡ Ok w' → add_each (t ▹ ts) l d p q w ≡ add_each ts l d q q w'
   unfolding add_each ◌>>=◌
   each_after e = rw e (each_same ts l d q _)
 
-  each-refused : {r : Refusal} → add_term t l d p w ≡ refused r → add_each (t ▹ ts) l d p q w ≡ refused r
+  each-refused : {r : Refusal} → add_term t l d p w ≡ Err r → add_each (t ▹ ts) l d p q w ≡ Err r
   unfolding add_each ◌>>=◌
   each-refused e = rw e
 
@@ -66,7 +66,6 @@ pub record Present
 pub record Walking
     (b w₀ args : Bytes) (id limit d : ℕ) (first others : Rational) (s : Poly) (v₀ : ℕ)
     (w : Bytes) (t : Poly) (v : ℕ) (coeff : Rational) (k : ℕ) : Type 0 where
-  pub inside : k ≤ length args / 2
   pub long : length w ≡ length w₀
   pub proper : Proper coeff
   pub present :
@@ -76,15 +75,6 @@ pub record Walking
 module _
     {b w₀ args : Bytes} {id limit d : ℕ} {first others : Rational} {s : Poly} {v₀ : ℕ}
     (pre : ArgsPre b w₀ args id first others s d) where
-  pub walking_none : Walking b w₀ args id limit d first others s v₀ w₀ s v₀ first 0
-  walking_none =
-      record {
-        inside = omega arith;
-        long = refl;
-        proper = pre.proper.0;
-        present = λ m t h. record { map = m; held = t; has = h; left = refl };
-      }
-
   module _
       {w : Bytes} {t : Poly} {v : ℕ} {coeff : Rational} {k : ℕ}
       (walking : Walking b w₀ args id limit d first others s v₀ w t v coeff k) where
@@ -132,7 +122,6 @@ module _
             Walking b w₀ args id limit d first others s v₀ w' t' v' others (k + 1)
         walking_more {t'} {v'} e long =
             record {
-              inside = omega arith;
               long = long ∙ walking.long;
               proper = pre.proper.1;
               present = present;

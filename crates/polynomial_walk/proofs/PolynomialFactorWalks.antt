@@ -18,7 +18,7 @@ use Rattle.terms.specs.Term.{Term, Terms}
 use Rattle.terms.specs.Term.Terms.{◌▹◌}
 use Rattle.terms.specs.Book.{count, tree, numbers, argument_at, all_below}
 use Rattle.rules.specs.Refusal.{Refusal, Result, ◌>>=◌}
-use Rattle.rules.specs.Refusal.Outcome.{ok, refused}
+use Rattle.std.specs.Prelude.{Ok, Err}
 use Rattle.rules.specs.Limits.{Limits, limited}
 use Rattle.index_map.specs.IndexMap.{Map, Walked, walked, new}
 use Rattle.polynomial.specs.Polynomial.{Monomial}
@@ -106,13 +106,13 @@ module _
 module _ (t : Term) (ts : Terms) (l : Limits) (d : ℕ) where
   module _ (n : ℕ) where
     first_stops :
-        {r : Refusal} → add_term t l d (whole (pos 1)) (walked new n) ≡ refused r →
-        first_factor (t ▹ ts) l d n ≡ refused r
+        {r : Refusal} → add_term t l d (whole (pos 1)) (walked new n) ≡ Err r →
+        first_factor (t ▹ ts) l d n ≡ Err r
     unfolding add_term ◌>>=◌
     first_stops e = rw e
 
     first_goes :
-        {p : Walked Monomial} → add_term t l d (whole (pos 1)) (walked new n) ≡ ok p →
+        {p : Walked Monomial} → add_term t l d (whole (pos 1)) (walked new n) ≡ Ok p →
         first_factor (t ▹ ts) l d n ≡ other_factors ts l d p
     unfolding add_term ◌>>=◌
     first_goes e = rw e

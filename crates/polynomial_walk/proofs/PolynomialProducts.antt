@@ -14,7 +14,7 @@ use Rattle.terms.specs.Term.{Term, Terms}
 use Rattle.terms.specs.Term.Terms.{◌▹◌}
 use Rattle.terms.specs.Book.{tree, argument_at}
 use Rattle.rules.specs.Refusal.{Refusal, Result, ◌>>=◌}
-use Rattle.rules.specs.Refusal.Outcome.{ok, refused}
+use Rattle.std.specs.Prelude.{Ok, Err}
 use Rattle.rules.specs.Limits.{Limits, limited}
 use Rattle.index_map.specs.IndexMap.{Map, Walked, walked, new}
 use Rattle.polynomial.specs.Polynomial.{Monomial, Polynomial, mul}
@@ -40,18 +40,18 @@ use Rattle.polynomial_walk.proofs.PolynomialFactorWalks.{none_pre, none_fills}
 module _ (t : Term) (ts : Terms) (l : Limits) (d : ℕ) where
   module _ (p : Walked Monomial) where
     other-stops :
-        {r : Refusal} → add_term t l d (whole (pos 1)) (walked new p.visits) ≡ refused r →
-        other_factors (t ▹ ts) l d p ≡ refused r
+        {r : Refusal} → add_term t l d (whole (pos 1)) (walked new p.visits) ≡ Err r →
+        other_factors (t ▹ ts) l d p ≡ Err r
     unfolding add_term ◌>>=◌
     other-stops e = rw e
 
-    module _ {q : Walked Monomial} (made : add_term t l d (whole (pos 1)) (walked new p.visits) ≡ ok q) where
-      mul-stops : {r : Refusal} → mul l p.sum q.sum ≡ refused r → other_factors (t ▹ ts) l d p ≡ refused r
+    module _ {q : Walked Monomial} (made : add_term t l d (whole (pos 1)) (walked new p.visits) ≡ Ok q) where
+      mul-stops : {r : Refusal} → mul l p.sum q.sum ≡ Err r → other_factors (t ▹ ts) l d p ≡ Err r
       unfolding add_term ◌>>=◌
       mul-stops e = rw (made, e)
 
       mul-goes :
-          {r : Polynomial} → mul l p.sum q.sum ≡ ok r →
+          {r : Polynomial} → mul l p.sum q.sum ≡ Ok r →
           other_factors (t ▹ ts) l d p ≡ other_factors ts l d (walked r q.visits)
       unfolding add_term ◌>>=◌
       mul-goes e = rw (made, e)

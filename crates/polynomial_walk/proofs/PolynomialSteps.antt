@@ -4,7 +4,7 @@
 use mathlib.Core.Path.{◌≡◌, refl, sym, ap, subst}
 use mathlib.Core.Bool.{Bool, true, false}
 use mathlib.Core.List.{[], ◌∷◌}
-use mathlib.Core.Option.{Option, some, none}
+use Rattle.std.specs.Prelude.{Option, Some, None}
 use Prim.Native.Nat.{ℕ, suc, ◌<◌}
 use lib.IntN.{pos}
 use Rattle.numbers.specs.Rational.{Rational, whole, mul_q, div_q, neg_q, is_zero, checked}
@@ -14,16 +14,10 @@ use Rattle.terms.specs.Term.Term.{integer, rational, bitvector, atom, op}
 use Rattle.terms.specs.Term.Terms.{nil, ◌▹◌}
 use Rattle.terms.specs.Book.{record_of, tree, layout_ok}
 use Rattle.terms.specs.Readers.{within, ranged, as_fraction, as_bitvector, as_op, arguments_of}
-use Rattle.numbers.specs.declared.number.Checked.{Checked}
-use Rattle.numbers.specs.declared.number.Checked.TheVariants as checked
-use Rattle.terms.specs.declared.term.Reading.{Reading}
-use Rattle.terms.specs.declared.term.Reading.TheVariants.{Value, NotNumber, OutOfRange}
-use Rattle.terms.specs.declared.term.BitVector.{BitVector}
-use Rattle.terms.specs.declared.term.BitVector.TheVariants.{Bits, NotBitvector}
 use Rattle.book.proofs.BookTerms.{Each}
 use Rattle.terms.proofs.RecordReadings.{arguments_of_record}
 use Rattle.rules.specs.Refusal.{Result, ◌>>=◌, assert}
-use Rattle.rules.specs.Refusal.Outcome.{ok, refused}
+use Rattle.std.specs.Prelude.{Ok, Err}
 use Rattle.rules.specs.Refusal.Refusal.{number_range, polynomial_size}
 use Rattle.rules.specs.Limits.{Limits, limited, number_or, times, over, fraction_of}
 use Rattle.index_map.specs.IndexMap.{Walked, walked, combination, visit, add_entry, add_constant}
@@ -40,6 +34,9 @@ use Rattle.polynomial_walk.specs.declared.polynomial_walk.Node.TheVariants as no
 use Rattle.index_map.proofs.CheckedNumbers.{over-value, over_out, on_answer, on_product}
 use Rattle.rules.proofs.Results.{bind-same}
 use Rattle.book.proofs.ArgumentsBelow.{Own, Below, forest-own, arguments-below}
+use Rattle.numbers.specs.Rational.{Checked}
+use Rattle.terms.specs.Readers.{Reading}
+use Rattle.terms.specs.declared.term.NotRead.TheVariants.{NotNumber, OutOfRange}
 
 -- what the walk does at a node of the term t, under d products and after the visit
 abbrev pub act : Bytes → Limits → ℕ → Term → Rational → Node → Walked Monomial → Result (Walked Monomial)
@@ -48,19 +45,19 @@ act b l d t coeff node.Product w = add_product (arguments_of t) l d coeff w
 act b l d t coeff (node.Quotient x c) w = add_term (tree b x) l d c w
 act b l d t coeff (node.Constant q) w = add_constant l q w
 act b l d t coeff node.Atom w = add_entry monomials l (t ∷ []) coeff w
-act b l d t coeff node.OutOfRange w = refused number_range
+act b l d t coeff node.OutOfRange w = Err number_range
 
 -- ---- the definition's cases, by their names
 
 -- a leaf's node, by what the leaf is read as, as a number and as a bit-vector
-abbrev bits_node : Rational → BitVector → Node
-bits_node coeff v = elim v [ Bits v n ↦ constant_of (whole (pos v)) coeff | NotBitvector ↦ node.Atom ]
+abbrev bits_node : Rational → Option (ℕ × ℕ) → Node
+bits_node coeff v = elim v [ Some (v, n) ↦ constant_of (whole (pos v)) coeff | None ↦ node.Atom ]
 
-abbrev read_node : Rational → Reading → BitVector → Node
+abbrev read_node : Rational → Reading → Option (ℕ × ℕ) → Node
 read_node coeff r v = elim r [
-  | Value q ↦ constant_of q coeff
-  | NotNumber ↦ bits_node coeff v
-  | OutOfRange ↦ node.OutOfRange
+  | Ok q ↦ constant_of q coeff
+  | Err NotNumber ↦ bits_node coeff v
+  | Err OutOfRange ↦ node.OutOfRange
 ]
 
 -- an operation's node, by its arm
@@ -101,14 +98,14 @@ module _ (b : Bytes) (n d : ℕ) (t : Term) (coeff : Rational) (w : Walked Monom
       (λ r. act b (limited n) d t coeff (constant_node r) w) (λ q. refl) refl
 
   bits-walk :
-      (v : BitVector) →
+      (v : Option (ℕ × ℕ)) →
       elim v [
-        | Bits v k ↦ times (limited n) (whole (pos v)) coeff >>= λ r. add_constant (limited n) r w
-        | NotBitvector ↦ add_entry monomials (limited n) (t ∷ []) coeff w
+        | Some (v, k) ↦ times (limited n) (whole (pos v)) coeff >>= λ r. add_constant (limited n) r w
+        | None ↦ add_entry monomials (limited n) (t ∷ []) coeff w
       ]
       ≡ act b (limited n) d t coeff (bits_node coeff v) w
-  bits-walk (Bits v k) = constant-walk (whole (pos v))
-  bits-walk NotBitvector = refl
+  bits-walk (Some (v, k)) = constant-walk (whole (pos v))
+  bits-walk None = refl
 
   leaf-walk : add_leaf (limited n) t coeff w ≡ act b (limited n) d t coeff (leaf_node t coeff) w
   unfolding add_leaf leaf_node fraction_of ◌>>=◌
@@ -117,16 +114,16 @@ module _ (b : Bytes) (n d : ℕ) (t : Term) (coeff : Rational) (w : Walked Monom
       go :
           (r : Reading) →
           (number_or r >>= elim [
-            | some q ↦ times (limited n) q coeff >>= λ r. add_constant (limited n) r w
-            | none ↦ elim (as_bitvector t) [
-              | Bits v k ↦ times (limited n) (whole (pos v)) coeff >>= λ r. add_constant (limited n) r w
-              | NotBitvector ↦ add_entry monomials (limited n) (t ∷ []) coeff w
+            | Some q ↦ times (limited n) q coeff >>= λ r. add_constant (limited n) r w
+            | None ↦ elim (as_bitvector t) [
+              | Some (v, k) ↦ times (limited n) (whole (pos v)) coeff >>= λ r. add_constant (limited n) r w
+              | None ↦ add_entry monomials (limited n) (t ∷ []) coeff w
             ]
           ])
           ≡ act b (limited n) d t coeff (read_node coeff r (as_bitvector t)) w
-      go (Value q) = constant-walk q
-      go NotNumber = bits-walk (as_bitvector t)
-      go OutOfRange = refl
+      go (Ok q) = constant-walk q
+      go (Err NotNumber) = bits-walk (as_bitvector t)
+      go (Err OutOfRange) = refl
 
   -- the coefficient over a divisor, and the dividend a
   divided-walk :
@@ -142,8 +139,8 @@ module _ (b : Bytes) (n d : ℕ) (t : Term) (coeff : Rational) (w : Walked Monom
   quotient-walk :
       (ts : Terms) → Each (Own b) ts →
       (divisor_of (limited n) ts >>= elim [
-        | some q ↦ over (limited n) coeff q >>= λ c. add_first ts (limited n) d c w
-        | none ↦ add_leaf (limited n) t coeff w
+        | Some q ↦ over (limited n) coeff q >>= λ c. add_first ts (limited n) d c w
+        | None ↦ add_leaf (limited n) t coeff w
       ])
       ≡ act b (limited n) d t coeff (quotient_node t ts coeff) w
   unfolding divisor_of fraction_of ◌>>=◌ add_term
@@ -153,9 +150,9 @@ module _ (b : Bytes) (n d : ℕ) (t : Term) (coeff : Rational) (w : Walked Monom
     where
       at_divisor :
           (q : Rational) (z : Bool) →
-          elim (elim z as (λ u. Option Rational) [ true ↦ none | false ↦ some q ]) [
-            | some q ↦ over (limited n) coeff q >>= λ c. add_term a (limited n) d c w
-            | none ↦ add_leaf (limited n) t coeff w
+          elim (elim z as (λ u. Option Rational) [ true ↦ None | false ↦ Some q ]) [
+            | Some q ↦ over (limited n) coeff q >>= λ c. add_term a (limited n) d c w
+            | None ↦ add_leaf (limited n) t coeff w
           ]
           ≡ act b (limited n) d t coeff
           (elim z [ true ↦ leaf_node t coeff | false ↦ divided_node (record_number a) (checked (div_q coeff q)) ]) w
@@ -164,14 +161,14 @@ module _ (b : Bytes) (n d : ℕ) (t : Term) (coeff : Rational) (w : Walked Monom
 
       go :
           (r : Reading) →
-          ((number_or r >>= λ q. ok (nonzero q)) >>= elim [
-            | some q ↦ over (limited n) coeff q >>= λ c. add_term a (limited n) d c w
-            | none ↦ add_leaf (limited n) t coeff w
+          ((number_or r >>= λ q. Ok (nonzero q)) >>= elim [
+            | Some q ↦ over (limited n) coeff q >>= λ c. add_term a (limited n) d c w
+            | None ↦ add_leaf (limited n) t coeff w
           ])
           ≡ act b (limited n) d t coeff (divisor_node t a r coeff) w
-      go (Value q) = at_divisor q (is_zero q)
-      go NotNumber = leaf-walk
-      go OutOfRange = refl
+      go (Ok q) = at_divisor q (is_zero q)
+      go (Err NotNumber) = leaf-walk
+      go (Err OutOfRange) = refl
 
 -- ---- the walk
 
@@ -199,8 +196,8 @@ module _ (b : Bytes) (n d : ℕ) (coeff : Rational) (w : Walked Monomial) where
               c ← times (limited n) coeff r.sum.constant
               add_constant (limited n) c (walked (combination m w.sum.constant) r.visits))
             | quotient ↦ divisor_of (limited n) ts >>= elim [
-              | some q ↦ over (limited n) coeff q >>= λ c. add_first ts (limited n) d c w
-              | none ↦ add_leaf (limited n) (op i o ts) coeff w
+              | Some q ↦ over (limited n) coeff q >>= λ c. add_first ts (limited n) d c w
+              | None ↦ add_leaf (limited n) (op i o ts) coeff w
             ]
             | leaf ↦ add_leaf (limited n) (op i o ts) coeff w
           ]
@@ -237,18 +234,18 @@ module _ (i : ℕ) (coeff : Rational) where
   constant-lower q = go (checked (mul_q q coeff))
     where
       go : (r : Checked) → DividendBelow i (constant_node r)
-      go (checked.Value q) = tt
-      go checked.OutOfRange = tt
+      go (Some q) = tt
+      go None = tt
 
   leaf-lower : (t : Term) → DividendBelow i (leaf_node t coeff)
   unfolding leaf_node
   leaf-lower t = go (as_fraction ranged t) (as_bitvector t)
     where
-      go : (r : Reading) (v : BitVector) → DividendBelow i (read_node coeff r v)
-      go (Value q) v = constant-lower q
-      go NotNumber (Bits v n) = constant-lower (whole (pos v))
-      go NotNumber NotBitvector = tt
-      go OutOfRange v = tt
+      go : (r : Reading) (v : Option (ℕ × ℕ)) → DividendBelow i (read_node coeff r v)
+      go (Ok q) v = constant-lower q
+      go (Err NotNumber) (Some (v, n)) = constant-lower (whole (pos v))
+      go (Err NotNumber) None = tt
+      go (Err OutOfRange) v = tt
 
   quotient-lower : (t : Term) (ts : Terms) → Below i ts → DividendBelow i (quotient_node t ts coeff)
   quotient-lower t nil h = leaf-lower t
@@ -256,8 +253,8 @@ module _ (i : ℕ) (coeff : Rational) where
   quotient-lower t (a ▹ c ▹ ts) h = go (as_fraction ranged c)
     where
       at_answer : (r : Checked) → DividendBelow i (divided_node (record_number a) r)
-      at_answer (checked.Value c) = h.0
-      at_answer checked.OutOfRange = tt
+      at_answer (Some c) = h.0
+      at_answer None = tt
 
       at_divisor :
           (q : Rational) (z : Bool) →
@@ -267,9 +264,9 @@ module _ (i : ℕ) (coeff : Rational) where
       at_divisor q false = at_answer (checked (div_q coeff q))
 
       go : (r : Reading) → DividendBelow i (divisor_node t a r coeff)
-      go (Value q) = at_divisor q (is_zero q)
-      go NotNumber = leaf-lower t
-      go OutOfRange = tt
+      go (Ok q) = at_divisor q (is_zero q)
+      go (Err NotNumber) = leaf-lower t
+      go (Err OutOfRange) = tt
 
   node-lower : (t : Term) → Below i (arguments_of t) → DividendBelow i (node_of t coeff)
   unfolding node_of as_op operation_node

@@ -13,11 +13,9 @@ use Rattle.numbers.specs.Rational.{Rational, Gives, add_q, mul_q, checked}
 use Rattle.numbers.specs.Bytes.{Bytes}
 use Rattle.terms.specs.Term.{Term, record_number}
 use Rattle.terms.specs.Book.{count, tree}
-use Rattle.numbers.specs.declared.number.Checked.{Checked}
-use Rattle.numbers.specs.declared.number.Checked.TheVariants as checked
 use Rattle.terms.proofs.NumberedNodes.{record_number-tree}
 use Rattle.rules.specs.Refusal.{Refusal, Result, ◌>>=◌, number}
-use Rattle.rules.specs.Refusal.Outcome.{ok, refused}
+use Rattle.std.specs.Prelude.{Ok, Err}
 use Rattle.rules.specs.Refusal.Refusal.{number_range}
 use Rattle.rules.specs.Limits.{limited, plus, times}
 use Rattle.index_map.specs.IndexMap.{Map, Walked, walked, combination, insert, add_entry, add_constant}
@@ -33,19 +31,21 @@ use Rattle.index_map.proofs.CheckedNumbers.{plus-value, plus_out, times-value, t
 use Rattle.polynomial.proofs.StackAreas.{stack-less}
 use Rattle.rules.proofs.Results.{refuses, refused-then}
 use Rattle.polynomial.proofs.ProductEntries.{ClearSays, AllScaledSays}
+use Rattle.numbers.specs.Rational.{Checked}
+use Rattle.std.specs.Prelude.{None, Some}
 
 -- ---- the answers
 
 -- a refusal is the whole walk's, where that begins with what was refused
 pub refuses-same :
     {A : Type 0} {b w : Bytes} → Stacked b w ([] ∷ []) → {c : ℕ} {d : Result A} (r : Refuses c d) →
-    (e : Result (Walked Monomial)) → e ≡ refused r.reason → Walks b w (Refused c) e
+    (e : Result (Walked Monomial)) → e ≡ Err r.reason → Walks b w (Refused c) e
 refuses-same t r e is =
     record { map = []; held = t; is = (record { reason = r.reason; is = is; code = r.code }, refl) }
 
 -- the definition refuses with document 01's number
 pub refuses-empty :
-    {b w : Bytes} → Stacked b w ([] ∷ []) → (r : Refusal) (d : Result (Walked Monomial)) → d ≡ refused r →
+    {b w : Bytes} → Stacked b w ([] ∷ []) → (r : Refusal) (d : Result (Walked Monomial)) → d ≡ Err r →
     Walks b w (Refused (number r)) d
 refuses-empty t r d e = record { map = []; held = t; is = (refuses r e, refl) }
 
@@ -59,7 +59,7 @@ refused_by {b} {w} {d} e f = subst (λ z. Walks b w (Refused z) d) (sym e) f
 module _
     {b w : Bytes} {ms : List (Map Monomial)} {j : ℕ} {r : Inserted} {d : Result (Map Monomial)}
     (enters : InsertsAt b w ms j r d) where
-  entered_all : {n : ℕ} → r ≡ inserted.Length n → (d ≡ ok enters.map) × (n ≡ length enters.map)
+  entered_all : {n : ℕ} → r ≡ inserted.Length n → (d ≡ Ok enters.map) × (n ≡ length enters.map)
   entered_all e = rw e at enters.is
 
   entered_none : {c : ℕ} → r ≡ inserted.Refused c → Refuses c d × (enters.map ≡ [])
@@ -71,20 +71,20 @@ module _ {s : Poly} {m : Map Monomial} (has : PolyHas s m) (l v : ℕ) where
   -- a is what the code finds for the sum of the constants
   module _ (q : Rational) {a : Checked} (gives : Gives a (checked (add_q s.constant q))) {b w : Bytes} where
     pub constant_out :
-        a ≡ checked.OutOfRange → Stacked b w ([] ∷ []) →
+        a ≡ None → Stacked b w ([] ∷ []) →
         Walks b w (Refused 11) (add_constant (limited l) q (walked (poly_with s m) v))
     unfolding add_constant ◌>>=◌
     constant_out out t =
-        let no : plus (limited l) s.constant q ≡ refused number_range = plus_out l _ _ (sym gives.is ∙ out) in
+        let no : plus (limited l) s.constant q ≡ Err number_range = plus_out l _ _ (sym gives.is ∙ out) in
         refuses-empty t number_range _ (rw no)
 
     pub constant-added :
-        {c : Rational} → a ≡ checked.Value c → Stacked b w (m ∷ []) →
+        {c : Rational} → a ≡ Some c → Stacked b w (m ∷ []) →
         Walks b w (Done (record { len = s.len; constant = c }) v)
         (add_constant (limited l) q (walked (poly_with s m) v))
     unfolding add_constant ◌>>=◌
     constant-added {c} value t =
-        let sum : plus (limited l) s.constant q ≡ ok c = plus-value l _ _ c (sym gives.is ∙ value) in
+        let sum : plus (limited l) s.constant q ≡ Ok c = plus-value l _ _ c (sym gives.is ∙ value) in
         record {
           map = m;
           held = t;
@@ -158,23 +158,23 @@ module _
 
   -- a is what the code finds for the product of the constant
   module _ {k : ℕ} (e : r ≡ inserted.Length k) {a : Checked} (gives : Gives a (checked (mul_q coeff p.constant))) where
-    entries : insert_scaled (limited l) n coeff m ≡ ok enters.map
+    entries : insert_scaled (limited l) n coeff m ≡ Ok enters.map
     entries = (entered_all enters e).0
 
     long : k ≡ length enters.map
     long = (entered_all enters e).1
 
     pub scaled-outside :
-        a ≡ checked.OutOfRange → {w''' : Bytes} → ClearSays w'' 0 k w''' →
+        a ≡ None → {w''' : Bytes} → ClearSays w'' 0 k w''' →
         Walks b w''' (Refused 11) (add_scaled (limited l) coeff (poly_with p n) (walked (poly_with s m) v))
     unfolding add_scaled ◌>>=◌
     scaled-outside out clears =
-        let no : times (limited l) coeff p.constant ≡ refused number_range =
+        let no : times (limited l) coeff p.constant ≡ Err number_range =
         times_out l _ _ (sym gives.is ∙ out) in
         refuses-empty (clears b (enters.map ∷ []) lowest (omega arith) long) number_range _ (rw (entries, no))
 
     -- what is left is to add it to the constant of the sum
-    module _ {c : Rational} (value : a ≡ checked.Value c) where
+    module _ {c : Rational} (value : a ≡ Some c) where
       pub scaled-added :
           {w''' : Bytes} {f : Walk} →
           ((b : Bytes) (m : Map Monomial) → Stacked b w'' (m ∷ []) →
@@ -183,5 +183,5 @@ module _
           Walks b w''' f (add_scaled (limited l) coeff (poly_with p n) (walked (poly_with s m) v))
       unfolding add_scaled ◌>>=◌
       scaled-added adds =
-          let product : times (limited l) coeff p.constant ≡ ok c = times-value l _ _ c (sym gives.is ∙ value) in
+          let product : times (limited l) coeff p.constant ≡ Ok c = times-value l _ _ c (sym gives.is ∙ value) in
           rw (entries, product) (adds b enters.map lowest (record { size = long; proper = has.proper }) l)

@@ -10,7 +10,7 @@ ghost use Rattle.polynomial.specs.Polynomial.{Monomial, monomials};
 ghost use Rattle.polynomial.specs.Memory.PolynomialArea.{places, StackHas, Stacked, PolyHas, poly_with, Walks};
 ghost use Rattle.polynomial.specs.Memory.PolynomialArea.{add_scaled};
 
-use numbers::number::{Checked, Number};
+use numbers::number::Number;
 use polynomial::monomials::{Inserted, inserted_refusal, put_atom};
 use polynomial::polynomial::{Polynomial, Walk, clear_at, insert_at, insert_scaled};
 use terms::areas::MONOMIAL_BYTES;
@@ -24,7 +24,7 @@ pub(crate) fn add_constant(stack: &mut [u8], s: Polynomial, visits: u32, q: Numb
 {
     let n = s.len;
     let c = s.constant;
-    let Checked::Value(constant) = c.add(q) else {
+    let Some(constant) = c.add(q) else {
         clear_at(stack, 0, n);
         return Walk::Refused(NUMBER_RANGE);
     };
@@ -79,7 +79,7 @@ pub(crate) fn add_scaled(
     let Inserted::Length(len) = answer else {
         return Walk::Refused(inserted_refusal(answer));
     };
-    let Checked::Value(scaled) = coeff.mul(d) else {
+    let Some(scaled) = coeff.mul(d) else {
         clear_at(stack, 0, len);
         return Walk::Refused(NUMBER_RANGE);
     };

@@ -14,7 +14,7 @@ ghost use Rattle.polynomial_walk.specs.Memory.PolynomialNodes.{add_each, add_pro
 ghost use Rattle.polynomial_walk.specs.Memory.PolynomialNodes.{FactorsPre, OthersPre, TermWalks};
 
 use crate::additions::{add_atom, add_constant, add_scaled};
-use numbers::number::{Checked, Number};
+use numbers::number::Number;
 use polynomial::polynomial::{
     Combined, Polynomial, Walk, clear_at, combined_refusal, mul, walk_refusal,
 };
@@ -22,7 +22,7 @@ use terms::areas::{MAX_DEPTH, POLYNOMIAL_BYTES};
 use terms::operator::{ADD, BV_ADD, BV_MUL, BV_NEG, BV_SUB, MULT, REAL_DIV, SUB, TO_REAL};
 use terms::records::argument;
 use terms::refusal::{NUMBER_RANGE, POLYNOMIAL_SIZE, VISIT_LIMIT};
-use terms::term::{BitVector, Reading, args, as_bitvector, as_fraction, operator};
+use terms::term::{NotRead, args, as_bitvector, as_fraction, operator};
 
 // What a walk does at a term.
 #[derive(Clone, Copy)]
@@ -47,7 +47,7 @@ fn constant(q: Number, coeff: Number) -> Node
     requires { Proper q × Proper coeff }
     ensures { NodeIs result (constant_of q coeff) }
 {
-    let Checked::Value(c) = q.mul(coeff) else {
+    let Some(c) = q.mul(coeff) else {
         return Node::OutOfRange;
     };
     Node::Constant(c)
@@ -59,11 +59,11 @@ fn leaf(book: &[u8], id: usize, coeff: Number) -> Node
     ensures { NodeIs result (leaf_node (tree book.now id) coeff) }
 {
     match as_fraction(book, id) {
-        Reading::Value(q) => constant(q, coeff),
-        Reading::OutOfRange => Node::OutOfRange,
-        Reading::NotNumber => match as_bitvector(book, id) {
-            BitVector::Bits(v, _) => constant(Number::whole(v as i64), coeff),
-            BitVector::NotBitvector => Node::Atom,
+        Ok(q) => constant(q, coeff),
+        Err(NotRead::OutOfRange) => Node::OutOfRange,
+        Err(NotRead::NotNumber) => match as_bitvector(book, id) {
+            Some((v, _)) => constant(Number::whole(v as i64), coeff),
+            None => Node::Atom,
         },
     }
 }
@@ -78,13 +78,13 @@ fn quotient(book: &[u8], id: usize, coeff: Number) -> Node
         return leaf(book, id, coeff);
     }
     match as_fraction(book, argument(sides, 1, id)) {
-        Reading::OutOfRange => Node::OutOfRange,
-        Reading::NotNumber => leaf(book, id, coeff),
-        Reading::Value(q) => {
+        Err(NotRead::OutOfRange) => Node::OutOfRange,
+        Err(NotRead::NotNumber) => leaf(book, id, coeff),
+        Ok(q) => {
             if q.is_zero() {
                 return leaf(book, id, coeff);
             }
-            let Checked::Value(c) = coeff.div(q) else {
+            let Some(c) = coeff.div(q) else {
                 return Node::OutOfRange;
             };
             Node::Quotient(argument(sides, 0, id), c)
@@ -226,12 +226,10 @@ fn add_args(
         (add_each (forest (tree book.now) (arguments id (numbers args.now))) (limited limit) depth
         first others (walked (poly_with s m) visits)) }
 {
-    let n = args.len() / 2;
     let mut sum = s;
     let mut seen = visits;
     let mut coeff = first;
-    let mut k = 0;
-    while k < n {
+    for k in 0..args.len() / 2 {
         let x = argument(args, k, id);
         let walk = add_term(book, stack, x, coeff, sum, seen, limit, depth);
         let Walk::Done(t, v) = walk else {
@@ -240,7 +238,6 @@ fn add_args(
         sum = t;
         seen = v;
         coeff = others;
-        k += 1;
     }
     Walk::Done(sum, seen)
 }

@@ -8,7 +8,7 @@ use Rattle.numbers.specs.Bytes.{Bytes}
 use Rattle.terms.specs.Term.{Term}
 use Rattle.index_map.specs.Memory.StoredMaps as maps
 use Rattle.rules.specs.Refusal.{Result, ◌>>=◌}
-use Rattle.rules.specs.Refusal.Outcome.{ok, refused}
+use Rattle.std.specs.Prelude.{Ok, Err}
 use Rattle.rules.specs.Refusal.Refusal.{number_range}
 use Rattle.rules.specs.Limits.{Limits, limited}
 use Rattle.index_map.specs.IndexMap.{Map}
@@ -47,7 +47,7 @@ module _ (l : Limits) (o : ℕ) (s : LinearComb) (a : Rational) where
   all_int_lem : all_int s.entries ≡ true → strengthened l o s a ≡ strengthen l o s a
   all_int_lem e = rw (e, strengthened)
 
-  some-not : all_int s.entries ≡ false → strengthened l o s a ≡ ok (o, s)
+  some-not : all_int s.entries ≡ false → strengthened l o s a ≡ Ok (o, s)
   some-not e = rw (e, strengthened)
 
 module _ (o : ℕ) (s : Sum) (a : Rational) (b w : Bytes) (k : Kept b w s.len) (l : ℕ) where
@@ -75,17 +75,17 @@ module _ (o : ℕ) (s : Sum) (a : Rational) (b w : Bytes) (k : Kept b w s.len) (
 
 pub stronger-has :
     {m : Map Term} {r : Strengthened} {d : Result (ℕ × LinearComb)} {p : ℕ} {t : Sum} → StrengthenedIs m r d →
-    r ≡ stronger.Is p t → (d ≡ ok (p, comb_with t m)) × SumHas t m
+    r ≡ stronger.Is p t → (d ≡ Ok (p, comb_with t m)) × SumHas t m
 stronger-has {m} {d = d} h e = subst (λ z. StrengthenedIs m z d) e h
 
 module _ (l : Limits) (o : ℕ) (s : LinearComb) (a : Rational) where
-  scaled_out : strengthened l o s a ≡ refused number_range → scaled_of l o s a ≡ refused number_range
+  scaled_out : strengthened l o s a ≡ Err number_range → scaled_of l o s a ≡ Err number_range
   unfolding scaled_of ◌>>=◌
   scaled_out e = rw e
 
   scaled-then :
-      {p : ℕ} {t : LinearComb} → strengthened l o s a ≡ ok (p, t) →
-      scaled_of l o s a ≡ (mul l t (scalar p a) >>= λ u. ok (weakened p a, u))
+      {p : ℕ} {t : LinearComb} → strengthened l o s a ≡ Ok (p, t) →
+      scaled_of l o s a ≡ (mul l t (scalar p a) >>= λ u. Ok (weakened p a, u))
   unfolding scaled_of ◌>>=◌
   scaled-then e = rw e
 
@@ -98,7 +98,7 @@ module _ (b w : Bytes) (l o : ℕ) (s : Sum) (a : Rational) (k : KeptSum b (area
 
   refusal :
       {r : Strengthened} → r ≡ stronger.OutOfRange → StrengthenedIs k.kept.map r Before →
-      Before ≡ refused number_range
+      Before ≡ Err number_range
   refusal e h = subst (λ z. StrengthenedIs k.kept.map z Before) e h
 
   -- the strengthening is refused
@@ -115,7 +115,7 @@ module _ (b w : Bytes) (l o : ℕ) (s : Sum) (a : Rational) (k : KeptSum b (area
 
   module _
       {w' : Bytes} {p : ℕ} {t : Sum} {q : Rational} {r : Combined}
-      (h : (Before ≡ ok (p, comb_with t k.kept.map)) × SumHas t k.kept.map) (is-scalar : q ≡ scalar p a)
+      (h : (Before ≡ Ok (p, comb_with t k.kept.map)) × SumHas t k.kept.map) (is-scalar : q ≡ scalar p a)
       (only : OnlyArea 1 w w')
       (sums : KeptSum b (area_of 1 w) t → Combines b (area_of 1 w') r (mul (limited l) (comb_of b (area_of 1 w) t) q)) where
     abbrev Product : Result LinearComb
@@ -125,7 +125,7 @@ module _ (b w : Bytes) (l o : ℕ) (s : Sum) (a : Rational) (k : KeptSum b (area
     multiplied =
         rw (← sum_comb k.kept.held h.1, ← is-scalar) (sums (kept-sum k.kept.held h.1))
 
-    then : After ≡ (Product >>= λ u. ok (weakened p a, u))
+    then : After ≡ (Product >>= λ u. Ok (weakened p a, u))
     then = scaled-then (limited l) o (comb_of b (area_of 1 w) s) a h.0
 
     pub unscaled : r ≡ combined.OutOfRange → ScaledLeft b w w' stronger.OutOfRange After

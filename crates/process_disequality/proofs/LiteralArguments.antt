@@ -2,16 +2,14 @@
 use mathlib.Core.Path.{◌≡◌, refl, sym, ap, subst, ◌∙◌}
 use mathlib.Core.Bool.{true, false}
 use mathlib.Core.List.{[], ◌∷◌}
-use mathlib.Core.Option.{Option, some, none}
+use Rattle.std.specs.Prelude.{Option, Some, None}
 use Prim.Native.Nat.{ℕ, zero, suc}
 use Rattle.numbers.specs.Rational.{Rational, Proper, Makes, div_q, neg_q, is_zero, checked}
 use Rattle.numbers.specs.Bytes.{Bytes, le, number_at}
 use Rattle.terms.specs.Term.{Term}
 use Rattle.terms.specs.Book.{tree}
-use Rattle.numbers.specs.declared.number.Checked.{Checked}
-use Rattle.numbers.specs.declared.number.Checked.TheVariants as answer
 use Rattle.rules.specs.Refusal.{◌>>=◌, assert, or_else, number}
-use Rattle.rules.specs.Refusal.Outcome.{ok}
+use Rattle.std.specs.Prelude.{Ok}
 use Rattle.rules.specs.Refusal.Refusal.{number_range, not_unit, coeff_not_found}
 use Rattle.rules.specs.Limits.{Limits, limited, over}
 use Rattle.index_map.specs.IndexMap.{Map, get}
@@ -28,6 +26,7 @@ use Rattle.process_disequality.specs.declared.process_disequality.Inference.TheV
 use Rattle.process_disequality.specs.declared.process_disequality.Argued.TheVariants as argued
 use Rattle.rules.proofs.Results.{refuses, refused-then}
 use Rattle.index_map.proofs.CheckedNumbers.{over-value, over_out}
+use Rattle.numbers.specs.Rational.{Checked}
 
 -- ---- inferred
 
@@ -61,10 +60,10 @@ module _
 
   pub found :
       {q : Rational} → r ≡ Of q → (b : Bytes) → Kept b w n →
-      (get terms (entries_of b w n) (tree b key) ≡ some q) × Proper q
+      (get terms (entries_of b w n) (tree b key) ≡ Some q) × Proper q
   found f b k = subst (λ z. CoefficientIs z (get terms (entries_of b w n) (tree b key))) f (coefficient b k)
 
-  pub missing : r ≡ Missing → (b : Bytes) → Kept b w n → get terms (entries_of b w n) (tree b key) ≡ none
+  pub missing : r ≡ Missing → (b : Bytes) → Kept b w n → get terms (entries_of b w n) (tree b key) ≡ None
   missing f b k = subst (λ z. CoefficientIs z (get terms (entries_of b w n) (tree b key))) f (coefficient b k)
 
 module _ {w : Bytes} {m var : ℕ} {own : Rational} (a : Alone w m var own) (b : Bytes) where
@@ -79,23 +78,23 @@ module _ {w : Bytes} {m var : ℕ} {own : Rational} (a : Alone w m var own) (b :
 
     module _ (nonzero : is_zero own ≡ false) where
       pub not_found :
-          get terms acc (tree b var) ≡ none →
+          get terms acc (tree b var) ≡ None →
           Refuses (number coeff_not_found) (inferred (limited l) acc (entries_of b w m))
       unfolding inferred ◌>>=◌ assert or_else
       not_found e = rw only-entry (refuses coeff_not_found (rw (nonzero, e)))
 
       module _
-          {q q' : Rational} {r : Checked} (is : get terms acc (tree b var) ≡ some q) (neg : q' ≡ neg_q q)
+          {q q' : Rational} {r : Checked} (is : get terms acc (tree b var) ≡ Some q) (neg : q' ≡ neg_q q)
           (gives : r ≡ checked (div_q q' own)) where
         divided : inferred (limited l) acc (entries_of b w m) ≡ over (limited l) q' own
         unfolding inferred ◌>>=◌ assert or_else
         divided = rw only-entry (rw (nonzero, is, neg))
 
         pub quotient_out :
-            r ≡ answer.OutOfRange → Refuses (number number_range) (inferred (limited l) acc (entries_of b w m))
+            r ≡ None → Refuses (number number_range) (inferred (limited l) acc (entries_of b w m))
         quotient_out e = refuses number_range (divided ∙ over_out l q' own cc)
 
-        pub quotient_in : {p : Rational} → r ≡ answer.Value p → inferred (limited l) acc (entries_of b w m) ≡ ok p
+        pub quotient_in : {p : Rational} → r ≡ Some p → inferred (limited l) acc (entries_of b w m) ≡ Ok p
         quotient_in {p} e = divided ∙ over-value l q' own p cc
 
 -- ---- given or inferred
@@ -110,7 +109,7 @@ module _ (l : Limits) (acc own : Map Term) where
       (λ q. (refl, (q, tt))) p
 
   module _ {arg : Coefficient} (e : arg ≡ Missing) where
-    none_given : argument_from l acc own (given_of arg) ≡ argument_from l acc own none
+    none_given : argument_from l acc own (given_of arg) ≡ argument_from l acc own None
     none_given = rw e
 
     module _ {r : Inference} (is : InferredIs r (inferred l acc own)) where
@@ -129,12 +128,12 @@ module _ (l : Limits) (acc own : Map Term) where
       argument-refused {n = n} f n-is =
           let refused : r ≡ inference.Refused n = f ∙ ap inference.Refused (sym (n-is ∙ ap inference_refusal f)) in
           subst (Refuses n) (sym none_given)
-          (refused-then (λ a. ok (a, a ∷ [])) (subst (λ z. InferredIs z (inferred l acc own)) refused is))
+          (refused-then (λ a. Ok (a, a ∷ [])) (subst (λ z. InferredIs z (inferred l acc own)) refused is))
 
 -- the definition's argument is that of the two maps alone, where nothing was inferred before
 pub argument_of_lem :
     (l : Limits) (o : ℕ) (acc own : LinearComb) (n : ℕ) (arg : Option Rational) →
     argument_of l (progress o acc [] n) own arg ≡ argument_from l acc.entries own.entries arg
 unfolding argument_of argument_from
-argument_of_lem l o acc own n (some a) = refl
-argument_of_lem l o acc own n none = refl
+argument_of_lem l o acc own n (Some a) = refl
+argument_of_lem l o acc own n None = refl

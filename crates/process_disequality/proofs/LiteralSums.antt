@@ -2,14 +2,14 @@
 -- `process_disequality` is the literal's disequality with these steps behind it.
 use mathlib.Core.Path.{◌≡◌, refl, sym, subst, ap, ap₂, ◌∙◌}
 use mathlib.Core.List.{List, []}
-use mathlib.Core.Option.{Option}
+use Rattle.std.specs.Prelude.{Option}
 use Prim.Native.Nat.{ℕ}
 use Rattle.numbers.specs.Rational.{Rational, Proper}
 use Rattle.numbers.specs.Bytes.{Bytes}
 use Rattle.terms.specs.Term.{Term}
 use Rattle.index_map.specs.Memory.StoredMaps as maps
 use Rattle.rules.specs.Refusal.{Result, ◌>>=◌, number}
-use Rattle.rules.specs.Refusal.Outcome.{ok}
+use Rattle.std.specs.Prelude.{Ok}
 use Rattle.rules.specs.Refusal.Refusal.{number_range}
 use Rattle.rules.specs.Limits.{Limits, limited}
 use Rattle.index_map.specs.IndexMap.{add}
@@ -48,7 +48,7 @@ use Rattle.process_disequality.proofs.LiteralAreas.{scaled-kept, emptied-after}
 module _ (l : Limits) (p : Progress) (d : Disequality) (a : Rational) (trace : List Rational) where
   abbrev sum_of_lem : ℕ × LinearComb → Result Progress
   sum_of_lem x =
-      add terms l p.acc x.1 >>= λ acc. ok (progress (join_operators p.operator x.0) acc trace d.visits)
+      add terms l p.acc x.1 >>= λ acc. Ok (progress (join_operators p.operator x.0) acc trace d.visits)
 
   scaled_in_one :
       (strengthened l d.operator d.sum a >>= λ x.
@@ -57,9 +57,9 @@ module _ (l : Limits) (p : Progress) (d : Disequality) (a : Rational) (trace : L
   unfolding scaled_of ◌>>=◌
   scaled_in_one =
       bind-same (strengthened l d.operator d.sum a)
-      (λ x. sym (bind_assoc (mul l x.1 (scalar x.0 a)) (λ s. ok (weakened x.0 a, s)) sum_of_lem))
+      (λ x. sym (bind_assoc (mul l x.1 (scalar x.0 a)) (λ s. Ok (weakened x.0 a, s)) sum_of_lem))
       ∙ sym (bind_assoc (strengthened l d.operator d.sum a)
-      (λ x. mul l x.1 (scalar x.0 a) >>= λ s. ok (weakened x.0 a, s)) sum_of_lem)
+      (λ x. mul l x.1 (scalar x.0 a) >>= λ s. Ok (weakened x.0 a, s)) sum_of_lem)
 
 -- the disequality of a literal, and the rest
 pub processed_in_two :
@@ -76,7 +76,7 @@ module _ (l : Limits) (p : Progress) (d : Disequality) (arg : Option Rational) w
   unargued r = refused-then _ r
 
   argued-then :
-      {a : Rational} {t : List Rational} → argument_of l p d.sum arg ≡ ok (a, t) →
+      {a : Rational} {t : List Rational} → argument_of l p d.sum arg ≡ Ok (a, t) →
       accumulated_of l p d arg ≡ (scaled_of l d.operator d.sum a >>= sum_of_lem l p d a t)
   unfolding accumulated_of
   argued-then e = next _ e
@@ -159,7 +159,7 @@ module _
 
       module _ {q : ℕ} {t : Sum} (scaled-is : r₁ ≡ stronger.Is q t) where
         scaled-as :
-            (Scaled ≡ ok (q, comb_with t left.map)) × SumHas t left.map
+            (Scaled ≡ Ok (q, comb_with t left.map)) × SumHas t left.map
         scaled-as = subst (λ z. ScaledIs z left.map Scaled) scaled-is left.is
 
         module _
@@ -217,7 +217,7 @@ module _
                 only = both-written apart there;
                 is = (
                   argued-as ∙ next _ scaled-as.0 ∙ next _ out.0
-                      ∙ ap (λ z. ok (progress z (comb_with u total.map) (trace_of found) d.visits)) (sym g),
+                      ∙ ap (λ z. Ok (progress z (comb_with u total.map) (trace_of found) d.visits)) (sym g),
                   (answer-has out.1, argument.1.1),
                 );
               }

@@ -8,7 +8,7 @@ use Rattle.terms.specs.Term.{Term}
 use Rattle.terms.specs.Book.{count, SortsBelow}
 use Rattle.index_map.proofs.StoredEntries.{held-length}
 use Rattle.rules.specs.Refusal.{Result, ◌>>=◌}
-use Rattle.rules.specs.Refusal.Outcome.{ok}
+use Rattle.std.specs.Prelude.{Ok}
 use Rattle.rules.specs.Limits.{limited}
 use Rattle.index_map.specs.Memory.Entries.{blanked, Held}
 use Rattle.disequality.specs.Disequality.{disequality, disequality_of}
@@ -79,7 +79,7 @@ module _
   module _ {q : literal-value.Disequality} (e : r₁ ≡ literal.Is q) where
     literal-as :
         (disequality_of (limited l) phi p.visits
-        ≡ ok (disequality q.operator (comb_with q.sum left.map) q.visits))
+        ≡ Ok (disequality q.operator (comb_with q.sum left.map) q.visits))
         × SumHas q.sum left.map
     literal-as = subst (λ z. LiteralIs z left.map (disequality_of (limited l) phi p.visits)) e left.is
 

@@ -1,13 +1,13 @@
 -- `process_disequality` of src/checker/rules/linear_arithmetic.rs, line by line in the Rust's order: one literal of a
 -- step. `negate_disequality` and `strengthen` are among the definitions of the crate `disequality`.
 use Rattle.std.specs.Prelude.{true, false, ◌&&◌, ◌||◌, not, List, [], ◌∷◌, ◌++◌, ℕ, eqb}
-use Rattle.std.proofs.Math.Option.{Option, some, none}
+use Rattle.std.specs.Prelude.{Option, Some, None}
 use Rattle.numbers.specs.Rational.{Rational, neg_q, abs_q, is_zero}
 use Rattle.terms.specs.Operator.{Equals, GreaterThan, GreaterEq}
 use Rattle.terms.specs.Term.{Term}
 use Rattle.numbers.specs.Choice.{when◌then◌else◌}
 use Rattle.rules.specs.Refusal.{Result, ◌>>=◌, assert, or_else}
-use Rattle.rules.specs.Refusal.Outcome.{ok, refused}
+use Rattle.std.specs.Prelude.{Ok, Err}
 use Rattle.rules.specs.Refusal.Refusal.{not_unit, coeff_not_found}
 use Rattle.rules.specs.Limits.{Limits, over}
 use Rattle.index_map.specs.IndexMap.{Map, get, add}
@@ -28,22 +28,22 @@ progress o s t n = record { operator = o; acc = s; trace = t; visits = n }
 -- minus the sum's coefficient of the literal's only atom, divided by the literal's own; where the Rust would divide by
 -- zero, it is refused as a literal with no atom or several is
 unfoldable pub inferred : Limits → Map Term → Map Term → Result Rational
-inferred l acc [] = refused not_unit
+inferred l acc [] = Err not_unit
 inferred l acc ((var, coeff1) ∷ []) = do
   _ ← assert (not (is_zero coeff1)) not_unit
   coeff2 ← or_else (get terms acc var) coeff_not_found
   over l (neg_q coeff2) coeff1
-inferred l acc (e ∷ f ∷ m) = refused not_unit
+inferred l acc (e ∷ f ∷ m) = Err not_unit
 
 -- the argument, and the trace with it where it is inferred
 unfoldable pub argument_of : Limits → Progress → LinearComb → Option Rational → Result (Rational × List Rational)
-argument_of l p s (some a) = ok (a, p.trace)
-argument_of l p s none = do
+argument_of l p s (Some a) = Ok (a, p.trace)
+argument_of l p s None = do
   a ← inferred l p.acc.entries s.entries
-  ok (a, p.trace ++ a ∷ [])
+  Ok (a, p.trace ++ a ∷ [])
 
 abbrev pub strengthened : Limits → ℕ → LinearComb → Rational → Result (ℕ × LinearComb)
-strengthened l o s a = elim (all_int s.entries) [ true ↦ strengthen l o s a | false ↦ ok (o, s) ]
+strengthened l o s a = elim (all_int s.entries) [ true ↦ strengthen l o s a | false ↦ Ok (o, s) ]
 
 -- the stronger of two operators
 abbrev pub join_operators : ℕ → ℕ → ℕ
@@ -66,4 +66,4 @@ process_disequality l p phi arg = do
   (o, s) ← strengthened l d.operator d.sum a
   scaled ← mul l s (scalar o a)
   acc ← add terms l p.acc scaled
-  ok (progress (join_operators p.operator (weakened o a)) acc trace d.visits)
+  Ok (progress (join_operators p.operator (weakened o a)) acc trace d.visits)

@@ -24,7 +24,7 @@ use disequality::disequality::{
 };
 use index_map::index_map::{Coefficient, get, key_at, value_at};
 use linear_comb::linear_comb::{Combined, LinearComb};
-use numbers::number::{Checked, Number};
+use numbers::number::Number;
 use terms::operator::{EQUALS, GREATER_EQ, GREATER_THAN};
 use terms::refusal::{COEFF_NOT_FOUND, NOT_UNIT, NUMBER_RANGE};
 use work_area::work_area::{ACCUMULATED, LEFT, add, all_int, area, clear_in, mul_in};
@@ -90,7 +90,7 @@ fn inferred(work: &[u8], n: usize, m: usize) -> Inference
     let Coefficient::Of(coeff) = get(area(work, ACCUMULATED), n, var) else {
         return Inference::Refused(COEFF_NOT_FOUND);
     };
-    let Checked::Value(q) = coeff.neg().div(own) else {
+    let Some(q) = coeff.neg().div(own) else {
         return Inference::Refused(NUMBER_RANGE);
     };
     Inference::Of(q)
@@ -159,29 +159,24 @@ fn scalar(o: u8, a: Number) -> Number
 fn weakened(o: u8, a: Number) -> u8
     ensures { result ≡ weakened o a }
 {
-    if o == GREATER_THAN {
-        if a.is_zero() {
-            return GREATER_EQ;
-        }
+    if o == GREATER_THAN && a.is_zero() {
+        GREATER_EQ
+    } else {
+        o
     }
-    o
 }
 
 // The stronger of two operators.
 fn join_operators(o: u8, p: u8) -> u8
     ensures { result ≡ join_operators o p }
 {
-    match o {
-        GREATER_THAN => GREATER_THAN,
-        GREATER_EQ => match p {
-            GREATER_THAN => GREATER_THAN,
-            _ => GREATER_EQ,
-        },
-        _ => match p {
-            GREATER_THAN => GREATER_THAN,
-            GREATER_EQ => GREATER_EQ,
-            _ => EQUALS,
-        },
+    if o == GREATER_THAN || p == GREATER_THAN {
+        return GREATER_THAN;
+    }
+    if o == GREATER_EQ || p == GREATER_EQ {
+        GREATER_EQ
+    } else {
+        EQUALS
     }
 }
 
@@ -193,8 +188,7 @@ fn strengthened(work: &[u8], o: u8, s: LinearComb, a: Number) -> Strengthened
         StrengthenedIs k.map result
         (strengthened (limited l) o (comb_of b (area_of left_side work.now) s) a) }
 {
-    let n = s.len;
-    if all_int(work, LEFT, n) {
+    if all_int(work, LEFT, s.len) {
         return strengthen(area(work, LEFT), o, s, a);
     }
     Strengthened::Is(o, s)
@@ -209,9 +203,8 @@ fn scaled(work: &mut [u8], o: u8, s: LinearComb, a: Number) -> Strengthened
         ScaledLeft b work.old work.new result
         (scaled_of (limited l) o (comb_of b (area_of left_side work.old) s) a) }
 {
-    let n = s.len;
     let Strengthened::Is(p, t) = strengthened(work, o, s, a) else {
-        clear_in(work, LEFT, n);
+        clear_in(work, LEFT, s.len);
         return Strengthened::OutOfRange;
     };
     let Combined::Is(u) = mul_in(work, LEFT, t, scalar(p, a)) else {
@@ -245,29 +238,23 @@ fn accumulate(work: &mut [u8], p: Progress, d: Disequality, arg: Coefficient) ->
         (disequality d.operator (comb_of b (area_of left_side work.old) d.sum) d.visits)
         (given_of arg)) }
 {
-    let operator = p.operator;
-    let acc = p.acc;
-    let n = acc.len;
-    let o = d.operator;
-    let s = d.sum;
-    let m = s.len;
-    let visits = d.visits;
+    let n = p.acc.len;
+    let m = d.sum.len;
     let argued = argument_of(work, n, m, arg);
     let Argued::Is(a, found) = argued else {
         return refuse(work, n, m, argued_refusal(argued));
     };
-    let Strengthened::Is(q, t) = scaled(work, o, s, a) else {
+    let Strengthened::Is(q, t) = scaled(work, d.operator, d.sum, a) else {
         return refuse(work, n, 0, NUMBER_RANGE);
     };
-    let k = t.len;
-    let Combined::Is(sum) = add(work, ACCUMULATED, acc, LEFT, t) else {
-        return refuse(work, 0, k, NUMBER_RANGE);
+    let Combined::Is(sum) = add(work, ACCUMULATED, p.acc, LEFT, t) else {
+        return refuse(work, 0, t.len, NUMBER_RANGE);
     };
-    clear_in(work, LEFT, k);
+    clear_in(work, LEFT, t.len);
     let next = Progress {
-        operator: join_operators(operator, q),
+        operator: join_operators(p.operator, q),
         acc: sum,
-        visits,
+        visits: d.visits,
     };
     Processed::Accumulated(next, found)
 }
@@ -287,12 +274,9 @@ pub fn process_disequality(
         (process_disequality (limited limit) (progress_of book.now work.old p)
         (tree book.now phi) (given_of arg)) }
 {
-    let acc = p.acc;
-    let n = acc.len;
-    let visits = p.visits;
-    let literal = disequality_of(book, work, phi, visits, limit);
+    let literal = disequality_of(book, work, phi, p.visits, limit);
     let Literal::Is(d) = literal else {
-        return refuse(work, n, 0, literal_refusal(literal));
+        return refuse(work, p.acc.len, 0, literal_refusal(literal));
     };
     accumulate(work, p, d, arg)
 }

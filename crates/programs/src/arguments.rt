@@ -1,8 +1,7 @@
 // The words of the command line: as they were given, as numbers and as paths.
-ghost use Rattle.std.specs.Prelude.{◌≤◌};
-ghost use Rattle.std.specs.Counts.{IsPrefixLen};
+ghost use Rattle.std.specs.Prelude.{◌≤◌, ◌<◌, length, IfSome, IfOk};
 
-use crate::printing::{Complaints, complain, print};
+use crate::printing::{Complained, Complaints, complain, print};
 use std::env::FillError;
 use std::io;
 use std::rt::Env;
@@ -12,78 +11,75 @@ pub const MAX_WORD: usize = 4096;
 
 // How many arguments there are, the program's own name among them.
 pub fn arg_count(rt: &impl Env) -> usize {
-    for i in 0..usize::MAX {
-        if let Err(FillError::NotPresent) = rt.arg(i, &mut []) {
-            return i;
-        }
-    }
-    usize::MAX
+    (0..usize::MAX)
+        .find(|i| matches!(rt.arg(*i, &mut []), Err(FillError::NotPresent)))
+        .unwrap_or(usize::MAX)
 }
 
-// Puts argument i at the start of a buffer and answers its length; 0 where it is missing or too long.
-pub fn read_word(rt: &impl Env, i: usize, text: &mut [u8]) -> usize
-    ensures { IsPrefixLen result text.new }
+// Argument i, at the start of a buffer; none where it is missing or longer than the buffer.
+pub fn read_word<'a>(rt: &impl Env, i: usize, text: &'a mut [u8]) -> Option<&'a [u8]>
+    ensures { IfSome result (λ word. length word.now ≤ length text.old) }
 {
-    rt.arg(i, text).unwrap_or(0)
+    let n = rt.arg(i, text).ok()?;
+    Some(&text[..n])
 }
 
 // Argument i as it was given, and the end of the line.
-pub fn complain_word<R: Env + Complaints>(rt: &R, i: usize) {
+pub fn complain_word<R: Env + Complaints>(rt: &R, i: usize) -> Complained {
     let mut text = [0u8; MAX_WORD];
-    let n = read_word(rt, i, &mut text);
-    complain(rt, &text[..n]);
-    complain(rt, b"\n");
+    if let Some(word) = read_word(rt, i, &mut text) {
+        complain(rt, word);
+    }
+    complain(rt, b"\n")
 }
 
 // Argument i as it was given.
 pub fn print_word<R: Env + Print>(rt: &R, i: usize) -> io::Result<()> {
     let mut text = [0u8; MAX_WORD];
-    let n = read_word(rt, i, &mut text);
-    print(rt, &text[..n])
+    match read_word(rt, i, &mut text) {
+        Some(word) => print(rt, word),
+        None => Ok(()),
+    }
 }
 
 // ---- numbers
 
-// A decimal number of at most `most`; 0 where the text is no such number.
-fn decimal(text: &[u8], most: u32) -> u32
-    ensures { result ≤ most }
-{
-    let mut value: u64 = 0;
+// A decimal number below 2^32. `parse` would take a sign too.
+fn decimal(text: &[u8]) -> Option<u32> {
+    let mut value = 0u32;
     for d in text {
-        if !d.is_ascii_digit() {
-            return 0;
-        }
-        value = 10 * value + (d - b'0') as u64;
-        if (most as u64) < value {
-            return 0;
-        }
+        let digit = char::from(*d).to_digit(10)?;
+        value = value.checked_mul(10)?.checked_add(digit)?;
     }
-    value as u32
+    Some(value)
 }
 
-// The number from 1 to `most` that argument i is; 0 where it is none.
-pub fn number_at(rt: &impl Env, i: usize, most: u32) -> u32
-    ensures { result ≤ most }
+// The number from 1 to `most` that argument i is.
+pub fn number_at(rt: &impl Env, i: usize, most: u32) -> Option<u32>
+    ensures { IfSome result (λ n. (1 ≤ n) × (n ≤ most)) }
 {
     let mut text = [0u8; MAX_WORD];
-    let n = read_word(rt, i, &mut text);
-    decimal(&text[..n], most)
+    let n = decimal(read_word(rt, i, &mut text)?)?;
+    if 1 <= n && n <= most { Some(n) } else { None }
 }
 
 // ---- paths
 
-// Puts argument i, the path of `what`, at the start of a buffer and answers its length; 0, after a complaint, where it
-// is missing, empty or too long.
-pub fn path_of<R: Env + Complaints>(rt: &R, i: usize, what: &[u8], path: &mut [u8]) -> usize
-    ensures { IsPrefixLen result path.new }
+// Argument i, the path of `what`, at the start of a buffer; a complaint where it is missing, empty or too long.
+pub fn path_of<'a, R: Env + Complaints>(
+    rt: &R,
+    i: usize,
+    what: &[u8],
+    path: &'a mut [u8],
+) -> Result<&'a [u8], Complained>
+    ensures { IfOk result (λ p. (0 < length p.now) × (length p.now ≤ length path.old)) }
 {
     let wrong: &[u8] = match rt.arg(i, path) {
         Ok(0) => b": the name is empty\n",
-        Ok(n) => return n,
+        Ok(n) => return Ok(&path[..n]),
         Err(FillError::TooLong) => b": File name too long\n",
         Err(FillError::NotPresent) => b": Invalid argument\n",
     };
     complain(rt, what);
-    complain(rt, wrong);
-    0
+    Err(complain(rt, wrong))
 }

@@ -1,15 +1,16 @@
 // The file `cases` that a replay reads: opened, read piece by piece, and what a case comes to.
-ghost use Rattle.std.specs.Prelude.{◌≡◌, ◌<◌, ◌≤◌, length, take, IfOk, IsTrue};
-ghost use Rattle.programs.specs.Cases.{judged, piece_of};
+ghost use Rattle.std.specs.Prelude.{◌≡◌, ◌≤◌, ◌<◌, length, take, IfOk, IfSome};
+ghost use Rattle.programs.specs.Cases.{judged};
+ghost use Rattle.programs.specs.declared.cases.Outcome.TheVariants.{End};
 
 use crate::files::read_file;
-use crate::printing::{Complaints, fail, print, print_number};
-use numbers::bytes::{byte, wide};
+use crate::printing::{Complained, Complaints, fail, print};
 use std::fs::File;
 use std::io;
 use std::io::Read;
 use std::rt::Files;
 
+// What a case comes to. An `Option<bool>` would name none of the three.
 #[derive(Clone, Copy)]
 pub enum Outcome {
     Agrees,
@@ -18,87 +19,97 @@ pub enum Outcome {
     End,
 }
 
-pub fn judge(agrees: bool) -> Outcome
-    ensures { result ≡ judged agrees }
-{
-    if agrees {
-        Outcome::Agrees
-    } else {
-        Outcome::Differs
+impl From<bool> for Outcome {
+    ghost from_gives = { λ agrees outcome. outcome ≡ judged agrees };
+
+    fn from(agrees: bool) -> Outcome {
+        if agrees {
+            Outcome::Agrees
+        } else {
+            Outcome::Differs
+        }
     }
 }
 
 // The file ends within a case, or a case is too long.
-pub fn broken(rt: &impl Print) -> io::Result<Outcome> {
+pub fn broken(rt: &impl Print) -> io::Result<Outcome>
+    ensures { IfOk result (λ outcome. outcome ≡ End) }
+{
     print(rt, b"the file of cases is broken\n")?;
     Ok(Outcome::End)
 }
 
-// ---- pieces of memory
-
-// The bytes from a up to e; none where they are not there.
-pub fn piece(s: &[u8], a: usize, e: usize) -> &[u8]
-    ensures { result.now ≡ piece_of s.now a e }
+// Tries n cases, or fewer where the file ends; how many agree.
+pub fn count_agreeing<F: FnMut(u64) -> io::Result<Outcome>>(
+    n: u64,
+    mut try_case: F,
+) -> io::Result<u64>
+    requires { F.IsAlwaysCallable try_case }
+    ensures { IfOk result (λ agree. agree ≤ n) }
 {
-    if a <= e && e <= s.len() {
-        &s[a..e]
-    } else {
-        &s[0..0]
+    let mut agree = 0;
+    for k in 0..n {
+        match try_case(k)? {
+            Outcome::Agrees => agree += 1,
+            Outcome::Differs => {}
+            Outcome::End => break,
+        }
     }
+    Ok(agree)
 }
+
+// ---- pieces of memory
 
 // The first n bytes of an area; all where it has fewer.
 pub fn first_mut(area: &mut [u8], n: usize) -> &mut [u8]
     ensures { result.now ≡ take n area.old }
 {
-    if n <= area.len() {
-        return &mut area[..n];
-    }
-    area
+    let n = n.min(area.len());
+    &mut area[..n]
 }
 
 // ---- the file
 
-// The file, for reading; none, after a complaint, where it cannot be opened.
-pub fn open_cases<R: Files + Complaints>(rt: &R) -> Option<R::File> {
-    match File::open(rt, "cases") {
-        Ok(file) => Some(file),
-        Err(error) => {
-            fail(rt, b"cases", &error);
-            None
-        }
-    }
+// The file, for reading; a complaint where it cannot be opened.
+pub fn open_cases<R: Files + Complaints>(rt: &R) -> Result<R::File, Complained> {
+    File::open(rt, "cases").map_err(|error| fail(rt, b"cases", &error))
 }
 
-// Reads n bytes to the start of a buffer; whether the file has them and the buffer holds them.
-pub fn read_piece(file: &mut impl Read, n: usize, space: &mut [u8]) -> io::Result<bool>
-    ensures { IfOk result (λ found. IsTrue found → n ≤ length space.new) }
+// Reads n bytes to the start of a buffer; none where the file has fewer or the buffer is shorter.
+pub fn read_piece<'a>(
+    file: &mut impl Read,
+    n: usize,
+    space: &'a mut [u8],
+) -> io::Result<Option<&'a [u8]>>
+    ensures { IfOk result (λ found. IfSome found (λ bytes. (length bytes.now ≡ n) × (n ≤ length space.old))) }
 {
-    Ok(read_file(file, first_mut(space, n))? == n)
+    let found = read_file(file, first_mut(space, n))?;
+    Ok(if found == n { Some(&space[..n]) } else { None })
 }
 
-// A number of two bytes; 65535 where the file ends.
-pub fn read_count(file: &mut impl Read) -> io::Result<usize>
-    ensures { IfOk result (λ n. n < 65536) }
-{
-    let mut size = [255u8; 2];
-    read_file(file, &mut size)?;
-    Ok((wide(byte(&size, 0)) + 256 * wide(byte(&size, 1))) as usize)
+// A number of two bytes; none where the file ends.
+pub fn read_count(file: &mut impl Read) -> io::Result<Option<u16>> {
+    let mut size = [0u8; 2];
+    Ok(if read_file(file, &mut size)? == 2 {
+        Some(u16::from_le_bytes(size))
+    } else {
+        None
+    })
 }
 
 // A record: a byte that says how many of its bytes follow.
-pub fn read_record(file: &mut impl Read, record: &mut [u8]) -> io::Result<bool> {
+pub fn read_record<'a>(file: &mut impl Read, record: &'a mut [u8]) -> io::Result<Option<&'a [u8]>>
+    ensures { IfOk result (λ found. IfSome found (λ bytes. length bytes.now < 256)) }
+{
     let mut size = [0u8; 1];
-    if read_piece(file, 1, &mut size)? {
-        return read_piece(file, wide(byte(&size, 0)) as usize, record);
+    match read_piece(file, 1, &mut size)? {
+        Some(&[n]) => read_piece(file, usize::from(n), record),
+        _ => Ok(None),
     }
-    Ok(false)
 }
 
-// The last line: how many cases agree. The file is closed.
-pub fn print_total<F: Drop>(rt: &impl Print, file: F, agree: u64, what: &[u8]) -> io::Result<()> {
-    print_number(rt, agree)?;
-    print(rt, what)?;
-    drop(file);
-    Ok(())
+// The last line: how many cases agree.
+pub fn print_total(rt: &impl Print, agree: u64, what: &[u8]) -> io::Result<()> {
+    print!(rt; "{agree}")?;
+    print(rt, what)
 }

@@ -1,22 +1,13 @@
 // Files: read whole, and made where there are none. A file that is there is never written to.
-ghost use Rattle.std.specs.Prelude.{◌+◌, ◌≤◌, length, IfOk};
-ghost use Rattle.std.specs.Counts.{IsPrefixLen};
+ghost use Rattle.std.specs.Prelude.{◌≤◌, length, IfOk};
 ghost use Rattle.std.specs.Io.{ReadsAtMost};
 
 use crate::arguments::{MAX_WORD, path_of};
-use crate::printing::{Complaints, complain, fail};
+use crate::printing::{Complained, Complaints, complain, fail};
 use std::fs::{File, OpenFile, OpenOptions};
 use std::io::{ErrorKind, Read, Write};
 use std::rt::{Env, Files};
 use std::{fs, io, str};
-
-#[derive(Drop)]
-pub struct FileRead {
-    // Whether nothing failed.
-    pub ok: bool,
-    // How many bytes stand at the start of the buffer.
-    pub bytes: usize,
-}
 
 // ---- paths
 
@@ -30,71 +21,42 @@ fn path_text(path: &[u8]) -> io::Result<&str> {
 
 // ---- reading
 
-// What `read` answers for the buffer from `at` on.
-fn read_at(file: &mut impl Read, space: &mut [u8], at: usize) -> io::Result<usize>
-    requires { at ≤ length space.old }
-    ensures { IfOk result (λ n. at + n ≤ length space.new) }
-{
-    file.read(&mut space[at..])
-}
-
-// Reads until the buffer is full or the file ends; how many bytes stand at its start.
+// Reads until the buffer is full or the file ends; how many bytes stand at its start. `read_exact` does not tell how
+// many came before the end, and `read_to_end` takes a `Vec`.
 pub fn read_file(file: &mut impl Read, space: &mut [u8]) -> io::Result<usize>
     ensures { ReadsAtMost result space.new }
 {
     let mut n = 0;
     while n < space.len() {
-        let k = read_at(file, space, n)?;
-        if k == 0 {
-            break;
+        match file.read(&mut space[n..])? {
+            0 => break,
+            k => n += k,
         }
-        n += k;
     }
     Ok(n)
 }
 
 // Opens the file at a path and reads it.
-fn open_and_read(rt: &impl Files, path: &[u8], space: &mut [u8]) -> io::Result<usize>
-    ensures { ReadsAtMost result space.new }
+fn open_and_read<'a>(rt: &impl Files, path: &[u8], space: &'a mut [u8]) -> io::Result<&'a [u8]>
+    ensures { IfOk result (λ text. length text.now ≤ length space.old) }
 {
     let mut file = File::open(rt, path_text(path)?)?;
-    read_file(&mut file, space)
+    let n = read_file(&mut file, space)?;
+    Ok(&space[..n])
 }
 
-// Reads the file at a path; says so where that fails.
-fn read_path<R: Files + Complaints>(rt: &R, path: &[u8], space: &mut [u8]) -> FileRead
-    ensures { IsPrefixLen result.bytes space.new }
-{
-    match open_and_read(rt, path, space) {
-        Ok(bytes) => FileRead { ok: true, bytes },
-        Err(error) => {
-            fail(rt, path, &error);
-            FileRead {
-                ok: false,
-                bytes: 0,
-            }
-        }
-    }
-}
-
-// Reads the file that argument i names.
-pub fn read_arg<R: Env + Files + Complaints>(
+// What is read of the file that argument i names.
+pub fn read_arg<'a, R: Env + Files + Complaints>(
     rt: &R,
     i: usize,
     what: &[u8],
-    space: &mut [u8],
-) -> FileRead
-    ensures { IsPrefixLen result.bytes space.new }
+    space: &'a mut [u8],
+) -> Result<&'a [u8], Complained>
+    ensures { IfOk result (λ text. length text.now ≤ length space.old) }
 {
     let mut path = [0u8; MAX_WORD];
-    let n = path_of(rt, i, what, &mut path);
-    if n == 0 {
-        return FileRead {
-            ok: false,
-            bytes: 0,
-        };
-    }
-    read_path(rt, &path[..n], space)
+    let path = path_of(rt, i, what, &mut path)?;
+    open_and_read(rt, path, space).map_err(|error| fail(rt, path, &error))
 }
 
 // ---- writing
@@ -108,13 +70,12 @@ fn create<R: Files>(rt: &R, path: &[u8]) -> io::Result<R::File> {
 }
 
 // Complains that a file cannot be made.
-fn fail_to_create(rt: &impl Complaints, path: &[u8], error: &io::Error) {
-    if error.kind() == ErrorKind::AlreadyExists {
-        complain(rt, path);
-        complain(rt, b": the name is taken, and nothing is written over\n");
-    } else {
-        fail(rt, path, error);
+fn fail_to_create(rt: &impl Complaints, path: &[u8], error: &io::Error) -> Complained {
+    if error.kind() != ErrorKind::AlreadyExists {
+        return fail(rt, path, error);
     }
+    complain(rt, path);
+    complain(rt, b": the name is taken, and nothing is written over\n")
 }
 
 // Removes a file that the program made.
@@ -124,40 +85,23 @@ pub fn remove<R: Files + Complaints>(rt: &R, path: &[u8]) {
     }
 }
 
-// Writes to a file that was just made. `sync_all` tells what else only closing it would find: std's closing is silent.
-fn write_through<F: Write + OpenFile>(file: &mut F, text: &[u8]) -> io::Result<()> {
+// Writes to a file that was just made, and closes it. `sync_all` tells what else only closing it would find: std's
+// closing is silent.
+fn fill<F: Write + OpenFile + Drop>(mut file: F, text: &[u8]) -> io::Result<()> {
     file.write_all(text)?;
     file.sync_all()
 }
 
-// Writes to a file that was just made, and closes it. Whether both went well; a complaint where they did not.
-fn fill<F: Write + OpenFile + Drop>(
-    rt: &impl Complaints,
-    mut file: F,
+// Makes a file of the bytes at a path that names nothing. Where that fails, nothing is left of it.
+pub fn write_new<R: Files + Complaints>(
+    rt: &R,
     path: &[u8],
     text: &[u8],
-) -> bool {
-    match write_through(&mut file, text) {
-        Ok(()) => true,
-        Err(error) => {
-            fail(rt, path, &error);
-            false
-        }
-    }
-}
-
-// Makes a file of the bytes at a path that names nothing. Whether it is there; where it is not, nothing is left of it.
-pub fn write_new<R: Files + Complaints>(rt: &R, path: &[u8], text: &[u8]) -> bool {
-    let file = match create(rt, path) {
-        Ok(file) => file,
-        Err(error) => {
-            fail_to_create(rt, path, &error);
-            return false;
-        }
-    };
-    if fill(rt, file, path, text) {
-        return true;
-    }
-    remove(rt, path);
-    false
+) -> Result<(), Complained> {
+    let file = create(rt, path).map_err(|error| fail_to_create(rt, path, &error))?;
+    fill(file, text).map_err(|error| {
+        let complained = fail(rt, path, &error);
+        remove(rt, path);
+        complained
+    })
 }

@@ -1,6 +1,8 @@
-// What the programs share: printing, tables of words, arguments, files, and the file of cases that a replay reads.
+// What the programs share: memory to lend, printing, tables of words, arguments, files, and the file of cases that a
+// replay reads.
 #![tactic(auto)]
 
+pub mod areas;
 pub mod arguments;
 pub mod cases;
 pub mod files;

@@ -1,4 +1,4 @@
-// Bytes and numbers to standard output, and complaints to standard error.
+// Bytes to standard output, and complaints to standard error.
 use std::fmt::InlineText;
 use std::io;
 use std::rt::Stderr;
@@ -9,23 +9,10 @@ pub fn print(rt: &impl Print, text: &[u8]) -> io::Result<()> {
     rt.write_all(text)
 }
 
-pub fn print_number(rt: &impl Print, n: u64) -> io::Result<()> {
-    print!(rt; "{n}")
-}
-
-pub fn print_signed(rt: &impl Print, n: i64) -> io::Result<()> {
-    print!(rt; "{n}")
-}
-
-// Two hexadecimal digits.
-fn print_byte(rt: &impl Print, b: u8) -> io::Result<()> {
-    print!(rt; "{b:02x}")
-}
-
-// The bytes from `at` on, n at most, in hexadecimal.
-pub fn print_bytes(rt: &impl Print, s: &[u8], at: usize, n: usize) -> io::Result<()> {
-    for b in s.iter().skip(at).take(n) {
-        print_byte(rt, *b)?;
+// Bytes in hexadecimal, two digits each.
+pub fn print_bytes(rt: &impl Print, s: &[u8]) -> io::Result<()> {
+    for b in s {
+        print!(rt; "{b:02x}")?;
     }
     Ok(())
 }
@@ -47,24 +34,26 @@ impl Complaints for HostRuntime {
     }
 }
 
+// What failed is on standard error.
+#[derive(Clone, Copy)]
+pub struct Complained;
+
 // A complaint that cannot be written is lost: what it is about is answered all the same.
-pub fn complain(rt: &impl Complaints, text: &[u8]) {
+pub fn complain(rt: &impl Complaints, text: &[u8]) -> Complained {
     let _ = rt.stderr().write_all(text);
+    Complained
 }
 
 // What std puts behind the system's words for an error, before its number.
 const NUMBER: &str = " (os error ";
 
 // What failed, and why in the system's words.
-pub fn fail(rt: &impl Complaints, what: &[u8], error: &io::Error) {
+pub fn fail(rt: &impl Complaints, what: &[u8], error: &io::Error) -> Complained {
     let text = InlineText::<128>::of(error);
     let text = text.as_str();
-    let words = match text.split_once(NUMBER) {
-        Some((words, _)) => words,
-        None => text,
-    };
+    let words = text.split_once(NUMBER).map_or(text, |(words, _)| words);
     complain(rt, what);
     complain(rt, b": ");
     complain(rt, words.as_bytes());
-    complain(rt, b"\n");
+    complain(rt, b"\n")
 }

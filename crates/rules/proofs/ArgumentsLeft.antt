@@ -15,7 +15,7 @@ use Rattle.terms.specs.Book.{tree, forest, numbers, arguments, argument_at, noth
 use Rattle.terms.proofs.RecordBytes.{length-numbers, length-arguments}
 use Rattle.rules.proofs.RunParts.{below_at}
 use mathlib.Core.List.{List, [], ◌∷◌}
-use mathlib.Core.Option.{Option, some, none}
+use Rattle.std.specs.Prelude.{Option, Some, None}
 use Rattle.terms.specs.Readers.{arguments_of}
 use Rattle.rules.specs.Shapes.{size}
 
@@ -66,7 +66,7 @@ counted t b i args e =
 -- what f makes of an operation, by its operator
 pub by_operator :
     {A : Type 0} (f : ℕ → Terms → A) (other : A) (o : ℕ) (m : Option (ℕ × Terms)) →
-    elim m [ some p ↦ p.0 | none ↦ 0 ] ≡ suc o →
-    elim m [ some p ↦ f p.0 p.1 | none ↦ other ] ≡ f (suc o) (elim m [ some p ↦ p.1 | none ↦ nil ])
-by_operator f other o (some p) e = ap (λ (k : ℕ). f k p.1) e
-by_operator f other o none e = absurd (omega arith)
+    elim m [ Some p ↦ p.0 | None ↦ 0 ] ≡ suc o →
+    elim m [ Some p ↦ f p.0 p.1 | None ↦ other ] ≡ f (suc o) (elim m [ Some p ↦ p.1 | None ↦ nil ])
+by_operator f other o (Some p) e = ap (λ (k : ℕ). f k p.1) e
+by_operator f other o None e = absurd (omega arith)

@@ -1,7 +1,7 @@
 -- The readers that refuse: what `as_fraction` and its kin find, where a number, a bit-vector or an operation is expected.
 use mathlib.Core.Path.{◌≡◌, refl, sym, ap, ◌∙◌}
 use mathlib.Core.Bool.{Bool, true, false}
-use mathlib.Core.Option.{Option, some, none}
+use Rattle.std.specs.Prelude.{Option, Some, None}
 use Prim.Native.Nat.{ℕ}
 use borrow.Author.Tests.{eqb-true, eqb-false}
 use lib.Dec.{eqb}
@@ -10,15 +10,12 @@ use Rattle.numbers.specs.Bytes.{Bytes}
 use Rattle.terms.specs.Term.{Term, Terms}
 use Rattle.terms.specs.Book.{record_of, kind, tree}
 use Rattle.terms.specs.Readers.{Finds, FindsVector, as_signed_number, as_fraction, as_bitvector, as_op, operator_of}
-use Rattle.terms.specs.declared.term.Reading.{Reading}
-use Rattle.terms.specs.declared.term.Reading.TheVariants.{Value, NotNumber, OutOfRange}
-use Rattle.terms.specs.declared.term.BitVector.{BitVector}
-use Rattle.terms.specs.declared.term.BitVector.TheVariants.{Bits, NotBitvector}
 use Rattle.rules.specs.Refusal.{Result, or_else}
-use Rattle.rules.specs.Refusal.Outcome.{ok, refused}
+use Rattle.std.specs.Prelude.{Ok, Err}
 use Rattle.rules.specs.Refusal.Refusal.{expected_any_number, expected_operation_term}
 use Rattle.rules.specs.Limits.{Limits, fraction_err, signed_number_err, bitvector_err, op_err}
-use Rattle.rules.specs.Memory.Parts.{expected_reading, expected_of, Expects, expected_bits, expected_operator, is_some}
+use Rattle.rules.specs.Memory.Parts.{expected_reading, expected_of, Expects, expected_bits, expected_operator}
+use Rattle.std.specs.Prelude.{is_some}
 use Rattle.rules.specs.Memory.Parts.{Refuses, expected_refusal}
 use Rattle.rules.specs.declared.readers.Expected.{Expected}
 use Rattle.rules.specs.declared.readers.Expected.TheVariants as expected
@@ -27,6 +24,8 @@ use Rattle.rules.specs.declared.readers.ExpectedOperator.TheVariants as operator
 use Rattle.terms.proofs.RecordReadings.{as_op_record, as_op-other}
 use Rattle.rules.proofs.Results.{coded}
 use Rattle.rules.proofs.RunParts.{read_of, fraction-read, signed-read}
+use Rattle.terms.specs.Readers.{Reading}
+use Rattle.terms.specs.declared.term.NotRead.TheVariants.{NotNumber, OutOfRange}
 
 -- ---- numbers
 
@@ -39,14 +38,14 @@ module _ {r a : Reading} (f : Finds r a) {x : Expected} (e : x ≡ expected_read
       }
     where
       as_read : (y : Reading) → expected_reading y ≡ expected_of (read_of y)
-      as_read (Value q) = refl
-      as_read NotNumber = refl
-      as_read OutOfRange = refl
+      as_read (Ok q) = refl
+      as_read (Err NotNumber) = refl
+      as_read (Err OutOfRange) = refl
 
-      value : (y : Reading) (q : Rational) → expected_reading y ≡ expected.Value q → y ≡ Value q
-      value (Value p) q h = cc
-      value NotNumber q h = cc
-      value OutOfRange q h = cc
+      value : (y : Reading) (q : Rational) → expected_reading y ≡ expected.Value q → y ≡ Ok q
+      value (Ok p) q h = cc
+      value (Err NotNumber) q h = cc
+      value (Err OutOfRange) q h = cc
 
 pub expects-fraction :
     (l : Limits) (t : Term) {r : Reading} {x : Expected} → Finds r (as_fraction l.numbers t) →
@@ -60,19 +59,19 @@ expects-signed t f e = expects f e (signed-read t)
 
 -- what the answer tells of the definition
 module _ {x : Expected} {d : Result Rational} (e : Expects x d) where
-  pub number-found : {q : Rational} → x ≡ expected.Value q → d ≡ ok q
+  pub number-found : {q : Rational} → x ≡ expected.Value q → d ≡ Ok q
   number-found {q} h = go d (sym e.is ∙ h)
     where
-      go : (y : Result Rational) → expected_of y ≡ expected.Value q → y ≡ ok q
-      go (ok p) f = cc
-      go (refused r) f = cc
+      go : (y : Result Rational) → expected_of y ≡ expected.Value q → y ≡ Ok q
+      go (Ok p) f = cc
+      go (Err r) f = cc
 
   pub no_number : {c : ℕ} → x ≡ expected.Refused c → Refuses c d
   no_number {c} h = go d (sym e.is ∙ h)
     where
       go : (y : Result Rational) → expected_of y ≡ expected.Refused c → Refuses c y
-      go (ok p) f = record { reason = expected_any_number; is = cc; code = cc }
-      go (refused r) f = record { reason = r; is = refl; code = cc }
+      go (Ok p) f = record { reason = expected_any_number; is = cc; code = cc }
+      go (Err r) f = record { reason = r; is = refl; code = cc }
 
   -- n is the number of the refusal
   pub no_number_by : {c n : ℕ} → x ≡ expected.Refused c → n ≡ expected_refusal x → Refuses n d
@@ -80,12 +79,12 @@ module _ {x : Expected} {d : Result Rational} (e : Expects x d) where
 
 -- ---- bit-vectors
 
-module _ (t : Term) {r : BitVector} (f : FindsVector r (as_bitvector t)) where
-  pub bits-found : {v w : ℕ} → r ≡ Bits v w → bits.Bits v w ≡ expected_bits (bitvector_err t)
+module _ (t : Term) {r : Option (ℕ × ℕ)} (f : FindsVector r (as_bitvector t)) where
+  pub bits-found : {v w : ℕ} → r ≡ Some (v, w) → bits.Bits v w ≡ expected_bits (bitvector_err t)
   unfolding bitvector_err
   bits-found e = rw (sym f.is ∙ e)
 
-  pub no_bits : r ≡ NotBitvector → bits.Refused 41 ≡ expected_bits (bitvector_err t)
+  pub no_bits : r ≡ None → bits.Refused 41 ≡ expected_bits (bitvector_err t)
   unfolding bitvector_err
   no_bits e = rw (sym f.is ∙ e)
 
@@ -107,10 +106,10 @@ module _ (t : Term) where
   operator-found = go (as_op t)
     where
       go :
-          (p : Option (ℕ × Terms)) {o : ℕ} → is_some p ≡ true → o ≡ elim p [ some x ↦ x.0 | none ↦ 0 ] →
+          (p : Option (ℕ × Terms)) {o : ℕ} → is_some p ≡ true → o ≡ elim p [ Some x ↦ x.0 | None ↦ 0 ] →
           operator.Is o ≡ expected_operator (or_else p expected_operation_term)
-      go (some x) h e = ap operator.Is e
-      go none h e = cc
+      go (Some x) h e = ap operator.Is e
+      go None h e = cc
 
   pub no_operator : is_some (as_op t) ≡ false → operator.Refused 42 ≡ expected_operator (op_err t)
   unfolding op_err or_else
@@ -119,5 +118,5 @@ module _ (t : Term) where
       go :
           (p : Option (ℕ × Terms)) → is_some p ≡ false →
           operator.Refused 42 ≡ expected_operator (or_else p expected_operation_term)
-      go (some x) h = cc
-      go none h = refl
+      go (Some x) h = cc
+      go None h = refl

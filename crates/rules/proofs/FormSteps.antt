@@ -6,25 +6,23 @@
 --     Solving       a form, in a loop
 use mathlib.Core.Path.{◌≡◌, refl, sym, ◌∙◌, ap, fun_ext}
 use mathlib.Core.Bool.{Bool, true, false, ◌&&◌}
-use mathlib.Core.List.{List, [], ◌∷◌}
-use mathlib.Core.Option.{Option, some, none}
+use mathlib.Core.List.{List, [], ◌∷◌, ◌++◌}
+use Rattle.std.specs.Prelude.{Option, Some, None}
 use Prim.Native.Nat.{ℕ, zero, suc, ◌+◌, ◌-◌, ◌/◌, ◌%◌, ◌≤◌, ◌<◌}
 use native.Mathlib.Numerals.{add-one}
 use native.Mathlib.Omega.{arith}
 use borrow.Author.Tests.{eq-eqb, ne_eqb, eqb-true, eqb-false, ltb-true, lt-ltb, le-ltb}
 use lib.Dec.{eqb, ltb}
-use lib.ListN.{length, get_or, set, take, drop, replicate, drop_of_length-le, length-drop}
-use lib.Seq.{get_or-set_same, get_or-set_other, drop-cons, drop-drop}
+use lib.ListN.{length, get_or, set, take, drop, replicate, drop_of_length-le}
+use lib.Seq.{get_or-set_same, get_or-set_other, drop-cons}
 use Rattle.numbers.specs.Bytes.{Bytes}
 use Rattle.numbers.specs.Choice.{when◌then◌else◌}
 use Rattle.terms.specs.Term.{Term, Terms}
 use Rattle.terms.specs.Term.Terms.{nil, ◌▹◌}
 use Rattle.terms.specs.Book.{tree, forest, argument_at, arguments, numbers}
 use Rattle.terms.specs.Readers.{operator_of, arguments_of}
-use Rattle.terms.specs.declared.term.Only.{Only}
-use Rattle.terms.specs.declared.term.Only.TheVariants as only
 use Rattle.rules.specs.Refusal.{◌>>=◌, or_else}
-use Rattle.rules.specs.Refusal.Outcome.{ok}
+use Rattle.std.specs.Prelude.{Ok}
 use Rattle.rules.specs.Refusal.Refusal.{term_of_wrong_form}
 use Rattle.rules.specs.Memory.Parts.{terms_in, after, verdict_of}
 use Rattle.rules.specs.declared.verdict.Verdict.TheVariants as verdict
@@ -42,7 +40,7 @@ get_d_inside [] k d e h = absurd (omega arith)
 get_d_inside (x ∷ l) zero d e h = refl
 get_d_inside (x ∷ l) (suc k) d e h = get_d_inside l k d e (omega (arith, h))
 
-named_some : (b : Bytes) (d n : ℕ) (l : List ℕ) → 0 < n → found_names b d n l ≡ some (names_in b d n l)
+named_some : (b : Bytes) (d n : ℕ) (l : List ℕ) → 0 < n → found_names b d n l ≡ Some (names_in b d n l)
 named_some b d zero l h = absurd (omega arith)
 named_some b d (suc n) l h = refl
 
@@ -50,7 +48,7 @@ module _ (b : Bytes) (d n k x : ℕ) (l : List ℕ) where
   -- whether a name that has a record has this one
   again_law :
       k < n → k < length l →
-      bind k (tree b x) (names_in b d n l) ≡ (when eqb (get_or l k 0) x then some (names_in b d n l) else none)
+      bind k (tree b x) (names_in b d n l) ≡ (when eqb (get_or l k 0) x then Some (names_in b d n l) else None)
   unfolding bind when◌then◌else◌
   again_law h inside = rw (lt-ltb k n h, same-records b (get_or l k d) x, get_d_inside l k d 0 inside)
 
@@ -59,17 +57,17 @@ module _ (b : Bytes) (d n k x : ℕ) (l : List ℕ) where
   bound-again h inside e =
       named_some b d n l (omega (arith, h)) ∙ sym (again_law h inside ∙ rw (eq-eqb (get_or l k 0) x e))
 
-  pub bound-other : k < n → k < length l → (get_or l k 0 ≡ x → ⊥) → none ≡ bind k (tree b x) (names_in b d n l)
+  pub bound-other : k < n → k < length l → (get_or l k 0 ≡ x → ⊥) → None ≡ bind k (tree b x) (names_in b d n l)
   unfolding when◌then◌else◌
   bound-other h inside e = sym (again_law h inside ∙ rw (ne_eqb (get_or l k 0) x e))
 
-  pub not-bound : n ≤ k → (k ≡ n → k < max_names → ⊥) → none ≡ bind k (tree b x) (names_in b d n l)
+  pub not-bound : n ≤ k → (k ≡ n → k < max_names → ⊥) → None ≡ bind k (tree b x) (names_in b d n l)
   unfolding bind when◌then◌else◌
   not-bound h e = rw (le-ltb k n h) (at _ (eqb k n) (ltb k max_names) refl refl)
     where
       at :
           (m : Option Names) (s t : Bool) → eqb k n ≡ s → ltb k max_names ≡ t →
-          none ≡ (when s && t then m else none)
+          None ≡ (when s && t then m else None)
       at m true true f g = absurd (e (eqb-true k n f) (ltb-true k max_names g))
       at m true false f g = refl
       at m false t f g = refl
@@ -80,7 +78,7 @@ module _ (b : Bytes) (d n k x : ℕ) (l : List ℕ) where
   unfolding bind when◌then◌else◌
   bound-next e h inside =
       rw (add-one, le-ltb k n (omega arith), eq-eqb k n e, lt-ltb k max_names h)
-      (ap (λ (f : ℕ → Term). some (record { count = suc k; at = f })) (fun_ext (λ j. at j (eqb j k) refl)))
+      (ap (λ (f : ℕ → Term). Some (record { count = suc k; at = f })) (fun_ext (λ j. at j (eqb j k) refl)))
     where
       at :
           (j : ℕ) (t : Bool) → eqb j k ≡ t →
@@ -106,17 +104,17 @@ pub record Binding
 
 -- the names that are found, and then f
 abbrev followed : Option Names → (Names → Option Names) → Option Names
-followed m f = elim m [ some τ ↦ f τ | none ↦ none ]
+followed m f = elim m [ Some τ ↦ f τ | None ↦ None ]
 
-goes_on : {m z : Option Names} {τ : Names} (f : Names → Option Names) → m ≡ some τ → followed m f ≡ z → f τ ≡ z
+goes_on : {m z : Option Names} {τ : Names} (f : Names → Option Names) → m ≡ Some τ → followed m f ≡ z → f τ ≡ z
 goes_on f e h = sym (ap (λ (m : Option Names). followed m f) e) ∙ h
 
-then-rest : (m : Option Names) (f : Names → Option Names) → ((τ : Names) → none ≡ f τ) → none ≡ followed m f
-then-rest (some τ) f h = h τ
-then-rest none f h = refl
+then-rest : (m : Option Names) (f : Names → Option Names) → ((τ : Names) → None ≡ f τ) → None ≡ followed m f
+then-rest (Some τ) f h = h τ
+then-rest None f h = refl
 
 no_count :
-    (ks : List ℕ) (ts : Terms) (σ : Names) → (size ts ≡ length ks → ⊥) → none ≡ bind_all ks ts σ
+    (ks : List ℕ) (ts : Terms) (σ : Names) → (size ts ≡ length ks → ⊥) → None ≡ bind_all ks ts σ
 unfolding bind_all
 no_count [] nil σ h = absurd (h refl)
 no_count [] (t ▹ ts) σ h = refl
@@ -126,17 +124,12 @@ no_count (k ∷ ks) (t ▹ ts) σ h = then-rest (bind k t σ) _ (λ τ. no_count
 module _ (names₀ : List ℕ) (n : ℕ) (args : Bytes) (id : ℕ) (parts : Bytes) where
   pub other-count :
       (length args / 2 ≡ length parts → ⊥) → (b : Bytes) (d : ℕ) →
-      none ≡ bind_all parts (args_from b id args 0) (names_in b d n names₀)
+      None ≡ bind_all parts (args_from b id args 0) (names_in b d n names₀)
   other-count h b d =
       no_count parts (args_from b id args 0) _ (λ e. h (sym (sized b) ∙ e))
     where
       sized : (b : Bytes) → size (args_from b id args 0) ≡ length args / 2
       sized b = size-forest (tree b) (arguments id (numbers args)) ∙ arguments-count id args
-
-  pub binding_first :
-      length names₀ ≡ max_names → n ≤ max_names → 0 < n → length args / 2 ≡ length parts →
-      Binding names₀ n args id parts names₀ n 0
-  binding_first s m p c = record { size = s; most = m; some-named = p; counts = c; left = λ b d. refl }
 
   module _ {names : List ℕ} {m j : ℕ} (h : Binding names₀ n args id parts names m j) where
     pub binding_end :
@@ -164,7 +157,7 @@ module _ (names₀ : List ℕ) (n : ℕ) (args : Bytes) (id : ℕ) (parts : Byte
           ∙ h.left b d)
 
       pub binding_refused :
-          r ≡ 0 → (b : Bytes) (d : ℕ) → none ≡ bind_all parts (args_from b id args 0) (names_in b d n names₀)
+          r ≡ 0 → (b : Bytes) (d : ℕ) → None ≡ bind_all parts (args_from b id args 0) (names_in b d n names₀)
       binding_refused e b d = rw e at (next_law b d)
 
       pub binding_next :
@@ -183,7 +176,7 @@ module _ (names₀ : List ℕ) (n : ℕ) (args : Bytes) (id : ℕ) (parts : Byte
 -- ---- an equation
 
 module _ (b : Bytes) (d n : ℕ) (names : List ℕ) (e : Bytes) {w : ℕ} (w-is : w ≡ get_or e 0 0) where
-  pub no_name : n ≤ w → none ≡ solve (equation_of e) (names_in b d n names)
+  pub no_name : n ≤ w → None ≡ solve (equation_of e) (names_in b d n names)
   unfolding solve
   no_name h = rw (le-ltb (get_or e 0 0) n (omega (arith, h, w-is)), solve)
 
@@ -199,7 +192,7 @@ module _ (b : Bytes) (d n : ℕ) (names : List ℕ) (e : Bytes) {w : ℕ} (w-is 
     operator_is : operator_of (tree b (get_or names (get_or e 0 0) d)) ≡ o
     operator_is = ap (λ (y : ℕ). operator_of (tree b y)) record_is ∙ sym o_is
 
-    pub other-operator : (o ≡ get_or e 1 0 → ⊥) → none ≡ solve (equation_of e) (names_in b d n names)
+    pub other-operator : (o ≡ get_or e 1 0 → ⊥) → None ≡ solve (equation_of e) (names_in b d n names)
     unfolding solve
     other-operator k = rw (operator_is, has-name, ne_eqb o (get_or e 1 0) k, solve)
 
@@ -217,15 +210,16 @@ module _ (b : Bytes) (d n : ℕ) (names : List ℕ) (e : Bytes) {w : ℕ} (w-is 
 
 -- ---- a form
 
-form-next : (l : Bytes) → 6 ≤ length l → form_of l ≡ equation_of (take 6 l) ∷ form_of (drop 6 l)
+form-next : (e l : Bytes) → length e ≡ 6 → form_of (e ++ l) ≡ equation_of e ∷ form_of l
 unfolding form_of
-form-next [] h = absurd (omega arith)
-form-next (w ∷ []) h = absurd (omega arith)
-form-next (w ∷ o ∷ []) h = absurd (omega arith)
-form-next (w ∷ o ∷ n ∷ []) h = absurd (omega arith)
-form-next (w ∷ o ∷ n ∷ x ∷ []) h = absurd (omega arith)
-form-next (w ∷ o ∷ n ∷ x ∷ y ∷ []) h = absurd (omega arith)
-form-next (w ∷ o ∷ n ∷ x ∷ y ∷ z ∷ l) h = refl
+form-next [] l h = absurd (omega arith)
+form-next (w ∷ []) l h = absurd (omega arith)
+form-next (w ∷ o ∷ []) l h = absurd (omega arith)
+form-next (w ∷ o ∷ n ∷ []) l h = absurd (omega arith)
+form-next (w ∷ o ∷ n ∷ x ∷ []) l h = absurd (omega arith)
+form-next (w ∷ o ∷ n ∷ x ∷ y ∷ []) l h = absurd (omega arith)
+form-next (w ∷ o ∷ n ∷ x ∷ y ∷ z ∷ []) l h = refl
+form-next (w ∷ o ∷ n ∷ x ∷ y ∷ z ∷ k ∷ e) l h = absurd (omega arith)
 
 form-end : (l : Bytes) → length l < 6 → form_of l ≡ []
 unfolding form_of
@@ -237,59 +231,41 @@ form-end (w ∷ o ∷ n ∷ x ∷ []) h = refl
 form-end (w ∷ o ∷ n ∷ x ∷ y ∷ []) h = refl
 form-end (w ∷ o ∷ n ∷ x ∷ y ∷ z ∷ l) h = absurd (omega arith)
 
--- the equations before byte k are solved
-pub record Solving (b : Bytes) (names₀ : List ℕ) (form : Bytes) (names : List ℕ) (n k : ℕ) : Type 0 where
+-- the equations in `rest` are left
+pub record Solving (b : Bytes) (names₀ : List ℕ) (form : Bytes) (names : List ℕ) (n : ℕ) (rest : Bytes) : Type 0 where
   pub size : length names ≡ max_names
   pub most : n ≤ max_names
   pub some-named : 0 < n
-  pub inside : k ≤ length form
   pub left :
-      (d : ℕ) → solve_all (form_of (drop k form)) (names_in b d n names) ≡ solve_all (form_of form) (names_in b d 1 names₀)
+      (d : ℕ) → solve_all (form_of rest) (names_in b d n names) ≡ solve_all (form_of form) (names_in b d 1 names₀)
 
 module _ (b : Bytes) (names₀ : List ℕ) (form : Bytes) where
-  pub solving_first : length names₀ ≡ max_names → Solving b names₀ form names₀ 1 0
-  solving_first s =
-      record { size = s; most = omega arith; some-named = omega arith; inside = omega arith; left = λ d. refl }
-
-  module _ {names : List ℕ} {n k : ℕ} (h : Solving b names₀ form names n k) where
+  module _ {names : List ℕ} {n : ℕ} {rest : Bytes} (h : Solving b names₀ form names n rest) where
     pub solving_end :
-        (6 ≤ length form - k → ⊥) → (d : ℕ) →
-        found_names b d n names ≡ solve_all (form_of form) (names_in b d 1 names₀)
+        length rest < 6 → (d : ℕ) → found_names b d n names ≡ solve_all (form_of form) (names_in b d 1 names₀)
     unfolding solve_all
-    solving_end past d =
-        named_some b d n names h.some-named
-        ∙ sym (rw (form-end (drop k form) (omega (arith, length-drop k form))))
-        ∙ h.left d
+    solving_end past d = named_some b d n names h.some-named ∙ sym (rw (form-end rest past)) ∙ h.left d
 
     module _
-        (more : 6 ≤ length form - k) (r : ℕ) (names' : List ℕ)
-        (found :
-        (d : ℕ) →
-        found_names b d r names' ≡ solve (equation_of (take (k + 6 - k) (drop k form))) (names_in b d n names)) where
+        (e rest' : Bytes) (cut : rest ≡ e ++ rest') (long : length e ≡ 6) (r : ℕ) (names' : List ℕ)
+        (found : (d : ℕ) → found_names b d r names' ≡ solve (equation_of e) (names_in b d n names)) where
       solve_law :
           (d : ℕ) →
-          followed (found_names b d r names') (solve_all (form_of (drop (k + 6) form)))
-          ≡ solve_all (form_of form) (names_in b d 1 names₀)
+          followed (found_names b d r names') (solve_all (form_of rest')) ≡ solve_all (form_of form) (names_in b d 1 names₀)
       unfolding solve_all
-      solve_law d =
-          let six : k + 6 - k ≡ 6 = omega arith in
-          rw (found d, six, ← drop-drop 6 k form)
-          (sym (rw (form-next (drop k form) (omega (arith, length-drop k form)))) ∙ h.left d)
+      solve_law d = rw (found d) (sym (rw (cut, form-next e rest' long)) ∙ h.left d)
 
-      pub solving_refused : r ≡ 0 → (d : ℕ) → none ≡ solve_all (form_of form) (names_in b d 1 names₀)
+      pub solving_refused : r ≡ 0 → (d : ℕ) → None ≡ solve_all (form_of form) (names_in b d 1 names₀)
       solving_refused e d = rw e at (solve_law d)
 
       pub solving_next :
-          (r ≡ 0 → ⊥) → r ≤ max_names → length names' ≡ max_names → Solving b names₀ form names' r (k + 6)
+          (r ≡ 0 → ⊥) → r ≤ max_names → length names' ≡ max_names → Solving b names₀ form names' r rest'
       solving_next e l s =
           record {
             size = s;
             most = l;
             some-named = omega (arith, e);
-            inside = omega (arith, h.inside);
-            left = λ d.
-                goes_on (solve_all (form_of (drop (k + 6) form))) (named_some b d r names' (omega (arith, e)))
-                (solve_law d);
+            left = λ d. goes_on (solve_all (form_of rest')) (named_some b d r names' (omega (arith, e))) (solve_law d);
           }
 
 -- ---- a rule that asks for a form
@@ -309,16 +285,16 @@ pub matches_of :
     m ≡ matches f (tree b x)
 matches_of b x f e = e ∙ ap (solve_all f) (first_name b x)
 
-module _ (b part : Bytes) (n : ℕ) (f : Form) {w : Only} (only-is : OnlyIn part w) where
+module _ (b part : Bytes) (n : ℕ) (f : Form) {w : Option ℕ} (only-is : OnlyIn part w) where
   pub literal-missing :
-      w ≡ only.NotOne → verdict.Refused 22 ≡ verdict_of (after n (has_form f (terms_in b part)))
+      w ≡ None → verdict.Refused 22 ≡ verdict_of (after n (has_form f (terms_in b part)))
   unfolding has_form ◌>>=◌
   literal-missing e = rw (no_literal part b only-is e)
 
   module _
-      {x : ℕ} (w-is : w ≡ only.Of x) (r : ℕ) (names : List ℕ)
+      {x : ℕ} (w-is : w ≡ Some x) (r : ℕ) (names : List ℕ)
       (found : found_names b x r names ≡ solve_all f (names_in b x 1 (replicate 16 x))) where
-    form_law : has_form f (terms_in b part) ≡ (or_else (found_names b x r names) term_of_wrong_form >>= λ σ. ok tt)
+    form_law : has_form f (terms_in b part) ≡ (or_else (found_names b x r names) term_of_wrong_form >>= λ σ. Ok tt)
     unfolding has_form ◌>>=◌
     form_law = rw (literal_is part b only-is w-is, matches_of b x f found)
 

@@ -5,6 +5,8 @@ pub mod Yields
 pub mod Valuations
 pub mod WholeNumbers
 -- numbers, entries and maps in bytes: over any encoding of keys, then those of sums
+-- what an iterator over chunks of bytes gives
+pub mod Chunks
 -- terms and their arguments in memory
 pub mod ArgumentsLeft
 -- shapes, and the parts of a step, in memory

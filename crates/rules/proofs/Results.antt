@@ -10,7 +10,7 @@ use mathlib.Core.Path.{◌≡◌, refl, sym, ap, ◌∙◌, subst}
 use mathlib.Core.Bool.{Bool, true}
 use Prim.Native.Nat.{ℕ}
 use Rattle.rules.specs.Refusal.{Refusal, Result, ◌>>=◌, assert, number}
-use Rattle.rules.specs.Refusal.Outcome.{ok, refused}
+use Rattle.std.specs.Prelude.{Ok, Err}
 use Rattle.rules.specs.Refusal.Refusal.{expected_equal}
 use Rattle.rules.specs.Memory.Parts.{Refuses, asserted_of, verdict_of}
 use Rattle.rules.specs.declared.verdict.Asserted.{Asserted}
@@ -20,20 +20,20 @@ use Rattle.rules.specs.declared.verdict.Verdict.TheVariants as verdict
 -- ---- along `>>=`
 
 module _ {A B : Type 0} where
-  pub next : {x : Result A} {a : A} (f : A → Result B) → x ≡ ok a → (x >>= f) ≡ f a
+  pub next : {x : Result A} {a : A} (f : A → Result B) → x ≡ Ok a → (x >>= f) ≡ f a
   unfolding ◌>>=◌
   next f h = ap (λ z. z >>= f) h
 
-  pub ends : {x : Result A} {c : Refusal} (f : A → Result B) → x ≡ refused c → (x >>= f) ≡ refused c
+  pub ends : {x : Result A} {c : Refusal} (f : A → Result B) → x ≡ Err c → (x >>= f) ≡ Err c
   unfolding ◌>>=◌
   ends f h = ap (λ z. z >>= f) h
 
   pub bind-same : (d : Result A) {f g : A → Result B} → ((a : A) → f a ≡ g a) → (d >>= f) ≡ (d >>= g)
   unfolding ◌>>=◌
-  bind-same (ok a) h = h a
-  bind-same (refused r) h = refl
+  bind-same (Ok a) h = h a
+  bind-same (Err r) h = refl
 
-pub asserts : {t : Bool} (r : Refusal) → t ≡ true → assert t r ≡ ok tt
+pub asserts : {t : Bool} (r : Refusal) → t ≡ true → assert t r ≡ Ok tt
 unfolding assert
 asserts r e = rw e
 
@@ -41,18 +41,18 @@ pub bind_assoc :
     {A B C : Type 0} (d : Result A) (f : A → Result B) (g : B → Result C) →
     ((d >>= f) >>= g) ≡ (d >>= λ a. f a >>= g)
 unfolding ◌>>=◌
-bind_assoc (ok a) f g = refl
-bind_assoc (refused r) f g = refl
+bind_assoc (Ok a) f g = refl
+bind_assoc (Err r) f g = refl
 
 -- ---- refusals
 
-pub refuses : {A : Type 0} {d : Result A} (r : Refusal) → d ≡ refused r → Refuses (number r) d
+pub refuses : {A : Type 0} {d : Result A} (r : Refusal) → d ≡ Err r → Refuses (number r) d
 refuses r e = record { reason = r; is = e; code = refl }
 
 -- what is refused where d is
 pub refuses-as :
     {A B : Type 0} {c : ℕ} {d : Result A} {e : Result B} → Refuses c d →
-    ((r : Refusal) → d ≡ refused r → e ≡ refused r) → Refuses c e
+    ((r : Refusal) → d ≡ Err r → e ≡ Err r) → Refuses c e
 refuses-as r h = record { reason = r.reason; is = h r.reason r.is; code = r.code }
 
 pub refused-then :
@@ -71,25 +71,25 @@ holds-not-refused e = subst HoldsAsked e tt
 module _ {A : Type 0} where
   pub record Passed (r : Result A) : Type 0 where
     pub value : A
-    pub is : r ≡ ok value
+    pub is : r ≡ Ok value
 
 -- ---- assertions
 
 module _ {A : Type 0} where
   pub asserted_passes : (d : Result A) → asserted.Holds ≡ asserted_of d → Passed d
-  asserted_passes (ok a) e = record { value = a; is = refl }
-  asserted_passes (refused r) e = absurd (holds-not-refused e)
+  asserted_passes (Ok a) e = record { value = a; is = refl }
+  asserted_passes (Err r) e = absurd (holds-not-refused e)
 
   pub asserted-refuses : (d : Result A) {c : ℕ} → asserted.Refused c ≡ asserted_of d → Refuses c d
-  asserted-refuses (ok a) e = record { reason = expected_equal; is = cc; code = cc }
-  asserted-refuses (refused r) e = record { reason = r; is = refl; code = cc }
+  asserted-refuses (Ok a) e = record { reason = expected_equal; is = cc; code = cc }
+  asserted-refuses (Err r) e = record { reason = r; is = refl; code = cc }
 
   pub refused_assertion : {c : ℕ} {d : Result A} → Refuses c d → asserted.Refused c ≡ asserted_of d
   refused_assertion r = ap asserted.Refused r.code ∙ sym (ap asserted_of r.is)
 
-pub asserted-holds : (d : Result (Unit {0})) → asserted.Holds ≡ asserted_of d → d ≡ ok tt
-asserted-holds (ok u) e = refl
-asserted-holds (refused r) e = cc
+pub asserted-holds : (d : Result (Unit {0})) → asserted.Holds ≡ asserted_of d → d ≡ Ok tt
+asserted-holds (Ok u) e = refl
+asserted-holds (Err r) e = cc
 
 -- the first of two assertions is refused, or holds
 module _ {A : Type 0} (x : Result (Unit {0})) (f : Unit {0} → Result A) where

@@ -1,11 +1,11 @@
 -- A part of a run: the numbers in its 4-byte records, by place and from a place on, and the terms and arguments that
 -- they name. The laws go by induction along the part or the numbers in it.
 --     length-numbers_in, number_at_lem, numbers_in-drop       the numbers in a part
---     drop_to_end, drop-past-end       what the function `rest` takes
+--     drop_to_end       what a slice to the end takes
 --     length-terms_in, named-drop, named_cons, named_past, terms_in-drop       the terms that they name
 --     below_at, inside-drop       each names a record of the book
 --     read_of, fraction-read, signed-read       an argument that is read
-use mathlib.Core.Path.{◌≡◌, refl, sym, ap, ◌∙◌}
+use mathlib.Core.Path.{◌≡◌, refl, ap, ◌∙◌}
 use mathlib.Core.Bool.{true}
 use mathlib.Core.List.{List, [], ◌∷◌}
 use Prim.Native.Nat.{ℕ, zero, suc, ◌+◌, ◌*◌, ◌-◌, ◌/◌, ◌≤◌, ◌<◌}
@@ -19,15 +19,15 @@ use Rattle.numbers.specs.Bytes.{Bytes, le}
 use Rattle.terms.specs.Term.{Term}
 use Rattle.terms.specs.Book.{count, tree, all_below}
 use Rattle.terms.specs.Readers.{as_signed_number, as_fraction}
-use Rattle.terms.specs.declared.term.Reading.{Reading}
-use Rattle.terms.specs.declared.term.Reading.TheVariants.{Value, NotNumber, OutOfRange}
 use Rattle.numbers.proofs.Truths.{both}
 use Rattle.numbers.proofs.LittleEndian.{le_cons, le_of_two}
 use Rattle.rules.specs.Refusal.{Result, ◌>>=◌, or_else}
-use Rattle.rules.specs.Refusal.Outcome.{ok, refused}
+use Rattle.std.specs.Prelude.{Ok, Err}
 use Rattle.rules.specs.Refusal.Refusal.{number_range, expected_any_number}
 use Rattle.rules.specs.Limits.{Limits, number_or, fraction_of, fraction_err, signed_number_err}
 use Rattle.rules.specs.Memory.Parts.{numbers_in, named, terms_in, Inside}
+use Rattle.terms.specs.Readers.{Reading}
+use Rattle.terms.specs.declared.term.NotRead.TheVariants.{NotNumber, OutOfRange}
 
 -- ---- the numbers in a part
 
@@ -52,12 +52,8 @@ number_at_lem (m ∷ c ∷ x ∷ y ∷ p) (suc k) d h =
 
 -- ---- after k records
 
--- as the function `rest` takes it: up to the end, or nothing
 pub drop_to_end : (p : Bytes) (n : ℕ) → take (length p - n) (drop n p) ≡ drop n p
 drop_to_end p n = take_all (length p - n) (drop n p) (omega (arith, length-drop n p))
-
-pub drop-past-end : (p : Bytes) (n : ℕ) → length p < n → [] ≡ drop n p
-drop-past-end p n h = sym (drop_of_length-le p {i = n} (omega arith))
 
 pub numbers_in-drop : (p : Bytes) (k : ℕ) → numbers_in (drop (4 * k) p) ≡ drop k (numbers_in p)
 unfolding numbers_in
@@ -124,15 +120,15 @@ inside-drop b p k h = ap (all_below (count b)) (numbers_in-drop p k) ∙ below-d
 
 -- `as_fraction_err`
 abbrev pub read_of : Reading → Result Rational
-read_of (Value q) = ok q
-read_of NotNumber = refused expected_any_number
-read_of OutOfRange = refused number_range
+read_of (Ok q) = Ok q
+read_of (Err NotNumber) = Err expected_any_number
+read_of (Err OutOfRange) = Err number_range
 
 as_read : (r : Reading) → (number_or r >>= λ q. or_else q expected_any_number) ≡ read_of r
 unfolding ◌>>=◌ or_else
-as_read (Value q) = refl
-as_read NotNumber = refl
-as_read OutOfRange = refl
+as_read (Ok q) = refl
+as_read (Err NotNumber) = refl
+as_read (Err OutOfRange) = refl
 
 -- `as_signed_number_err`
 pub signed-read : (t : Term) → signed_number_err t ≡ read_of (as_signed_number t)

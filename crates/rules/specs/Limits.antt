@@ -1,19 +1,17 @@
 -- The limits that document 01 adds to the Rust, as a parameter: with `limited n` the definitions are what the code must
 -- equal under the visit limit n, with `the_rust` they are the Rust itself. And the operations on numbers under a limit.
-use Rattle.std.proofs.Math.Option.{Option, some, none}
+use Rattle.std.specs.Prelude.{Option, Some, None}
 use Rattle.std.specs.Prelude.{ℕ}
 use Rattle.numbers.specs.Rational.{Rational, mul_q, div_q, add_q, limit}
 use Rattle.terms.specs.Term.{Term, Terms}
 use Rattle.terms.specs.Readers.{Bound, unbounded, at_most, bounded, as_signed_number, as_fraction, as_bitvector}
 use Rattle.terms.specs.Readers.{as_op}
-use Rattle.terms.specs.declared.term.Reading.{Reading}
-use Rattle.terms.specs.declared.term.Reading.TheVariants.{Value, NotNumber, OutOfRange}
-use Rattle.terms.specs.declared.term.BitVector.{BitVector}
-use Rattle.terms.specs.declared.term.BitVector.TheVariants.{Bits, NotBitvector}
 use Rattle.rules.specs.Refusal.{Result, ◌>>=◌, or_else}
-use Rattle.rules.specs.Refusal.Outcome.{ok, refused}
+use Rattle.std.specs.Prelude.{Ok, Err}
 use Rattle.rules.specs.Refusal.Refusal.{number_range, expected_any_number, expected_bitvector}
 use Rattle.rules.specs.Refusal.Refusal.{expected_operation_term}
+use Rattle.terms.specs.Readers.{Reading}
+use Rattle.terms.specs.declared.term.NotRead.TheVariants.{NotNumber, OutOfRange}
 
 pub record Limits : Type 0 where
   pub numbers : Bound
@@ -36,14 +34,14 @@ limited n =
 -- ---- numbers: one outside the range is refusal 11
 
 abbrev pub number_or : Reading → Result (Option Rational)
-number_or (Value q) = ok (some q)
-number_or NotNumber = ok none
-number_or OutOfRange = refused number_range
+number_or (Ok q) = Ok (Some q)
+number_or (Err NotNumber) = Ok None
+number_or (Err OutOfRange) = Err number_range
 
 abbrev pub in_limit : Reading → Result Rational
-in_limit (Value q) = ok q
-in_limit NotNumber = refused number_range
-in_limit OutOfRange = refused number_range
+in_limit (Ok q) = Ok q
+in_limit (Err NotNumber) = Err number_range
+in_limit (Err OutOfRange) = Err number_range
 
 unfoldable pub ranged : Limits → Rational → Result Rational
 ranged l q = in_limit (bounded l.numbers q)
@@ -72,9 +70,9 @@ unfoldable pub signed_number_err : Term → Result Rational
 signed_number_err t = number_or (as_signed_number t) >>= λ q. or_else q expected_any_number
 
 -- `as_bitvector_err`: value and width
-abbrev pub bits_err : BitVector → Result (ℕ × ℕ)
-bits_err (Bits v w) = ok (v, w)
-bits_err NotBitvector = refused expected_bitvector
+abbrev pub bits_err : Option (ℕ × ℕ) → Result (ℕ × ℕ)
+bits_err (Some (v, w)) = Ok (v, w)
+bits_err None = Err expected_bitvector
 
 unfoldable pub bitvector_err : Term → Result (ℕ × ℕ)
 bitvector_err t = bits_err (as_bitvector t)

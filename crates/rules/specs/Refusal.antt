@@ -1,7 +1,8 @@
 -- A name and a number for each row of document 01's table of verdicts, and a result that may be a refusal: the Rust's
 -- `Result` with `?`.
 use Rattle.std.specs.Prelude.{Bool, true, false, ℕ, leb}
-use Rattle.std.proofs.Math.Option.{Option, some, none}
+use Rattle.std.specs.Prelude.{Option, Some, None, Ok, Err}
+use Rattle.std.specs.Prelude as prelude
 
 -- Refusals of a rule, on one step. Those of what is lent (1 to 8) are another type, of the layer above: so no rule
 -- gives them.
@@ -47,32 +48,27 @@ number expected_operation_term = 42
 abbrev pub is_limit : Refusal → Bool
 is_limit r = leb (number r) (number polynomial_size)
 
--- an answer, or why there is none
-pub data Outcome (E A : Type 0) : Type 0 where
-  ok : A → Outcome E A
-  refused : E → Outcome E A
-
--- of a rule
+-- of a rule: the Rust's `Result` with its error
 abbrev pub Result : Type 0 → Type 0
-Result A = Outcome Refusal A
+Result A = prelude.Result A Refusal
 
 -- `?`
 infixl 20 ◌>>=◌
-unfoldable pub ◌>>=◌ : {E A B : Type 0} → Outcome E A → (A → Outcome E B) → Outcome E B
-ok a >>= f = f a
-refused r >>= f = refused r
+unfoldable pub ◌>>=◌ : {E A B : Type 0} → prelude.Result A E → (A → prelude.Result B E) → prelude.Result B E
+Ok a >>= f = f a
+Err r >>= f = Err r
 
 infixl 20 ◌>>◌
-unfoldable pub ◌>>◌ : {E A B : Type 0} → Outcome E A → Outcome E B → Outcome E B
-ok a >> b = b
-refused r >> b = refused r
+unfoldable pub ◌>>◌ : {E A B : Type 0} → prelude.Result A E → prelude.Result B E → prelude.Result B E
+Ok a >> b = b
+Err r >> b = Err r
 
 -- `rassert!`
-unfoldable pub assert : {E : Type 0} → Bool → E → Outcome E (Unit {0})
-assert true r = ok tt
-assert false r = refused r
+unfoldable pub assert : {E : Type 0} → Bool → E → prelude.Result (Unit {0}) E
+assert true r = Ok tt
+assert false r = Err r
 
 -- `ok_or`
-unfoldable pub or_else : {E A : Type 0} → Option A → E → Outcome E A
-or_else (some a) r = ok a
-or_else none r = refused r
+unfoldable pub or_else : {E A : Type 0} → Option A → E → prelude.Result A E
+or_else (Some a) r = Ok a
+or_else None r = Err r

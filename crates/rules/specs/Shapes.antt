@@ -1,14 +1,14 @@
 -- Shapes of clauses and terms that more than one rule asks for, src/checker/rules/mod.rs: `match_term_err!`, operator
 -- and count exact, and the assertions. A conclusion is the list of a step's literals.
 use Rattle.std.specs.Prelude.{Bool, true, false, ◌&&◌, List, [], ◌∷◌, ℕ, suc, ◌%◌, leb, ltb, eqb, get_or, take, drop}
-use Rattle.std.proofs.Math.Option.{Option, some, none}
+use Rattle.std.specs.Prelude.{Option, Some, None}
 use Rattle.numbers.specs.Bytes.{Bytes}
 use Rattle.numbers.specs.Choice.{when◌then◌else◌}
 use Rattle.terms.specs.Operator.{Equals, GreaterEq}
 use Rattle.terms.specs.Term.{Term, same, unary, binary, Terms}
 use Rattle.terms.specs.Readers.{remove_negation, operator_of, arguments_of}
 use Rattle.rules.specs.Refusal.{Result, assert, or_else, ◌>>=◌}
-use Rattle.rules.specs.Refusal.Outcome.{ok, refused}
+use Rattle.std.specs.Prelude.{Ok, Err}
 use Rattle.rules.specs.Refusal.Refusal.{wrong_length_of_clause, term_of_wrong_form, expected_equal}
 use Rattle.terms.specs.Term.Terms.{nil, ◌▹◌}
 
@@ -17,9 +17,9 @@ Clause = List Term
 
 -- assert_clause_len(conclusion, 1), and conclusion[0]
 unfoldable pub only_literal : Clause → Result Term
-only_literal [] = refused wrong_length_of_clause
-only_literal (t ∷ []) = ok t
-only_literal (t ∷ u ∷ ts) = refused wrong_length_of_clause
+only_literal [] = Err wrong_length_of_clause
+only_literal (t ∷ []) = Ok t
+only_literal (t ∷ u ∷ ts) = Err wrong_length_of_clause
 
 abbrev pub unary_err : ℕ → Term → Result Term
 unary_err o t = or_else (unary o t) term_of_wrong_form
@@ -35,12 +35,12 @@ assert_eq a b = assert (same a b) expected_equal
 
 -- (not (o s d))
 unfoldable pub negated_binary : ℕ → Term → Option (Term × Term)
-negated_binary o t = elim (remove_negation t) [ some u ↦ binary o u | none ↦ none ]
+negated_binary o t = elim (remove_negation t) [ Some u ↦ binary o u | None ↦ None ]
 
 abbrev pub both : Option (Term × Term) → Option (Term × Term) → Option ((Term × Term) × (Term × Term))
-both (some p) (some q) = some (p, q)
-both (some p) none = none
-both none q = none
+both (Some p) (Some q) = Some (p, q)
+both (Some p) None = None
+both None q = None
 
 -- the five forms (or phi1 phi2): what is asked of s1, s2 is equality, of the bounds d1, d2 the test given
 unfoldable pub bounds_case :
@@ -84,28 +84,28 @@ max_names = 16
 -- a name that comes again stands for the same term
 unfoldable pub bind : ℕ → Term → Names → Option Names
 bind k t σ =
-    when ltb k σ.count then (when same (σ.at k) t then some σ else none) else
+    when ltb k σ.count then (when same (σ.at k) t then Some σ else None) else
     when eqb k σ.count && ltb k max_names then
-    some (record { count = suc k; at = λ j. when eqb j k then t else σ.at j }) else
-    none
+    Some (record { count = suc k; at = λ j. when eqb j k then t else σ.at j }) else
+    None
 
 unfoldable pub bind_all : List ℕ → Terms → Names → Option Names
-bind_all [] nil σ = some σ
-bind_all [] (t ▹ ts) σ = none
-bind_all (k ∷ ks) nil σ = none
-bind_all (k ∷ ks) (t ▹ ts) σ = elim (bind k t σ) [ some τ ↦ bind_all ks ts τ | none ↦ none ]
+bind_all [] nil σ = Some σ
+bind_all [] (t ▹ ts) σ = None
+bind_all (k ∷ ks) nil σ = None
+bind_all (k ∷ ks) (t ▹ ts) σ = elim (bind k t σ) [ Some τ ↦ bind_all ks ts τ | None ↦ None ]
 
 -- operator and count are exact
 unfoldable pub solve : Equation → Names → Option Names
 solve e σ =
     elim (ltb e.whole σ.count && eqb (operator_of (σ.at e.whole)) e.operator) [
       | true ↦ bind_all e.parts (arguments_of (σ.at e.whole)) σ
-      | false ↦ none
+      | false ↦ None
     ]
 
 unfoldable pub solve_all : Form → Names → Option Names
-solve_all [] σ = some σ
-solve_all (e ∷ es) σ = elim (solve e σ) [ some τ ↦ solve_all es τ | none ↦ none ]
+solve_all [] σ = Some σ
+solve_all (e ∷ es) σ = elim (solve e σ) [ Some τ ↦ solve_all es τ | None ↦ None ]
 
 abbrev pub matches : Form → Term → Option Names
 matches f t = solve_all f (only_name t)
@@ -115,7 +115,7 @@ unfoldable pub has_form : Form → Clause → Result (Unit {0})
 has_form f conclusion = do
   phi ← only_literal conclusion
   _ ← or_else (matches f phi) term_of_wrong_form
-  ok tt
+  Ok tt
 
 -- ---- forms in bytes: six for an equation, which are a name, an operator, how many parts, and up to three parts
 

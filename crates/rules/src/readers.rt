@@ -3,7 +3,8 @@ ghost use Rattle.std.specs.Prelude.{◌≡◌, ℕ};
 ghost use Rattle.terms.specs.Book.{tree};
 ghost use Rattle.terms.specs.Readers.{as_op};
 ghost use Rattle.rules.specs.Limits.{limited, fraction_err, signed_number_err, bitvector_err, op_err};
-ghost use Rattle.rules.specs.Memory.Parts.{expected_reading, Expects, expected_bits, expected_operator, is_some};
+ghost use Rattle.rules.specs.Memory.Parts.{expected_reading, Expects, expected_bits, expected_operator};
+ghost use Rattle.std.specs.Prelude.{is_some};
 ghost use Rattle.rules.specs.Memory.Parts.{expected_refusal, bits_refusal, operator_refusal};
 
 use numbers::bytes::byte;
@@ -13,7 +14,7 @@ use terms::records::record;
 use terms::refusal::{
     EXPECTED_ANY_NUMBER, EXPECTED_BITVECTOR, EXPECTED_OPERATION_TERM, NUMBER_RANGE,
 };
-use terms::term::{BitVector, Reading, as_bitvector, as_fraction, as_signed_number, operator};
+use terms::term::{NotRead, as_bitvector, as_fraction, as_signed_number, operator};
 
 // A number where one is expected.
 #[derive(Clone, Copy)]
@@ -70,13 +71,13 @@ pub fn operator_refusal(x: ExpectedOperator) -> u8
 
 // ---- the readers
 
-fn number_expected(x: Reading) -> Expected
+fn number_expected(x: Result<Number, NotRead>) -> Expected
     ensures { result ≡ expected_reading x }
 {
     match x {
-        Reading::Value(q) => Expected::Value(q),
-        Reading::NotNumber => Expected::Refused(EXPECTED_ANY_NUMBER),
-        Reading::OutOfRange => Expected::Refused(NUMBER_RANGE),
+        Ok(q) => Expected::Value(q),
+        Err(NotRead::NotNumber) => Expected::Refused(EXPECTED_ANY_NUMBER),
+        Err(NotRead::OutOfRange) => Expected::Refused(NUMBER_RANGE),
     }
 }
 
@@ -95,7 +96,7 @@ pub fn as_signed_number_err(book: &[u8], id: usize) -> Expected
 pub fn as_bitvector_err(book: &[u8], id: usize) -> ExpectedBits
     ensures { result ≡ expected_bits (bitvector_err (tree book.now id)) }
 {
-    let BitVector::Bits(value, width) = as_bitvector(book, id) else {
+    let Some((value, width)) = as_bitvector(book, id) else {
         return ExpectedBits::Refused(EXPECTED_BITVECTOR);
     };
     ExpectedBits::Bits(value, width)

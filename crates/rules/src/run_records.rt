@@ -18,9 +18,5 @@ pub fn rest(part: &[u8], k: usize) -> &[u8]
     requires { k ≤ 65536 }
     ensures { result.now ≡ drop (4 * k) part.now }
 {
-    let start = RUN_RECORD_BYTES * k;
-    if start <= part.len() {
-        return &part[start..];
-    }
-    &part[0..0]
+    part.get(RUN_RECORD_BYTES * k..).unwrap_or(&[])
 }

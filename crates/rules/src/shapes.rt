@@ -16,7 +16,7 @@ use numbers::bytes::{read_u16, wide};
 use terms::format::{NUMBER_AT, RUN_RECORD_BYTES};
 use terms::records::argument;
 use terms::refusal::{EXPECTED_EQUAL, TERM_OF_WRONG_FORM, WRONG_LENGTH_OF_CLAUSE};
-use terms::term::{Only, Two, args, binary, operator, remove_negation};
+use terms::term::{args, binary, operator, remove_negation};
 
 // The records of s1, d1, s2 and d2, if both parts of a clause bound a term.
 #[derive(Clone, Copy)]
@@ -26,22 +26,22 @@ pub enum Bounds {
 }
 
 // The record of the only literal, if there is just one: `assert_clause_len(conclusion, 1)`, and `conclusion[0]`.
-pub fn only_literal(literals: &[u8]) -> Only
+pub fn only_literal(literals: &[u8]) -> Option<usize>
     ensures { (b : Bytes) →
         or_else (found b result) wrong_length_of_clause ≡ only_literal (terms_in b literals.now) }
 {
     if literals.len() / RUN_RECORD_BYTES == 1 {
-        return Only::Of(read_u16(literals, NUMBER_AT) as usize);
+        return Some(read_u16(literals, NUMBER_AT) as usize);
     }
-    Only::NotOne
+    None
 }
 
 // (not (o x y)): the records of x and y.
-pub fn negated_binary(book: &[u8], id: usize, o: u8) -> Two
+pub fn negated_binary(book: &[u8], id: usize, o: u8) -> Option<(usize, usize)>
     ensures { found_two book.now result ≡ negated_binary o (tree book.now id) }
 {
-    let Only::Of(x) = remove_negation(book, id) else {
-        return Two::NotTwo;
+    let Some(x) = remove_negation(book, id) else {
+        return None;
     };
     binary(book, x, o)
 }
@@ -68,13 +68,13 @@ pub fn bounds_eq(s1: usize, d1: usize, s2: usize, d2: usize) -> Asserted
 }
 
 // Both parts, if each was found.
-pub fn both(p: Two, q: Two) -> Bounds
+pub fn both(p: Option<(usize, usize)>, q: Option<(usize, usize)>) -> Bounds
     ensures { (b : Bytes) → found_bounds b result ≡ both (found_two b p) (found_two b q) }
 {
-    let Two::Both(s1, d1) = p else {
+    let Some((s1, d1)) = p else {
         return Bounds::NotBoth;
     };
-    let Two::Both(s2, d2) = q else {
+    let Some((s2, d2)) = q else {
         return Bounds::NotBoth;
     };
     Bounds::Are(s1, d1, s2, d2)
@@ -95,16 +95,11 @@ fn bind(names: &mut [usize], n: usize, k: usize, x: usize) -> usize
         found_names b d result names.new ≡ bind k (tree b x) (names_in b d n names.old)) }
 {
     if k < n {
-        if names[k] == x {
-            return n;
-        }
-        return 0;
+        return if names[k] == x { n } else { 0 };
     }
-    if k == n {
-        if k < MAX_NAMES {
-            names[k] = x;
-            return k + 1;
-        }
+    if k == n && k < MAX_NAMES {
+        names[k] = x;
+        return k + 1;
     }
     0
 }
@@ -120,13 +115,11 @@ fn bind_all(names: &mut [usize], n: usize, args: &[u8], id: usize, parts: &[u8])
         return 0;
     }
     let mut m = n;
-    let mut j = 0;
-    while j < parts.len() {
-        m = bind(names, m, wide(parts[j]) as usize, argument(args, j, id));
+    for (j, k) in parts.iter().enumerate() {
+        m = bind(names, m, wide(*k) as usize, argument(args, j, id));
         if m == 0 {
             return 0;
         }
-        j += 1;
     }
     m
 }
@@ -141,8 +134,7 @@ fn solve(book: &[u8], names: &mut [usize], n: usize, e: &[u8]) -> usize
     if w < n {
         let x = names[w];
         if operator(book, x) == e[1] {
-            let end = 3 + (e[2] % 4) as usize;
-            return bind_all(names, n, args(book, x), x, &e[3..end]);
+            return bind_all(names, n, args(book, x), x, &e[3..3 + (e[2] % 4) as usize]);
         }
     }
     0
@@ -155,14 +147,11 @@ pub fn matches(book: &[u8], names: &mut [usize], form: &[u8]) -> usize
         ≡ solve_all (form_of form.now) (names_in book.now d 1 names.old) }
 {
     let mut n = 1;
-    let mut at = 0;
-    while form.len() - at >= EQUATION_BYTES {
-        let end = at + EQUATION_BYTES;
-        n = solve(book, names, n, &form[at..end]);
+    for e in form.chunks_exact(EQUATION_BYTES) {
+        n = solve(book, names, n, e);
         if n == 0 {
             return 0;
         }
-        at = end;
     }
     n
 }
@@ -172,7 +161,7 @@ pub fn has_form(book: &[u8], literals: &[u8], form: &[u8], visits: u32) -> Verdi
     ensures { result ≡ verdict_of (after visits
         (has_form (form_of form.now) (terms_in book.now literals.now))) }
 {
-    let Only::Of(phi) = only_literal(literals) else {
+    let Some(phi) = only_literal(literals) else {
         return Verdict::Refused(WRONG_LENGTH_OF_CLAUSE);
     };
     let mut names = [phi; MAX_NAMES];

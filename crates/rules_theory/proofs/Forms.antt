@@ -3,7 +3,7 @@
 use mathlib.Core.Path.{◌≡◌, refl, sym, ◌∙◌, ap₂, subst}
 use mathlib.Core.Bool.{Bool, true, false, ◌&&◌}
 use mathlib.Core.List.{List, [], ◌∷◌}
-use mathlib.Core.Option.{Option, some, none}
+use Rattle.std.specs.Prelude.{Option, Some, None}
 use Prim.Native.Nat.{ℕ, zero, suc, ◌<◌, ◌≤◌}
 use native.Mathlib.Omega.{arith}
 use borrow.Author.Tests.{ltb-true, eqb-true, eqb-false, eq-eqb, ne_eqb}
@@ -15,7 +15,7 @@ use Rattle.terms.specs.Term.Terms.{nil, ◌▹◌}
 use Rattle.terms.specs.Readers.{operator_of, arguments_of, as_op}
 use Rattle.book.proofs.BookTerms.{Each, Closed}
 use Rattle.rules.specs.Refusal.{◌>>=◌, or_else}
-use Rattle.rules.specs.Refusal.Outcome.{ok}
+use Rattle.std.specs.Prelude.{Ok}
 use Rattle.rules.specs.Refusal.Refusal.{term_of_wrong_form}
 use Rattle.rules.specs.Shapes.{Equation, Form, Names, only_name, max_names, bind, bind_all, solve, solve_all, matches}
 use Rattle.rules.specs.Shapes.{has_form, only_literal}
@@ -71,10 +71,10 @@ operation (op i p ts) (suc o) e = subst (λ (p : ℕ). Is (suc o) ts (op i p ts)
 
 -- an option's term, or none
 found_in :
-    {A B P : Type 0} (m : Option A) (f : A → Option B) (b : B) → ((a : A) → m ≡ some a → f a ≡ some b → P) →
-    elim m as (λ z. Option B) [ some a ↦ f a | none ↦ none ] ≡ some b → P
-found_in (some a) f b h e = h a refl e
-found_in none f b h e = nothing-found e
+    {A B P : Type 0} (m : Option A) (f : A → Option B) (b : B) → ((a : A) → m ≡ Some a → f a ≡ Some b → P) →
+    elim m as (λ z. Option B) [ Some a ↦ f a | None ↦ None ] ≡ Some b → P
+found_in (Some a) f b h e = h a refl e
+found_in None f b h e = nothing-found e
 
 module _ {P : Term → Type 0} (closed : Closed P) where
   -- the terms that have names are terms of P
@@ -118,14 +118,14 @@ module _ {P : Term → Type 0} (closed : Closed P) where
       at j true e l = p
       at j false e l = inside j (omega (arith, h, l, eqb-false j k e))
 
-  bind-found : (k : ℕ) (t : Term) (σ τ : Names) → P t → Inside σ → bind k t σ ≡ some τ → Goes σ τ (λ υ. υ.at k ≡ t)
+  bind-found : (k : ℕ) (t : Term) (σ τ : Names) → P t → Inside σ → bind k t σ ≡ Some τ → Goes σ τ (λ υ. υ.at k ≡ t)
   unfolding bind when◌then◌else◌
   bind-found k t σ τ p inside =
       at (ltb k σ.count) (same (σ.at k) t) (eqb k σ.count) (ltb k max_names) refl refl refl
     where
       at :
           (a b c d : Bool) → ltb k σ.count ≡ a → same (σ.at k) t ≡ b → eqb k σ.count ≡ c →
-          (when a then (when b then some σ else none) else when c && d then some (next k t σ) else none) ≡ some τ →
+          (when a then (when b then Some σ else None) else when c && d then Some (next k t σ) else None) ≡ Some τ →
           Goes σ τ (λ υ. υ.at k ≡ t)
       at true true c d f g h e =
           let same_names : σ ≡ τ = cc in
@@ -140,7 +140,7 @@ module _ {P : Term → Type 0} (closed : Closed P) where
       at false b false d f g h e = nothing-found e
 
   bind_all-found :
-      (ks : List ℕ) (ts : Terms) (σ τ : Names) → Each P ts → Inside σ → bind_all ks ts σ ≡ some τ →
+      (ks : List ℕ) (ts : Terms) (σ τ : Names) → Each P ts → Inside σ → bind_all ks ts σ ≡ Some τ →
       Goes σ τ (λ υ. terms_at υ ks ≡ ts)
   unfolding bind_all
   bind_all-found [] nil σ τ p inside e =
@@ -164,14 +164,14 @@ module _ {P : Term → Type 0} (closed : Closed P) where
   abbrev Solved : Equation → Names → Type 0
   Solved e υ = Operation e.operator (terms_at υ e.parts) (υ.at e.whole)
 
-  solve-found : (e : Equation) (σ τ : Names) → Inside σ → solve e σ ≡ some τ → Goes σ τ (Solved e)
+  solve-found : (e : Equation) (σ τ : Names) → Inside σ → solve e σ ≡ Some τ → Goes σ τ (Solved e)
   unfolding solve
   solve-found e σ τ inside =
       at (ltb e.whole σ.count) (eqb (operator_of (σ.at e.whole)) e.operator) refl refl
     where
       at :
           (a b : Bool) → ltb e.whole σ.count ≡ a → eqb (operator_of (σ.at e.whole)) e.operator ≡ b →
-          elim (a && b) [ true ↦ bind_all e.parts (arguments_of (σ.at e.whole)) σ | false ↦ none ] ≡ some τ →
+          elim (a && b) [ true ↦ bind_all e.parts (arguments_of (σ.at e.whole)) σ | false ↦ None ] ≡ Some τ →
           Goes σ τ (Solved e)
       at true true f g h =
           let w = e.whole in
@@ -188,7 +188,7 @@ module _ {P : Term → Type 0} (closed : Closed P) where
       at true false f g h = nothing-found h
       at false b f g h = nothing-found h
 
-  solve_all-found : (f : Form) (σ τ : Names) → Inside σ → solve_all f σ ≡ some τ → Goes σ τ (λ υ. Holds υ f)
+  solve_all-found : (f : Form) (σ τ : Names) → Inside σ → solve_all f σ ≡ Some τ → Goes σ τ (λ υ. Holds υ f)
   unfolding solve_all
   solve_all-found [] σ τ inside e =
       let same_names : σ ≡ τ = cc in
@@ -214,17 +214,17 @@ module _ {P : Term → Type 0} (closed : Closed P) where
     pub holds : Holds τ f
     pub inside : (k : ℕ) → k < τ.count → P (τ.at k)
 
-  pub form-found : (f : Form) (t : Term) (τ : Names) → P t → matches f t ≡ some τ → Formed f t τ
+  pub form-found : (f : Form) (t : Term) (τ : Names) → P t → matches f t ≡ Some τ → Formed f t τ
   form-found f t τ p e =
       let g = solve_all-found f (only_name t) τ (λ k h. p) e in
       record { whole = g.keeps.at 0 (omega arith); holds = g.holds τ keeps_all; inside = g.inside }
 
-  pub has-form : (f : Form) (t : Term) → P t → has_form f (t ∷ []) ≡ ok tt → (τ : Names) × Formed f t τ
+  pub has-form : (f : Form) (t : Term) → P t → has_form f (t ∷ []) ≡ Ok tt → (τ : Names) × Formed f t τ
   unfolding has_form only_literal ◌>>=◌ or_else
   has-form f t p = at (matches f t) refl
     where
       at :
-          (m : Option Names) → matches f t ≡ m → (or_else m term_of_wrong_form >>= λ σ. ok (tt {0})) ≡ ok (tt {0}) →
+          (m : Option Names) → matches f t ≡ m → (or_else m term_of_wrong_form >>= λ σ. Ok (tt {0})) ≡ Ok (tt {0}) →
           (τ : Names) × Formed f t τ
-      at (some τ) h e = (τ, form-found f t τ p h)
-      at none h e = let z : ◌≡◌ {A = ℕ} 0 1 = cc in absurd (omega arith)
+      at (Some τ) h e = (τ, form-found f t τ p h)
+      at None h e = let z : ◌≡◌ {A = ℕ} 0 1 = cc in absurd (omega arith)

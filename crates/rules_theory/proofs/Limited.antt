@@ -4,7 +4,7 @@
 -- readers, and maps with their walks.
 use mathlib.Core.Path.{◌≡◌, refl, subst}
 use mathlib.Core.Bool.{Bool, true, false, cond, ◌&&◌}
-use mathlib.Core.Option.{Option, some, none}
+use Rattle.std.specs.Prelude.{Option, Some, None}
 use mathlib.Core.List.{[], ◌∷◌}
 use Prim.Native.Nat.{ℕ, suc}
 use native.Mathlib.Omega.{arith}
@@ -15,14 +15,14 @@ use Rattle.terms.specs.Operator.{Sub}
 use Rattle.terms.specs.Readers.{Bound, unbounded, within, bounded, negated, as_signed_number, quotient_of, divided}
 use Rattle.terms.specs.Readers.{as_unsigned_fraction, as_fraction}
 use Rattle.terms.specs.Readers
-use Rattle.terms.specs.declared.term.Reading.{Reading}
-use Rattle.terms.specs.declared.term.Reading.TheVariants.{Value, NotNumber, OutOfRange}
 use Rattle.rules.specs.Refusal.{Refusal, Result, ◌>>=◌, assert}
-use Rattle.rules.specs.Refusal.Outcome.{ok, refused}
+use Rattle.std.specs.Prelude.{Ok, Err}
 use Rattle.rules.specs.Refusal.Refusal.{visit_limit, number_range, polynomial_size}
 use Rattle.rules.specs.Limits.{Limits, the_rust, number_or, in_limit, ranged, times, plus, over, fraction_of, fraction_err}
 use Rattle.index_map.specs.IndexMap.{Map, Combination, Keys, Walked, scale_all, enter, insert, insert_all, add, neg, sub}
 use Rattle.index_map.specs.IndexMap.{visit, add_entry, add_constant}
+use Rattle.terms.specs.Readers.{Reading}
+use Rattle.terms.specs.declared.term.NotRead.TheVariants.{NotNumber, OutOfRange}
 
 -- ---- the relation
 
@@ -34,18 +34,18 @@ pub data IsLimit : Refusal → Type 0 where
 infix 4 ◌≼◌
 pub data ◌≼◌ {A : Type 0} : Result A → Result A → Type 0 where
   equal : (r : Result A) → r ≼ r
-  stopped : {r : Refusal} {u : Result A} → IsLimit r → refused r ≼ u
+  stopped : {r : Refusal} {u : Result A} → IsLimit r → Err r ≼ u
 
 -- what answers without limits is refused for a limit alone
-pub limit-alone : {A : Type 0} {x y : Result A} {a : A} {r : Refusal} → x ≼ y → y ≡ ok a → x ≡ refused r → IsLimit r
+pub limit-alone : {A : Type 0} {x y : Result A} {a : A} {r : Refusal} → x ≼ y → y ≡ Ok a → x ≡ Err r → IsLimit r
 limit-alone {r = r} (stopped {r = s} h) e f = let same : s ≡ r = cc in subst IsLimit same h
 limit-alone (equal x) e f = let z : ◌≡◌ {A = ℕ} 0 1 = cc in absurd (omega arith)
 
 pub bind : {A B : Type 0} {m m' : Result A} {f f' : A → Result B} → m ≼ m' → ((a : A) → f a ≼ f' a) →
     (m >>= f) ≼ (m' >>= f')
 unfolding ◌>>=◌
-bind (equal (ok a)) h = h a
-bind (equal (refused r)) h = equal _
+bind (equal (Ok a)) h = h a
+bind (equal (Err r)) h = equal _
 bind (stopped p) h = stopped p
 
 module _ {B : Type 0} {y y' : Result B} where
@@ -55,9 +55,9 @@ module _ {B : Type 0} {y y' : Result B} where
   either false p q = q
 
   pub maybe : {A : Type 0} (o : Option A) {f f' : A → Result B} → ((a : A) → f a ≼ f' a) → y ≼ y' →
-      ◌≼◌ {A = B} (elim o [ some a ↦ f a | none ↦ y ]) (elim o [ some a ↦ f' a | none ↦ y' ])
-  maybe (some a) p q = p a
-  maybe none p q = q
+      ◌≼◌ {A = B} (elim o [ Some a ↦ f a | None ↦ y ]) (elim o [ Some a ↦ f' a | None ↦ y' ])
+  maybe (Some a) p q = p a
+  maybe None p q = q
 
 -- a limit is tested, and the Rust's test passes
 pub tested : (b c : Bool) {r : Refusal} → c ≡ true → IsLimit r → assert b r ≼ assert c r
@@ -70,13 +70,13 @@ tested false c e p = stopped p
 infix 4 ◌⊑◌
 data ◌⊑◌ : Reading → Reading → Type 0 where
   agrees : (r : Reading) → r ⊑ r
-  outside : {r : Reading} → OutOfRange ⊑ r
+  outside : {r : Reading} → Err OutOfRange ⊑ r
 
 bounded-limited : (b : Bound) (q : Rational) → bounded b q ⊑ bounded unbounded q
 unfolding bounded
 bounded-limited b q = at (within b (nat_abs q.num) && within b (nat_abs q.den))
   where
-    at : (c : Bool) → cond c (Value q) OutOfRange ⊑ Value q
+    at : (c : Bool) → cond c (Ok q) (Err OutOfRange) ⊑ Ok q
     at true = agrees _
     at false = outside
 
@@ -85,30 +85,30 @@ negated-limited (agrees r) = agrees _
 negated-limited outside = outside
 
 -- what refuses a number out of range by 11
-refusing : {A : Type 0} (f : Reading → Result A) {r s : Reading} → f OutOfRange ≡ refused number_range →
+refusing : {A : Type 0} (f : Reading → Result A) {r s : Reading} → f (Err OutOfRange) ≡ Err number_range →
     r ⊑ s → f r ≼ f s
 refusing f e (agrees r) = equal _
 refusing f e outside = rw e (stopped eleven)
 
 maybe-read : {A : Type 0} (o : Option A) {f g : A → Reading} {y z : Reading} → ((a : A) → f a ⊑ g a) → y ⊑ z →
-    ◌⊑◌ (elim o [ some a ↦ f a | none ↦ y ]) (elim o [ some a ↦ g a | none ↦ z ])
-maybe-read (some a) p q = p a
-maybe-read none p q = q
+    ◌⊑◌ (elim o [ Some a ↦ f a | None ↦ y ]) (elim o [ Some a ↦ g a | None ↦ z ])
+maybe-read (Some a) p q = p a
+maybe-read None p q = q
 
 over-read-limited : (b : Bound) (n : Reading) (d : Rational) → Readers.over b n d ⊑ Readers.over unbounded n d
-over-read-limited b (Value n) d = bounded-limited b _
-over-read-limited b NotNumber d = agrees _
-over-read-limited b OutOfRange d = agrees _
+over-read-limited b (Ok n) d = bounded-limited b _
+over-read-limited b (Err NotNumber) d = agrees _
+over-read-limited b (Err OutOfRange) d = agrees _
 
 divided-limited : (b : Bound) (a : Term) (d : Reading) → divided b a d ⊑ divided unbounded a d
-divided-limited b a (Value d) = at (is_zero d)
+divided-limited b a (Ok d) = at (is_zero d)
   where
-    at : (z : Bool) → ◌⊑◌ (elim z [ true ↦ NotNumber | false ↦ Readers.over b (as_signed_number a) d ])
-        (elim z [ true ↦ NotNumber | false ↦ Readers.over unbounded (as_signed_number a) d ])
+    at : (z : Bool) → ◌⊑◌ (elim z [ true ↦ Err NotNumber | false ↦ Readers.over b (as_signed_number a) d ])
+        (elim z [ true ↦ Err NotNumber | false ↦ Readers.over unbounded (as_signed_number a) d ])
     at true = agrees _
     at false = over-read-limited b (as_signed_number a) d
-divided-limited b a NotNumber = agrees _
-divided-limited b a OutOfRange = agrees _
+divided-limited b a (Err NotNumber) = agrees _
+divided-limited b a (Err OutOfRange) = agrees _
 
 module _ (l : Limits) where
   pub ranged-limited : (q : Rational) → ranged l q ≼ ranged the_rust q

@@ -10,7 +10,7 @@
 use mathlib.Core.Path.{◌≡◌, refl, sym, ap, subst}
 use mathlib.Core.Bool.{Bool, true, false}
 use mathlib.Core.List.{[], ◌∷◌}
-use mathlib.Core.Option.{Option, some, none}
+use Rattle.std.specs.Prelude.{Option, Some, None}
 use Prim.Native.Nat.{ℕ}
 use native.Mathlib.Omega.{arith}
 use Rattle.terms.specs.Operator.{Not, Equals, GreaterEq}
@@ -23,7 +23,7 @@ use Rattle.terms.proofs.Readings.{by_option, unary-shape, binary-shape}
 use Rattle.book.proofs.WellFormed.{WellFormed, AllWellFormed}
 use Rattle.book.proofs.BookTerms.{Each, Closed}
 use Rattle.rules.specs.Refusal.{Refusal, Result, ◌>>=◌, assert, or_else}
-use Rattle.rules.specs.Refusal.Outcome.{ok}
+use Rattle.std.specs.Prelude.{Ok}
 use Rattle.rules.specs.Shapes.{Clause, only_literal, unary_err, binary_err, negated_binary, assert_eq, is_relation}
 use Rattle.alethe.specs.Alethe.{Is, Is1, Is2, is, IsRelation, equals, less_than, less_eq, greater_than, greater_eq}
 use Rattle.rules.proofs.Yields.{Yields, gives, refuses}
@@ -32,11 +32,11 @@ use lib.Dec.{leb}
 use Rattle.terms.proofs.Operators.{by_number}
 use Rattle.rules.specs.Refusal.Refusal.{term_of_wrong_form}
 
-pub nothing-found : {A X : Type 0} {a : A} → none ≡ some a → X
+pub nothing-found : {A X : Type 0} {a : A} → None ≡ Some a → X
 nothing-found e = let z : ◌≡◌ {A = ℕ} 0 1 = cc in absurd (omega arith)
 
 -- a term of a shape is its operation
-pub operation_of_lem : {o : ℕ} {ts : Terms} {t : Term} → Is o ts t → as_op t ≡ some (o, ts)
+pub operation_of_lem : {o : ℕ} {ts : Terms} {t : Term} → Is o ts t → as_op t ≡ Some (o, ts)
 unfolding as_op
 operation_of_lem (is i) = refl
 
@@ -51,15 +51,15 @@ asserted true r h = gives (h refl)
 asserted false r h = refuses
 
 pub or_else_lem :
-    {A : Type 0} {Q : A → Type 0} (o : Option A) (r : Refusal) → ((a : A) → o ≡ some a → Q a) →
+    {A : Type 0} {Q : A → Type 0} (o : Option A) (r : Refusal) → ((a : A) → o ≡ Some a → Q a) →
     Yields Q (or_else o r)
 unfolding or_else
-or_else_lem (some a) r h = gives (h a refl)
-or_else_lem none r h = refuses
+or_else_lem (Some a) r h = gives (h a refl)
+or_else_lem None r h = refuses
 
 -- a rule that starts with `only_literal` answers for clauses of one literal alone
 pub one_literal :
-    {A : Type 0} {a : A} (c : Clause) (f : Term → Result A) → (only_literal c >>= f) ≡ ok a →
+    {A : Type 0} {a : A} (c : Clause) (f : Term → Result A) → (only_literal c >>= f) ≡ Ok a →
     (phi : Term) × (c ≡ phi ∷ [])
 unfolding only_literal ◌>>=◌
 one_literal [] f e = let z : ◌≡◌ {A = ℕ} 0 1 = cc in absurd (omega arith)
@@ -96,10 +96,10 @@ module _ {P : Term → Type 0} (closed : Closed P) where
   equal-yields a b p q = asserted (same a b) _ (closed.known a b p q)
 
   module _ (o : ℕ) (t : Term) (p : P t) where
-    pub unary-found : (a : Term) → unary o t ≡ some a → Found P o (a ▹ nil) t
+    pub unary-found : (a : Term) → unary o t ≡ Some a → Found P o (a ▹ nil) t
     unary-found a e = found o (a ▹ nil) t p (unary-shape o t a e)
 
-    pub binary-found : (q : Term × Term) → binary o t ≡ some q → Found P o (q.0 ▹ q.1 ▹ nil) t
+    pub binary-found : (q : Term × Term) → binary o t ≡ Some q → Found P o (q.0 ▹ q.1 ▹ nil) t
     binary-found q e = found o (q.0 ▹ q.1 ▹ nil) t p (binary-shape o t q e)
 
     pub unary_err-found : Yields (λ a. Found P o (a ▹ nil) t) (unary_err o t)
@@ -109,10 +109,10 @@ module _ {P : Term → Type 0} (closed : Closed P) where
     binary_err-found = or_else_lem (binary o t) _ binary-found
 
   module _ (o : ℕ) (t : Term) (p : P t) where
-    pub negated-found : (q : Term × Term) → negated_binary o t ≡ some q → NotFound P o t q
+    pub negated-found : (q : Term × Term) → negated_binary o t ≡ Some q → NotFound P o t q
     unfolding negated_binary remove_negation
     negated-found q =
-        by_option (unary Not t) (binary o) none (some q)
+        by_option (unary Not t) (binary o) None (Some q)
         (λ u e f.
         let h = unary-found Not t p u e in
         record { body = u; relation = binary-found o u h.inside.0 q f; negation = h.shape })
@@ -126,7 +126,7 @@ relation_of_lem o e =
     by_number 5 4 IsRelation o (leb-true Equals o h.0) (omega (arith, leb-true o GreaterEq h.1))
     equals less_than less_eq greater_than greater_eq
 
-pub as-op-shape : (t : Term) (q : ℕ × Terms) → as_op t ≡ some q → t ≡ op (record_number t) q.0 q.1
+pub as-op-shape : (t : Term) (q : ℕ × Terms) → as_op t ≡ Some q → t ≡ op (record_number t) q.0 q.1
 unfolding as_op
 as-op-shape (integer i v) q e = cc
 as-op-shape (rational i r) q e = cc
@@ -139,12 +139,12 @@ as-op-shape (op i o ts) q e = let h : ◌≡◌ {A = ℕ × Terms} (o, ts) q = c
 pub same_self : (t : Term) → same t t ≡ true
 same_self t = eq-eqb (record_number t) (record_number t) refl
 
-pub binary_of : {o : ℕ} {a b t : Term} → Is2 o a b t → binary o t ≡ some (a, b)
+pub binary_of : {o : ℕ} {a b t : Term} → Is2 o a b t → binary o t ≡ Some (a, b)
 unfolding binary
 binary_of {o} (is i) = rw (eq-eqb o o refl, binary)
 
 -- ---- along the steps
 
-pub binary_err_of : {o : ℕ} {a b t : Term} → Is2 o a b t → binary_err o t ≡ ok (a, b)
+pub binary_err_of : {o : ℕ} {a b t : Term} → Is2 o a b t → binary_err o t ≡ Ok (a, b)
 unfolding or_else
 binary_err_of h = ap (λ o. or_else o term_of_wrong_form) (binary_of h)

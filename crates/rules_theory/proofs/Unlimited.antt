@@ -10,12 +10,12 @@
 use mathlib.Core.Path.{◌≡◌, refl}
 use mathlib.Core.Bool.{Bool, true, false}
 use mathlib.Core.List.{[], ◌∷◌}
-use mathlib.Core.Option.{Option, some, none}
+use Rattle.std.specs.Prelude.{Option, Some, None}
 use Prim.Native.Nat.{ℕ, suc}
 use Rattle.numbers.specs.Rational.{Rational, add_q, mul_q, is_zero}
 use Rattle.terms.specs.Readers.{bounded}
 use Rattle.rules.specs.Refusal.{Refusal, Result, ◌>>=◌, assert}
-use Rattle.rules.specs.Refusal.Outcome.{ok}
+use Rattle.std.specs.Prelude.{Ok}
 use Rattle.rules.specs.Limits.{the_rust, ranged, times, plus}
 use Rattle.index_map.specs.IndexMap.{Map, Combination, Keys, Walked, scale_all, enter, insert, insert_all, add, neg, sub}
 use Rattle.index_map.specs.IndexMap.{visit, add_entry, add_constant}
@@ -25,16 +25,16 @@ use Rattle.rules_theory.proofs.Limited.{Unbounded}
 -- ---- results that are no refusals
 
 pub data Answers {A : Type 0} (P : A → Type 0) : Result A → Type 0 where
-  answers : {a : A} → P a → Answers P (ok a)
+  answers : {a : A} → P a → Answers P (Ok a)
 
 -- whatever the answer
 abbrev pub Free : {A : Type 0} → Result A → Type 0
 Free {A} x = Answers (λ (a : A). Unit {0}) x
 
-pub answer_of : {A : Type 0} {P : A → Type 0} {x : Result A} → Answers P x → (a : A) × ((x ≡ ok a) × P a)
+pub answer_of : {A : Type 0} {P : A → Type 0} {x : Result A} → Answers P x → (a : A) × ((x ≡ Ok a) × P a)
 answer_of (answers {a} p) = (a, (refl, p))
 
-pub answer_is : {A : Type 0} {P : A → Type 0} {x : Result A} {a : A} → x ≡ ok a → P a → Answers P x
+pub answer_is : {A : Type 0} {P : A → Type 0} {x : Result A} {a : A} → x ≡ Ok a → P a → Answers P x
 answer_is e p = rw e (answers p)
 
 module _ {A : Type 0} {P Q : A → Type 0} where
@@ -61,7 +61,7 @@ pub freely : {A B : Type 0} {Q : B → Type 0} {x : Result A} {f : A → Result 
     Answers Q (x >>= f)
 freely p h = answers-then p λ a t. h a
 
-pub free_of : {A : Type 0} {x : Result A} {a : A} → x ≡ ok a → Free x
+pub free_of : {A : Type 0} {x : Result A} {a : A} → x ≡ Ok a → Free x
 free_of e = answer_is e tt
 
 pub assert-free : (t : Bool) (r : Refusal) → t ≡ true → Free (assert t r)
@@ -75,21 +75,21 @@ module _ {A : Type 0} {P : A → Type 0} where
   either-free false p q = q
 
   pub option_free : {B : Type 0} (o : Option B) {f : B → Result A} {y : Result A} → ((b : B) → Answers P (f b)) →
-      Answers P y → Answers P (elim o as (λ z. Result A) [ some b ↦ f b | none ↦ y ])
-  option_free (some b) p q = p b
-  option_free none p q = q
+      Answers P y → Answers P (elim o as (λ z. Result A) [ Some b ↦ f b | None ↦ y ])
+  option_free (Some b) p q = p b
+  option_free None p q = q
 
 -- ---- numbers
 
-pub ranged-free : (q : Rational) → ranged the_rust q ≡ ok q
+pub ranged-free : (q : Rational) → ranged the_rust q ≡ Ok q
 unfolding ranged bounded
 ranged-free q = refl
 
-pub times-free : (a b : Rational) → times the_rust a b ≡ ok (mul_q a b)
+pub times-free : (a b : Rational) → times the_rust a b ≡ Ok (mul_q a b)
 unfolding times
 times-free a b = ranged-free (mul_q a b)
 
-pub plus-free : (a b : Rational) → plus the_rust a b ≡ ok (add_q a b)
+pub plus-free : (a b : Rational) → plus the_rust a b ≡ Ok (add_q a b)
 unfolding plus
 plus-free a b = ranged-free (add_q a b)
 

@@ -6,7 +6,7 @@
 --     written-accepted       without limits a rule that asks for a number takes it
 use mathlib.Core.Path.{◌≡◌, refl, sym, ◌∙◌, ap, subst}
 use mathlib.Core.Bool.{Bool, true, false}
-use mathlib.Core.Option.{some, Option, none}
+use Rattle.std.specs.Prelude.{Some, Option, None}
 use Prim.Native.Nat.{ℕ}
 use Rattle.numbers.specs.Rational.{Rational, whole, div_q, neg_q, is_zero}
 use Rattle.terms.specs.Operator.{Sub, IntDiv, RealDiv}
@@ -15,11 +15,9 @@ use Rattle.terms.specs.Term.Term.{integer, rational, bitvector, atom, op}
 use Rattle.terms.specs.Term.Terms.{nil, ◌▹◌}
 use Rattle.terms.specs.Readers.{unbounded, bounded, as_number, negated, as_signed_number, quotient_of, divided, over}
 use Rattle.terms.specs.Readers.{as_unsigned_fraction, as_fraction}
-use Rattle.terms.specs.declared.term.Reading.{Reading}
-use Rattle.terms.specs.declared.term.Reading.TheVariants.{Value, NotNumber, OutOfRange}
 use Rattle.terms.proofs.Readings.{by_option, not-number, out_of_range, unary-shape, binary-shape, quotient}
 use Rattle.rules.specs.Refusal.{◌>>=◌, or_else, Result}
-use Rattle.rules.specs.Refusal.Outcome.{ok}
+use Rattle.std.specs.Prelude.{Ok}
 use Rattle.rules.specs.Limits.{the_rust, fraction_of, fraction_err, Limits, number_or}
 use Rattle.alethe.specs.AletheTerms.{Is, Is1, Is2, is, Constant, Signed, IsDivision, Unsigned, Written}
 use Rattle.alethe.specs.AletheTerms.IsDivision.{div, slash}
@@ -30,15 +28,18 @@ use Rattle.rules.specs.Refusal.Refusal.{expected_any_number}
 use Rattle.rules.proofs.Yields.{Yields, gives, refuses, and_then}
 use Rattle.rules_theory.proofs.Limited.{◌≼◌, fraction_of-limited}
 use Rattle.rules_theory.proofs.Limited.◌≼◌.{equal, stopped}
+use Rattle.terms.specs.Readers.{Reading}
+use Rattle.std.specs.Prelude.{Err}
+use Rattle.terms.specs.declared.term.NotRead.TheVariants.{NotNumber, OutOfRange}
 
 -- ---- constants
 
-constant-read : {t : Term} {q : Rational} → Constant t q → as_number t ≡ Value q
+constant-read : {t : Term} {q : Rational} → Constant t q → as_number t ≡ Ok q
 unfolding as_number
 constant-read (Constant.whole i z) = refl
 constant-read (Constant.fraction i q) = refl
 
-read-constant : (t : Term) (q : Rational) → as_number t ≡ Value q → Constant t q
+read-constant : (t : Term) (q : Rational) → as_number t ≡ Ok q → Constant t q
 unfolding as_number
 read-constant (integer i z) q e = let h : whole z ≡ q = cc in subst (Constant (integer i z)) h (Constant.whole i z)
 read-constant (rational i p) q e = let h : p ≡ q = cc in subst (Constant (rational i p)) h (Constant.fraction i p)
@@ -47,29 +48,29 @@ read-constant (atom i s n) q e = not-number e
 read-constant (op i o ts) q e = not-number e
 
 -- a minus before what is read so
-is_unary : (o : ℕ) (t x : Term) → unary o t ≡ some x → Is1 o x t
+is_unary : (o : ℕ) (t x : Term) → unary o t ≡ Some x → Is1 o x t
 is_unary o t x e = subst (Is o (x ▹ nil)) (sym (unary-shape o t x e)) (is (record_number t))
 
-is_binary : (o : ℕ) (t : Term) (p : Term × Term) → binary o t ≡ some p → Is2 o p.0 p.1 t
+is_binary : (o : ℕ) (t : Term) (p : Term × Term) → binary o t ≡ Some p → Is2 o p.0 p.1 t
 is_binary o t p e = subst (Is o (p.0 ▹ p.1 ▹ nil)) (sym (binary-shape o t p e)) (is (record_number t))
 
 -- what a reading's opposite is read from
 of_negated :
-    {A : Type 0} (r : Reading) (q : Rational) → ((p : Rational) → r ≡ Value p → neg_q p ≡ q → A) →
-    negated r ≡ Value q → A
-of_negated (Value p) q f e = f p refl cc
-of_negated NotNumber q f e = not-number e
-of_negated OutOfRange q f e = out_of_range e
+    {A : Type 0} (r : Reading) (q : Rational) → ((p : Rational) → r ≡ Ok p → neg_q p ≡ q → A) →
+    negated r ≡ Ok q → A
+of_negated (Ok p) q f e = f p refl cc
+of_negated (Err NotNumber) q f e = not-number e
+of_negated (Err OutOfRange) q f e = out_of_range e
 
 -- ---- signed constants
 
-pub signed-read : {t : Term} {q : Rational} → Signed t q → as_signed_number t ≡ Value q
+pub signed-read : {t : Term} {q : Rational} → Signed t q → as_signed_number t ≡ Ok q
 unfolding as_signed_number as_number unary
 signed-read (Signed.plain (Constant.whole i z)) = refl
 signed-read (Signed.plain (Constant.fraction i q)) = refl
 signed-read (Signed.minus (is i) c) = ap negated (constant-read c)
 
-pub read-signed : (t : Term) (q : Rational) → as_signed_number t ≡ Value q → Signed t q
+pub read-signed : (t : Term) (q : Rational) → as_signed_number t ≡ Ok q → Signed t q
 unfolding as_signed_number
 read-signed t q =
     by_option (unary Sub t) _ _ _
@@ -81,35 +82,35 @@ read-signed t q =
 -- ---- quotients
 
 divided-read :
-    (a b : Term) (p q : Rational) → as_signed_number a ≡ Value p → as_signed_number b ≡ Value q → is_zero q ≡ false →
-    divided unbounded a (as_signed_number b) ≡ Value (div_q p q)
+    (a b : Term) (p q : Rational) → as_signed_number a ≡ Ok p → as_signed_number b ≡ Ok q → is_zero q ≡ false →
+    divided unbounded a (as_signed_number b) ≡ Ok (div_q p q)
 unfolding bounded
 divided-read a b p q ea eb z =
     ap (divided unbounded a) eb
-    ∙ ap (λ (t : Bool). elim t as (λ x. Reading) [ true ↦ NotNumber | false ↦ over unbounded (as_signed_number a) q ]) z
+    ∙ ap (λ (t : Bool). elim t as (λ x. Reading) [ true ↦ Err NotNumber | false ↦ over unbounded (as_signed_number a) q ]) z
     ∙ ap (λ (r : Reading). over unbounded r q) ea
 
-unsigned-read : {t : Term} {q : Rational} → Unsigned t q → as_unsigned_fraction unbounded t ≡ Value q
+unsigned-read : {t : Term} {q : Rational} → Unsigned t q → as_unsigned_fraction unbounded t ≡ Ok q
 unfolding as_unsigned_fraction quotient_of binary as_number
 unsigned-read (Unsigned.constant (Constant.whole i z)) = refl
 unsigned-read (Unsigned.constant (Constant.fraction i q)) = refl
 unsigned-read (Unsigned.quotient div (is i) a b z) = divided-read _ _ _ _ (signed-read a) (signed-read b) z
 unsigned-read (Unsigned.quotient slash (is i) a b z) = divided-read _ _ _ _ (signed-read a) (signed-read b) z
 
-read-quotient : {o : ℕ} → IsDivision o → (t : Term) (p : Term × Term) → binary o t ≡ some p → (q : Rational) →
-    divided unbounded p.0 (as_signed_number p.1) ≡ Value q → Unsigned t q
+read-quotient : {o : ℕ} → IsDivision o → (t : Term) (p : Term × Term) → binary o t ≡ Some p → (q : Rational) →
+    divided unbounded p.0 (as_signed_number p.1) ≡ Ok q → Unsigned t q
 read-quotient {o} d t p u q e =
     let h = quotient p.0 p.1 q e in
     subst (Unsigned t) h.is
     (Unsigned.quotient d (is_binary o t p u) (read-signed p.0 h.dividend h.above)
     (read-signed p.1 h.divisor h.below) h.nonzero)
 
-read-unsigned : (t : Term) (q : Rational) → as_unsigned_fraction unbounded t ≡ Value q → Unsigned t q
+read-unsigned : (t : Term) (q : Rational) → as_unsigned_fraction unbounded t ≡ Ok q → Unsigned t q
 unfolding as_unsigned_fraction quotient_of
 read-unsigned t q =
     by_option (quotient_of t) _ _ _
     (λ p u e.
-    by_option (binary IntDiv t) some (binary RealDiv t) (some p)
+    by_option (binary IntDiv t) Some (binary RealDiv t) (Some p)
     (λ r v f. read-quotient div t p (v ∙ f) q e) (λ v f. read-quotient slash t p f q e) u)
     (λ u e. Unsigned.constant (read-constant t q e))
 
@@ -126,15 +127,15 @@ minus-read : (i : ℕ) (t : Term) → as_fraction unbounded (op i Sub (t ▹ nil
 unfolding as_fraction unary
 minus-read i t = refl
 
-pub written_read : {t : Term} {q : Rational} → Written t q → as_fraction unbounded t ≡ Value q
+pub written_read : {t : Term} {q : Rational} → Written t q → as_fraction unbounded t ≡ Ok q
 written_read (Written.plain u) = plain-read u ∙ unsigned-read u
 written_read (Written.minus {t} (is i) u) = minus-read i t ∙ ap negated (unsigned-read u)
 
-pub written-accepted : {t : Term} {q : Rational} → Written t q → fraction_err the_rust t ≡ ok q
+pub written-accepted : {t : Term} {q : Rational} → Written t q → fraction_err the_rust t ≡ Ok q
 unfolding fraction_err fraction_of ◌>>=◌ or_else
 written-accepted w = rw (written_read w)
 
-pub read-written : (t : Term) (q : Rational) → as_fraction unbounded t ≡ Value q → Written t q
+pub read-written : (t : Term) (q : Rational) → as_fraction unbounded t ≡ Ok q → Written t q
 unfolding as_fraction
 read-written t q =
     by_option (unary Sub t) _ _ _
@@ -156,8 +157,8 @@ abbrev pub Unwritten : Term → Type 0
 Unwritten t = (q : Rational) → Written t q → ⊥
 
 abbrev pub Reads : Term → Option Rational → Type 0
-Reads t (some q) = Written t q
-Reads t none = Unwritten t
+Reads t (Some q) = Written t q
+Reads t None = Unwritten t
 
 -- under any limits
 pub fraction-written : (l : Limits) (t : Term) → Yields (Reads t) (fraction_of l t)
@@ -169,9 +170,9 @@ fraction-written l t = under (fraction_of-limited l t) (go (as_fraction unbounde
     under (stopped p) h = refuses
 
     go : (r : Reading) → as_fraction unbounded t ≡ r → Yields (Reads t) (number_or r)
-    go (Value q) e = gives (read-written t q e)
-    go NotNumber e = gives {a = none} λ q w. not-number (sym e ∙ written_read w)
-    go OutOfRange e = refuses
+    go (Ok q) e = gives (read-written t q e)
+    go (Err NotNumber) e = gives {a = None} λ q w. not-number (sym e ∙ written_read w)
+    go (Err OutOfRange) e = refuses
 
 -- ---- written numbers
 
@@ -180,5 +181,5 @@ unfolding fraction_err or_else
 fraction-found l t = and_then (fraction-written l t) go
   where
     go : (o : Option Rational) → Reads t o → Yields (Written t) (or_else o expected_any_number)
-    go (some q) w = gives w
-    go none u = refuses
+    go (Some q) w = gives w
+    go None u = refuses

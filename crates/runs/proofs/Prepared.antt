@@ -12,11 +12,11 @@ use lib.Seq.{get_or-set_same, get_or-set_other}
 use Rattle.numbers.specs.Bytes.{Bytes}
 use Rattle.terms.specs.Term.{sort, sort_code}
 use Rattle.terms.specs.Book.{count, tree, read_book, put_sorts, records_read, BookDone}
-use Rattle.terms.specs.declared.reading.BookRead.{BookRead}
-use Rattle.terms.specs.declared.reading.BookRead.TheVariants.{Records}
 use Rattle.book.proofs.BookReading.{length-put_sorts}
 use Rattle.book.proofs.Accepted.{accepted-count, accepted-layout}
 use Rattle.rules.specs.Memory.Parts.{Ready}
+use Rattle.terms.specs.Book.{BookRead}
+use Rattle.std.specs.Prelude.{Ok}
 
 -- a byte that was written is a sort
 sort-written : (n : ℕ) (b w : Bytes) (j : ℕ) → n ≤ length w → j < n → get_or (put_sorts n b w) j 0 ≡ sort_code (sort (tree b j))
@@ -59,9 +59,9 @@ drop-replicate (suc k) n x = ap (λ m. drop (suc k) (replicate m x)) (suc-plus k
     suc-plus m l = omega arith
 
 pub prepared :
-    (b w : Bytes) (r : BookRead) (n : ℕ) → BookDone b (replicate 65536 0) w r → r ≡ Records n → Ready b w
+    (b w : Bytes) (r : BookRead) (n : ℕ) → BookDone b (replicate 65536 0) w r → r ≡ Ok n → Ready b w
 prepared b w r n done e =
-    let read : read_book b ≡ Records n = sym done.is ∙ e in
+    let read : read_book b ≡ Ok n = sym done.is ∙ e in
     let all : n ≡ count b = accepted-count b n read in
     let few : n ≤ 2048 = omega arith in
     let bytes : w ≡ put_sorts n b (replicate 65536 0) = done.sorts ∙ ap (λ x. put_sorts (records_read x) b (replicate 65536 0)) e in

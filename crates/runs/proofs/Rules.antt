@@ -2,7 +2,7 @@
 use mathlib.Core.Path.{◌≡◌, refl, sym, ◌∙◌, ap}
 use mathlib.Core.Bool.{Bool, true, false}
 use mathlib.Core.List.{List, [], ◌∷◌}
-use mathlib.Core.Option.{Option, some}
+use Rattle.std.specs.Prelude.{Option, Some}
 use Prim.Native.Nat.{ℕ}
 use native.Mathlib.Omega.{arith}
 use borrow.Author.Tests.{eqb-true}
@@ -11,7 +11,7 @@ use Rattle.runs.specs.Rule.{Rule, rule_number, rules, with_number, rule_of, is_r
 use Rattle.runs.specs.Rule.Rule.{assume, la_rw_eq, la_disequality, la_totality, la_tautology, la_generic, bounded_farkas}
 use Rattle.runs.specs.Rule.Rule.{poly_simp, poly_simp_rel}
 
-pub rule-back : (r : Rule) → rule_of (rule_number r) ≡ some r
+pub rule-back : (r : Rule) → rule_of (rule_number r) ≡ Some r
 unfolding rule_of with_number
 rule-back assume = refl
 rule-back la_rw_eq = refl
@@ -23,24 +23,24 @@ rule-back bounded_farkas = refl
 rule-back poly_simp = refl
 rule-back poly_simp_rel = refl
 
-number_of : (rs : List Rule) (n : ℕ) (r : Rule) → with_number rs n ≡ some r → rule_number r ≡ n
+number_of : (rs : List Rule) (n : ℕ) (r : Rule) → with_number rs n ≡ Some r → rule_number r ≡ n
 unfolding with_number
 number_of [] n r e = let z : ◌≡◌ {A = ℕ} 0 1 = cc in absurd (omega arith)
 number_of (x ∷ rs) n r e = go (eqb (rule_number x) n) refl e (number_of rs n r)
   where
     go :
         (t : Bool) → eqb (rule_number x) n ≡ t →
-        ◌≡◌ {A = Option Rule} (elim t [ true ↦ some x | false ↦ with_number rs n ]) (some r) →
-        (with_number rs n ≡ some r → rule_number r ≡ n) → rule_number r ≡ n
+        ◌≡◌ {A = Option Rule} (elim t [ true ↦ Some x | false ↦ with_number rs n ]) (Some r) →
+        (with_number rs n ≡ Some r → rule_number r ≡ n) → rule_number r ≡ n
     go true f e rest = let h : r ≡ x = cc in rw h (eqb-true (rule_number x) n f)
     go false f e rest = rest e
 
-pub rule-number : (n : ℕ) (r : Rule) → rule_of n ≡ some r → rule_number r ≡ n
+pub rule-number : (n : ℕ) (r : Rule) → rule_of n ≡ Some r → rule_number r ≡ n
 unfolding rule_of
 rule-number n r e = number_of rules n r e
 
 pub same-rule : (r s : Rule) → is_rule r s ≡ true → r ≡ s
 same-rule r s e =
     let f : rule_number r ≡ rule_number s = eqb-true (rule_number r) (rule_number s) e in
-    let h : ◌≡◌ {A = Option Rule} (some r) (some s) = sym (rule-back r) ∙ ap rule_of f ∙ rule-back s in
+    let h : ◌≡◌ {A = Option Rule} (Some r) (Some s) = sym (rule-back r) ∙ ap rule_of f ∙ rule-back s in
     cc

@@ -80,6 +80,25 @@ pub head_is : (p : Bytes) → 4 ≤ length p → recs p ≡ head_in p ∷ recs (
 unfolding head_in
 head_is p h = recs_cons p 0 (omega (arith, h)) ∙ ap (λ rs. rec_at p 0 ∷ rs) (sym (recs-drop p 1))
 
+-- chunk by chunk
+pub less_recs : (l : Bytes) → length l < 4 → recs l ≡ []
+unfolding recs
+less_recs [] h = refl
+less_recs (m ∷ []) h = refl
+less_recs (m ∷ b ∷ []) h = refl
+less_recs (m ∷ b ∷ x ∷ []) h = refl
+less_recs (m ∷ b ∷ x ∷ y ∷ l) h = absurd (omega arith)
+
+pub more_recs : (p l : Bytes) → length p ≡ 4 → recs (p ++ l) ≡ head_in p ∷ recs l
+unfolding recs head_in
+more_recs [] l h = absurd (omega arith)
+more_recs (m ∷ []) l h = absurd (omega arith)
+more_recs (m ∷ b ∷ []) l h = absurd (omega arith)
+more_recs (m ∷ b ∷ x ∷ []) l h = absurd (omega arith)
+more_recs (m ∷ b ∷ x ∷ y ∷ []) l h =
+    ap (λ n. rec m b n ∷ recs l) (le_of_two (m ∷ b ∷ x ∷ y ∷ []) 2 x y (omega arith) refl refl)
+more_recs (m ∷ b ∷ x ∷ y ∷ z ∷ p) l h = absurd (omega arith)
+
 -- ---- the records in front that have a mark
 
 module _ (m : ℕ) where

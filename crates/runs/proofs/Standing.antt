@@ -6,7 +6,7 @@
 use mathlib.Core.Path.{◌≡◌, refl, sym, ap, ◌∙◌}
 use mathlib.Core.Bool.{Bool, true}
 use mathlib.Core.List.{List, [], ◌∷◌, ◌++◌}
-use mathlib.Core.Option.{Option, some, none}
+use Rattle.std.specs.Prelude.{Option, Some, None}
 use Prim.Native.Nat.{ℕ, zero, suc, ◌/◌, ◌%◌, ◌≤◌, ◌<◌}
 use native.Mathlib.Numerals.{add-one}
 use native.Mathlib.Omega.{arith}
@@ -20,7 +20,7 @@ use Rattle.terms.specs.Term.Sort.{bool}
 use Rattle.terms.specs.Book.{count, tree, all_below}
 use Rattle.numbers.proofs.Truths.{both}
 use Rattle.rules.specs.Refusal.{or_else}
-use Rattle.rules.specs.Refusal.Outcome.{ok}
+use Rattle.std.specs.Prelude.{Ok}
 use Rattle.rules.specs.Memory.Parts.{numbers_in, Inside}
 use Rattle.rules.proofs.Yields.{Yields, at_ok, by_answer, guarded, known, through}
 use Rattle.rules.proofs.Yields.Yields.{gives}
@@ -40,15 +40,15 @@ use Rattle.runs.proofs.StepReading.{read_part, part-done, part_first}
 
 -- what reading tests of step n
 pub record Tested (b : Bytes) (n : ℕ) (part : Bytes) : Type 0 where
-  pub head : head_rule (head_in part) ≡ some (rule_in part)
+  pub head : head_rule (head_in part) ≡ Some (rule_in part)
   pub premises : all_right (λ p. ltb p n) (recs (premises_in part)) ≡ true
   pub clause : all_right (is_literal b) (recs (clause_in part)) ≡ true
   pub args : all_right (λ a. ltb a (count b)) (recs (args_in part)) ≡ true
 
-some_of : {E A : Type 0} (o : Option A) (r : E) {a : A} → or_else o r ≡ ok a → o ≡ some a
+some_of : {E A : Type 0} (o : Option A) (r : E) {a : A} → or_else o r ≡ Ok a → o ≡ Some a
 unfolding or_else
-some_of (some b) r e = cc
-some_of none r e = let z : ◌≡◌ {A = ℕ} 0 1 = cc in absurd (omega arith)
+some_of (Some b) r e = cc
+some_of None r e = let z : ◌≡◌ {A = ℕ} 0 1 = cc in absurd (omega arith)
 
 read_as :
     (b : Bytes) (n : ℕ) (part : Bytes) → Yields (λ s. Tested b n part × (s ≡ step_in b part)) (read_in b n part)
@@ -64,13 +64,13 @@ read_as b n part =
     let a = terms_of_lem b (args_in part) in
     let found = some_of (head_rule (head_in part)) run_record e1 in
     let same = rule_is part (head-rule (head_in part) found) in
-    gives (record { head = found ∙ ap some (sym same); premises = e2; clause = e3; args = e4 }, rw (same, p, c, a))
+    gives (record { head = found ∙ ap Some (sym same); premises = e2; clause = e3; args = e4 }, rw (same, p, c, a))
 
 -- ---- the steps that are left
 
 -- the part is read as the steps ss, the first of them step n
 record Reads (b : Bytes) (n : ℕ) (part : Bytes) (ss : List Step) : Type 0 where
-  read : read_part b n part ≡ ok ss
+  read : read_part b n part ≡ Ok ss
   whole : length part % 4 ≡ 0
 
 -- its first step, and the others
@@ -93,7 +93,7 @@ module _ {b : Bytes} {n : ℕ} {ss : List Step} where
       let size : 4 ≤ length part = omega (arith, h.whole) in
       let first = through (read_in b n part) _ ss (sym (part_first b n part size) ∙ h.read) in
       let rest = through (read_part b (suc n) (next_in part)) _ ss first.then in
-      let made : ok (first.middle ∷ rest.middle) ≡ ok ss = rest.then in
+      let made : Ok (first.middle ∷ rest.middle) ≡ Ok ss = rest.then in
       let found = at_ok (read_as b n part) first.first in
       let is : first.middle ≡ step_in b part = found.1 in
       record {
@@ -151,7 +151,7 @@ run-read b run =
       reads = record { read = rw (length-recs run) r; whole = whole };
     }
 
-module _ (b run : Bytes) (ss : List Step) (read : read_run b run ≡ ok ss) where
+module _ (b run : Bytes) (ss : List Step) (read : read_run b run ≡ Ok ss) where
   pub read-steps : steps_of b run ≡ ss
   read-steps = rw (read, steps_of)
 
@@ -228,7 +228,7 @@ module _ {b run part : Bytes} (s : StandsIn b run part) where
   stands-tested = read_here.tested
 
   -- the rule has the byte of its number
-  pub stands-rule : rule_of (get_or part 1 0) ≡ some (rule_in part)
+  pub stands-rule : rule_of (get_or part 1 0) ≡ Some (rule_in part)
   unfolding head_in
   stands-rule = head-rule (head_in part) stands-tested.head
 

@@ -1,58 +1,41 @@
 -- The functions that find the parts of a step in lent bytes.
---     Counted, counted-begin, counted-again, counted_stop, counted-end       `leading_count`
+--     leading-prefix       `leading_count`
 --     leading-inside, after-found       `after`: the part that is taken
 --     literals-inside, arguments-inside, next-inside, parts-found       `parts`: what is left behind each part
---     premises-end .. next-found       the parts, by where they end
+--     clause-start .. next-found       the parts, by where they end
 --     Reached, reached-begin, reached-again, reached-end       `step_at`
 use mathlib.Core.Path.{◌≡◌, refl, sym, ap, ◌∙◌}
-use mathlib.Core.List.{[], ◌∷◌, ◌++◌, append_assoc}
-use Prim.Native.Nat.{ℕ, suc, ◌+◌, ◌*◌, ◌-◌, ◌/◌, ◌≤◌, ◌<◌}
+use mathlib.Core.Bool.{Bool, true, false, cond}
+use mathlib.Core.List.{List, [], ◌∷◌, ◌++◌, append_assoc}
+use Prim.Native.Nat.{ℕ, ◌+◌, ◌*◌, ◌-◌, ◌≤◌, ◌<◌}
 use native.Mathlib.Numerals.{add-one}
 use native.Mathlib.Omega.{arith}
-use borrow.Author.Tests.{eq-eqb, ne_eqb}
-use lib.ListN.{length, get_or, take, drop, length-append, length-take, drop_of_length-le, take-append-drop}
+use lib.Dec.{eqb}
+use lib.ListN.{length, take, drop, length-append, length-take, take-append-drop}
 use lib.Seq.{take_at, drop_at}
 use Rattle.numbers.specs.Bytes.{Bytes}
 use Rattle.rules.proofs.RunParts.{drop_to_end}
-use Rattle.runs.specs.Run.{recs, leading, P, C, A}
+use Rattle.std.specs.List.{prefix_len}
+use Rattle.runs.specs.Run.{Rec, recs, leading, P, C, A}
 use Rattle.runs.specs.Memory.StepParts.{leading_in, after_in, premises_in, clause_in, args_in, next_in, bytes_in}
 use Rattle.runs.specs.Memory.StepParts.{parts_in, step_from}
 use Rattle.runs.specs.declared.run.StepParts.{StepParts}
-use Rattle.runs.proofs.RunRecords.{length-recs, rec_at, recs_cons, leading-has, leading-stops, leading-take}
+use Rattle.runs.proofs.RunRecords.{length-recs, leading-take}
 use Rattle.runs.proofs.RunRecords.{cut, next-drop, next-shorter, bytes-within, part_from}
 
 -- ---- how many records in front have a mark
 
 module _ (part : Bytes) (m : ℕ) where
-  -- the first k records have it
-  pub record Counted (k : ℕ) : Type 0 where
-    pub inside : k ≤ length part / 4
-    pub counts : length (leading m (recs part)) ≡ k + length (leading m (drop k (recs part)))
-
-  pub counted-begin : Counted 0
-  counted-begin = record { inside = omega arith; counts = omega arith }
-
-  module _ (k : ℕ) (counted : Counted k) where
-    module _ (h : k < length part / 4) where
-      here : length (leading m (recs part)) ≡ k + length (leading m (rec_at part k ∷ drop (suc k) (recs part)))
-      here = counted.counts ∙ ap (λ rs. k + length (leading m rs)) (recs_cons part k h)
-
-      pub counted-again : get_or part (4 * k) 0 ≡ m → Counted (k + 1)
-      counted-again e =
-          let has = ap length (leading-has m (rec_at part k) (drop (suc k) (recs part)) (eq-eqb _ _ e)) in
-          record { inside = omega (arith, h); counts = rw add-one (omega (arith, here, has)) }
-
-      pub counted_stop : (get_or part (4 * k) 0 ≡ m → ⊥) → k ≡ length (leading m (recs part))
-      counted_stop e =
-          let stops = ap length (leading-stops m (rec_at part k) (drop (suc k) (recs part)) (ne_eqb _ _ e)) in
-          omega (arith, here, stops)
-
-    pub counted-end : length part / 4 ≤ k → length part / 4 ≡ length (leading m (recs part))
-    unfolding leading
-    counted-end h =
-        let past = drop_of_length-le (recs part) {i = k} (omega (arith, h, length-recs part)) in
-        let none = ap (λ rs. length (leading m rs)) past in
-        omega (arith, h, counted.inside, counted.counts, none)
+  pub leading-prefix : (rs : List Rec) → prefix_len (λ r. eqb r.mark m) rs ≡ length (leading m rs)
+  unfolding leading
+  leading-prefix [] = refl
+  leading-prefix (r ∷ rs) = go (eqb r.mark m) (leading-prefix rs)
+    where
+      go :
+          (t : Bool) → prefix_len (λ r. eqb r.mark m) rs ≡ length (leading m rs) →
+          cond t (1 + prefix_len (λ r. eqb r.mark m) rs) 0 ≡ length {A = Rec} (elim t [ true ↦ r ∷ leading m rs | false ↦ [] ])
+      go true h = omega (arith, h)
+      go false h = refl
 
   -- ---- the part with these n records, and the part behind them
 
@@ -172,9 +155,6 @@ module _
 -- ---- the parts, by where they end
 
 module _ (step : Bytes) {p : StepParts} (is : p ≡ parts_in step) where
-  pub premises-end : p.premises ≤ length step
-  premises-end = rw is (omega arith)
-
   pub clause-start : p.premises ≤ p.clause
   clause-start = rw is (omega (arith, after-size C (literals_of step)))
 
@@ -188,7 +168,7 @@ module _ (step : Bytes) {p : StepParts} (is : p ≡ parts_in step) where
   pub args_end : p.args ≤ length step
   args_end = rw is (bytes-within step)
 
-  pub premises-found : drop (4 * 1) (take (p.premises - 0) step) ≡ premises_in step
+  pub premises-found : drop 4 (take p.premises step) ≡ premises_in step
   premises-found =
       let front = take 4 step ++ premises_in step in
       let n : ℕ = length step - length (literals_of step) in
@@ -196,11 +176,7 @@ module _ (step : Bytes) {p : StepParts} (is : p ≡ parts_in step) where
       let taken : take n step ≡ front =
       ap (take n) (sym (literals-cut step)) ∙ take_at front (literals_of step) n size
       in
-      let all : n - 0 ≡ n = omega arith in
-      ap (λ q. drop 4 (take (q.premises - 0) step)) is
-      ∙ ap (λ k. drop 4 (take k step)) all
-      ∙ ap (drop 4) taken
-      ∙ head_apart step
+      ap (λ q. drop 4 (take q.premises step)) is ∙ ap (drop 4) taken ∙ head_apart step
 
   pub clause-found : take (p.clause - p.premises) (drop p.premises step) ≡ clause_in step
   unfolding clause_in

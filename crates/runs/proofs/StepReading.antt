@@ -1,6 +1,5 @@
 -- Reading a run: what the functions of the code that read steps answer is what the definitions say.
---     Right, right-begin .. right_on       walking over records, each of which must be right
---     literal-code, no_literal       a Bool term, by the code of its sort
+--     is_right, all_right_all       records, each of which must be right
 --     other-rule, shape-counts       the shape of a step, by how many records it has of each mark
 --     step-tests, not-read       a step is read if all tests hold; otherwise it is refusal 7
 --     read_part, part-done .. part-wrong       the steps of a part are its first step and those of what follows
@@ -9,89 +8,48 @@
 use mathlib.Core.Path.{◌≡◌, refl, sym, ap, ◌∙◌, subst}
 use mathlib.Core.Bool.{Bool, true, false, ◌&&◌, and_assoc}
 use mathlib.Core.List.{List, [], ◌∷◌}
-use mathlib.Core.Option.{Option, some, none}
-use Prim.Native.Nat.{ℕ, zero, suc, ◌+◌, ◌*◌, ◌/◌, ◌%◌, ◌≤◌, ◌<◌}
+use Rattle.std.specs.Prelude.{Option, Some, None}
+use Prim.Native.Nat.{ℕ, zero, suc, ◌+◌, ◌/◌, ◌%◌, ◌≤◌, ◌<◌}
 use native.Mathlib.Numerals.{add-one}
-use native.Mathlib.Nat.{add-zero}
 use native.Mathlib.Omega.{arith}
-use borrow.Author.Tests.{eq-eqb, ne_eqb, le-leb, lt-leb, lt-ltb, le-ltb}
+use borrow.Author.Tests.{eq-eqb, ne_eqb, le-leb, lt-leb}
 use lib.Dec.{eqb, leb, ltb}
 use lib.ListN.{length, get_or, drop, length-drop}
-use lib.Seq.{get_or-drop}
-use Rattle.numbers.specs.Bytes.{Bytes, le}
-use Rattle.terms.specs.Book.{count, SortsBelow}
-use Rattle.terms.proofs.Layouts.{all, Walk, walk_on, walk_fails, walk_end}
+use Rattle.numbers.specs.Bytes.{Bytes}
+use Rattle.terms.specs.Book.{count}
+use Rattle.std.specs.List.{list_all}
 use Rattle.numbers.proofs.Truths.{never}
 use Rattle.terms.specs.Format.{max_run_bytes, max_run_records}
-use Rattle.rules.specs.Refusal.{Outcome, ◌>>=◌, assert, or_else}
-use Rattle.rules.specs.Refusal.Outcome.{ok, refused}
+use Rattle.rules.specs.Refusal.{◌>>=◌, assert, or_else}
+use Rattle.std.specs.Prelude.{Result, Ok, Err}
 use Rattle.runs.specs.Verdict.{LentRefusal}
 use Rattle.runs.specs.Verdict.LentRefusal.{run_record}
 use Rattle.runs.specs.Rule.{Rule, rule_of}
-use Rattle.runs.specs.Run.{Step, Rec, rec, P, C, A, recs, leading, after, all_right, is_empty, shape_ok, head_rule}
+use Rattle.runs.specs.Run.{Step, Rec, P, C, A, recs, leading, after, all_right, is_empty, shape_ok, head_rule}
 use Rattle.runs.specs.Run.{read_step, read_steps, read_run}
 use Rattle.runs.specs.Memory.StepParts.{after_in, premises_in, clause_in, args_in, next_in, bytes_in, head_in, parts_ok}
-use Rattle.runs.specs.Memory.StepParts.{read_in, parts_in, rule_in, is_ok, run_read_of}
+use Rattle.runs.specs.Memory.StepParts.{read_in, parts_in, rule_in, run_read_of}
+use Rattle.std.specs.Prelude.{is_ok}
 use Rattle.runs.specs.declared.run.StepParts.{StepParts}
 use Rattle.runs.specs.declared.run.RunRead.{RunRead}
 use Rattle.runs.specs.declared.run.RunRead.TheVariants as run_read
-use Rattle.rules.specs.Memory.Parts.{is_some}
+use Rattle.std.specs.Prelude.{is_some}
 use Rattle.runs.proofs.Rules.{rule-number}
 use Rattle.runs.proofs.StepRules.{head-rule, rule_is}
-use Rattle.runs.proofs.RunRecords.{length-recs, rec_at, recs_cons, head_is, after-drop, recs-leading, recs-after}
+use Rattle.runs.proofs.RunRecords.{length-recs, head_is, after-drop, recs-leading, recs-after}
 use Rattle.runs.proofs.RunRecords.{bytes-least, next-drop, whole-next, part_from}
 use Rattle.runs.proofs.StepAreas.{next-found}
 use Rattle.runs.proofs.RowRecords.{is_literal}
-
--- record k
-record_at : (p : Bytes) (k : ℕ) (d : Rec) → k < length p / 4 → rec_at p k ≡ get_or (recs p) k d
-record_at p k d h =
-    ap (λ (l : List Rec). get_or l 0 d) (sym (recs_cons p k h))
-    ∙ get_or-drop k (recs p) 0 d
-    ∙ ap (λ i. get_or (recs p) i d) (add-zero k)
 
 -- ---- each record is right
 
 abbrev pub is_right : (ℕ → Bool) → Rec → Bool
 is_right test r = eqb r.byte 0 && test r.number
 
-all_right_all : (test : ℕ → Bool) (l : List Rec) → all (is_right test) l ≡ all_right test l
+pub all_right_all : (test : ℕ → Bool) (l : List Rec) → list_all (is_right test) l ≡ all_right test l
 unfolding all_right
 all_right_all test [] = refl
 all_right_all test (r ∷ l) = ap (λ (b : Bool). is_right test r && b) (all_right_all test l)
-
--- the walk over the m records of a part is at k
-pub record Right (test : ℕ → Bool) (part : Bytes) (m k : ℕ) : Type 0 where
-  pub walk : Walk (is_right test) (recs part) m k (all_right test (recs part))
-
-pub right-begin : (test : ℕ → Bool) (part : Bytes) → Right test part (length part / 4) 0
-right-begin test part =
-    record { walk = record { long = length-recs part; inside = omega arith; left = all_right_all test (recs part) } }
-
-module _ {test : ℕ → Bool} {part : Bytes} {m k : ℕ} (w : Right test part m k) where
-  pub right_end : m ≤ k → true ≡ all_right test (recs part)
-  right_end h = walk_end w.walk h
-
-  module _ (h : k < m) where
-    here : rec_at part k ≡ get_or (recs part) k (rec 0 0 0)
-    here = record_at part k (rec 0 0 0) (omega (arith, h, w.walk.long, length-recs part))
-
-    wrong : is_right test (rec_at part k) ≡ false → false ≡ all_right test (recs part)
-    wrong e = walk_fails w.walk (rec_at part k) (rec 0 0 0) h here e
-
-    pub byte-wrong : (get_or part (4 * k + 1) 0 ≡ 0 → ⊥) → false ≡ all_right test (recs part)
-    byte-wrong e = wrong (rw (ne_eqb _ _ e))
-
-    -- n is its number
-    module _ (byte : get_or part (4 * k + 1) 0 ≡ 0) {n : ℕ} (n-is : n ≡ le 2 part (4 * k + 2)) where
-      tested : (t : Bool) → test n ≡ t → is_right test (rec_at part k) ≡ t
-      tested t e = rw (byte, ← n-is) e
-
-      pub number-wrong : test n ≡ false → false ≡ all_right test (recs part)
-      number-wrong e = wrong (tested false e)
-
-      pub right_on : test n ≡ true → Right test part m (k + 1)
-      right_on e = record { walk = walk_on w.walk (rec_at part k) (rec 0 0 0) h here (tested true e) }
 
 -- of a part that is known by an equation
 pub right_in : (test : ℕ → Bool) (p q : Bytes) → p ≡ q → all_right test (recs p) ≡ all_right test (recs q)
@@ -100,19 +58,6 @@ right_in test p q e = ap (λ (x : Bytes). all_right test (recs x)) e
 pub right-below :
     (m n : ℕ) (p q : Bytes) → m ≡ n → p ≡ q → all_right (λ k. ltb k m) (recs p) ≡ all_right (λ k. ltb k n) (recs q)
 right-below m n p q n-is p_is = rw (n-is, p_is)
-
--- ---- a Bool term
-
--- c is a term of the book, and s the code of its sort
-pub literal-code :
-    (b w : Bytes) (n c s : ℕ) → c < n → s ≡ get_or w c 0 → n ≡ count b → SortsBelow (count b) b w →
-    eqb s 1 ≡ is_literal b c
-literal-code b w n c s h s-is n-is sorts =
-    let inside : c < count b = omega (arith, h, n-is) in
-    rw (lt-ltb c (count b) inside, s-is, sorts.held c inside)
-
-pub no_literal : (b : Bytes) (n c : ℕ) → n ≤ c → n ≡ count b → false ≡ is_literal b c
-no_literal b n c h n-is = rw (le-ltb c (count b) (omega (arith, h, n-is)))
 
 -- ---- the shape of a step
 
@@ -124,7 +69,7 @@ is_empty-recs p = go (recs p) ∙ ap (λ (n : ℕ). eqb n 0) (length-recs p)
     go (r ∷ l) = sym (ne_eqb (suc (length l)) 0 (λ e. omega (arith, e)))
 
 -- n is the number of the rule
-module _ {n : ℕ} {rule : Rule} (known : rule_of n ≡ some rule) (p c a : Bytes) where
+module _ {n : ℕ} {rule : Rule} (known : rule_of n ≡ Some rule) (p c a : Bytes) where
   pub other-rule : (n ≡ 0 → ⊥) → true ≡ shape_ok rule (recs p) (recs c) (recs a)
   other-rule h = rw (rule-number n rule known, ne_eqb 0 n (λ e. h (sym e)))
 
@@ -138,26 +83,26 @@ module _ {n : ℕ} {rule : Rule} (known : rule_of n ≡ some rule) (p c a : Byte
 -- ---- a step is read where all tests hold; otherwise it is refusal 7
 
 -- t is what all tests on the way to x say
-record Judged {X : Type 0} (t : Bool) (x : Outcome LentRefusal X) : Type 0 where
+record Judged {X : Type 0} (t : Bool) (x : Result X LentRefusal) : Type 0 where
   is : is_ok x ≡ t
-  seven : is_ok x ≡ false → x ≡ refused run_record
+  seven : is_ok x ≡ false → x ≡ Err run_record
 
 module _ {X : Type 0} where
   behind :
-      (t : Bool) {u : Bool} (f : Unit {0} → Outcome LentRefusal X) → Judged u (f tt) →
+      (t : Bool) {u : Bool} (f : Unit {0} → Result X LentRefusal) → Judged u (f tt) →
       Judged (t && u) (assert t run_record >>= f)
   unfolding assert ◌>>=◌
   behind true f j = j
   behind false f j = record { is = refl; seven = λ e. refl }
 
   behind-some :
-      {Y : Type 0} (o : Option Y) {u : Bool} (f : Y → Outcome LentRefusal X) →
-      ((y : Y) → o ≡ some y → Judged u (f y)) → Judged (is_some o && u) (or_else o run_record >>= f)
+      {Y : Type 0} (o : Option Y) {u : Bool} (f : Y → Result X LentRefusal) →
+      ((y : Y) → o ≡ Some y → Judged u (f y)) → Judged (is_some o && u) (or_else o run_record >>= f)
   unfolding or_else ◌>>=◌
-  behind-some (some y) f j = j y refl
-  behind-some none f j = record { is = refl; seven = λ e. refl }
+  behind-some (Some y) f j = j y refl
+  behind-some None f j = record { is = refl; seven = λ e. refl }
 
-  last-behind : (t : Bool) (x : X) → Judged t (assert t run_record >>= λ _. ok x)
+  last-behind : (t : Bool) (x : X) → Judged t (assert t run_record >>= λ _. Ok x)
   unfolding assert ◌>>=◌
   last-behind true x = record { is = refl; seven = λ e. never (sym e) }
   last-behind false x = record { is = refl; seven = λ e. refl }
@@ -171,15 +116,15 @@ head_ok part = is_some (head_rule (head_in part))
 abbrev pub shape_in : Bytes → Bool
 shape_in part = shape_ok (rule_in part) (recs (premises_in part)) (recs (clause_in part)) (recs (args_in part))
 
-some-there : {X : Type 0} (o : Option X) → is_some o ≡ true → (x : X) × (o ≡ some x)
-some-there (some x) e = (x, refl)
-some-there none e = never e
+some-there : {X : Type 0} (o : Option X) → is_some o ≡ true → (x : X) × (o ≡ Some x)
+some-there (Some x) e = (x, refl)
+some-there None e = never e
 
 -- the head is in order, and the byte that was read is that of its rule
 pub shape_is :
     (part : Bytes) {h : Bool} → h ≡ head_ok part → h ≡ true → {n : ℕ} → n ≡ get_or part 1 0 →
     {p c a : Bytes} → p ≡ premises_in part → c ≡ clause_in part → a ≡ args_in part →
-    (x : Bool) → ((rule : Rule) → rule_of n ≡ some rule → x ≡ shape_ok rule (recs p) (recs c) (recs a)) → x ≡ shape_in part
+    (x : Bool) → ((rule : Rule) → rule_of n ≡ Some rule → x ≡ shape_ok rule (recs p) (recs c) (recs a)) → x ≡ shape_in part
 unfolding head_in
 shape_is part h-is h-holds n-is p_is c-is a-is x e =
     let found = some-there (head_rule (head_in part)) (sym h-is ∙ h-holds) in
@@ -202,7 +147,7 @@ module _ (b : Bytes) (n : ℕ) (part : Bytes) where
       {x : Bool} → x ≡ (head_ok part && (parts_ok b n part && shape_in part)) → x ≡ is_ok (read_in b n part)
   step-tests e = e ∙ sym judged.is
 
-  pub not-read : is_ok (read_in b n part) ≡ false → read_in b n part ≡ refused run_record
+  pub not-read : is_ok (read_in b n part) ≡ false → read_in b n part ≡ Err run_record
   not-read = judged.seven
 
 -- ---- the steps
@@ -218,13 +163,13 @@ next-short : (l : List Rec) → length (next_recs l) ≤ length l
 next-short l = omega (arith, after-short A (after C (after P l)), after-short C (after P l), after-short P l)
 
 module _ (b : Bytes) where
-  abbrev followed : Outcome LentRefusal Step → Outcome LentRefusal (List Step) → Outcome LentRefusal (List Step)
-  followed x y = x >>= λ s. y >>= λ ss. ok (s ∷ ss)
+  abbrev followed : Result Step LentRefusal → Result (List Step) LentRefusal → Result (List Step) LentRefusal
+  followed x y = x >>= λ s. y >>= λ ss. Ok (s ∷ ss)
 
-  first : ℕ → Rec → List Rec → Outcome LentRefusal Step
+  first : ℕ → Rec → List Rec → Result Step LentRefusal
   first n r l = read_step b n r (leading P l) (leading C (after P l)) (leading A (after C (after P l)))
 
-  none_left : (k n : ℕ) → read_steps k b n [] ≡ ok []
+  none_left : (k n : ℕ) → read_steps k b n [] ≡ Ok []
   unfolding read_steps
   none_left zero n = refl
   none_left (suc k) n = refl
@@ -248,15 +193,15 @@ module _ (b : Bytes) where
       ∙ sym (some_left j n r l)
 
   -- all steps of a part, the first of them step n
-  unfoldable pub read_part : ℕ → Bytes → Outcome LentRefusal (List Step)
+  unfoldable pub read_part : ℕ → Bytes → Result (List Step) LentRefusal
   read_part n part = read_steps (length (recs part)) b n (recs part)
 
   module _ (n : ℕ) (part : Bytes) where
-    pub part-done : length part ≡ 0 → read_part n part ≡ ok []
+    pub part-done : length part ≡ 0 → read_part n part ≡ Ok []
     unfolding read_part recs
     part-done h = go part h
       where
-        go : (p : Bytes) → length p ≡ 0 → read_part n p ≡ ok []
+        go : (p : Bytes) → length p ≡ 0 → read_part n p ≡ Ok []
         go [] h = none_left 0 n
         go (x ∷ p) h = absurd (omega (arith, h))
 
@@ -292,11 +237,11 @@ module _ (b : Bytes) where
     part-read h e = ap run_read_of (part_first h) ∙ go (read_in b n part) e (read_part (suc n) (next_in part))
       where
         go :
-            (x : Outcome LentRefusal Step) → is_ok x ≡ true → (y : Outcome LentRefusal (List Step)) →
+            (x : Result Step LentRefusal) → is_ok x ≡ true → (y : Result (List Step) LentRefusal) →
             run_read_of (followed x y) ≡ run_read_of y
-        go (ok s) e (ok ss) = refl
-        go (ok s) e (refused r) = refl
-        go (refused r) e y = never e
+        go (Ok s) e (Ok ss) = refl
+        go (Ok s) e (Err r) = refl
+        go (Err r) e y = never e
 
     pub part-wrong : 4 ≤ length part → is_ok (read_in b n part) ≡ false → run_read_of (read_part n part) ≡ run_read.Refused 7
     unfolding ◌>>=◌

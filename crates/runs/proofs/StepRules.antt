@@ -5,7 +5,7 @@
 use mathlib.Core.Path.{◌≡◌, refl, sym, ap, ◌∙◌}
 use mathlib.Core.Bool.{Bool, true, false, ◌&&◌}
 use mathlib.Core.List.{List, [], ◌∷◌}
-use mathlib.Core.Option.{some, none}
+use Rattle.std.specs.Prelude.{Some, None}
 use Prim.Native.Nat.{ℕ, zero, suc, ◌≤◌, ◌<◌}
 use native.Mathlib.Omega.{arith}
 use borrow.Author.Tests.{ne_eqb, lt-leb}
@@ -18,7 +18,7 @@ use Rattle.runs.specs.Rule.Rule.{assume, la_rw_eq, la_disequality, la_totality, 
 use Rattle.runs.specs.Rule.Rule.{poly_simp, poly_simp_rel}
 use Rattle.runs.specs.Run.{Rec, S, head_rule}
 use Rattle.runs.specs.Memory.StepParts.{head_in, rule_in}
-use Rattle.rules.specs.Memory.Parts.{is_some}
+use Rattle.std.specs.Prelude.{is_some}
 
 last-number : (r : Rule) → rule_number r ≤ 8
 last-number assume = omega arith
@@ -31,7 +31,7 @@ last-number bounded_farkas = omega arith
 last-number poly_simp = omega arith
 last-number poly_simp_rel = omega arith
 
-no_rule : (rs : List Rule) (n : ℕ) → 8 < n → with_number rs n ≡ none
+no_rule : (rs : List Rule) (n : ℕ) → 8 < n → with_number rs n ≡ None
 unfolding with_number
 no_rule [] n h = refl
 no_rule (r ∷ rs) n h =
@@ -64,21 +64,21 @@ head-tests s e = e ∙ go (eqb s.mark S) (leb s.byte 8) (eqb s.number 0) (some-r
   where
     go :
         (m l n : Bool) → is_some (rule_of s.byte) ≡ l →
-        (m && (l && n)) ≡ is_some {A = Rule} (elim (m && n) [ true ↦ rule_of s.byte | false ↦ none ])
+        (m && (l && n)) ≡ is_some {T = Rule} (elim (m && n) [ true ↦ rule_of s.byte | false ↦ None ])
     go true true true e = sym e
     go true false true e = sym e
     go true true false e = refl
     go true false false e = refl
     go false l n e = refl
 
-pub head-rule : (s : Rec) {r : Rule} → head_rule s ≡ some r → rule_of s.byte ≡ some r
+pub head-rule : (s : Rec) {r : Rule} → head_rule s ≡ Some r → rule_of s.byte ≡ Some r
 unfolding head_rule
 head-rule s {r} e = go (eqb s.mark S && eqb s.number 0) e
   where
-    go : (t : Bool) → elim t [ true ↦ rule_of s.byte | false ↦ none ] ≡ some r → rule_of s.byte ≡ some r
+    go : (t : Bool) → elim t [ true ↦ rule_of s.byte | false ↦ None ] ≡ Some r → rule_of s.byte ≡ Some r
     go true e = e
     go false e = never (ap is_some e)
 
-pub rule_is : (part : Bytes) {r : Rule} → rule_of (get_or part 1 0) ≡ some r → rule_in part ≡ r
+pub rule_is : (part : Bytes) {r : Rule} → rule_of (get_or part 1 0) ≡ Some r → rule_in part ≡ r
 unfolding rule_in head_in
 rule_is part e = rw (e, rule_in)

@@ -1,7 +1,7 @@
 -- The rules of a run's steps. One table gives each its number, which is the byte of an S record, and its name in the
 -- Alethe specification.
 use Rattle.std.specs.Prelude.{Bool, true, false, List, [], ◌∷◌, ℕ, eqb}
-use Rattle.std.proofs.Math.Option.{Option, some, none}
+use Rattle.std.specs.Prelude.{Option, Some, None}
 use Prim.Native.String.{String}
 
 pub data Rule : Type 0 where
@@ -31,8 +31,8 @@ rules =
 
 -- the rule of a list that has a number
 unfoldable pub with_number : List Rule → ℕ → Option Rule
-with_number [] n = none
-with_number (r ∷ rs) n = elim (eqb (rule_number r) n) [ true ↦ some r | false ↦ with_number rs n ]
+with_number [] n = None
+with_number (r ∷ rs) n = elim (eqb (rule_number r) n) [ true ↦ Some r | false ↦ with_number rs n ]
 
 unfoldable pub rule_of : ℕ → Option Rule
 rule_of n = with_number rules n

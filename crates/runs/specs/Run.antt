@@ -2,14 +2,14 @@
 -- then P, the number of an earlier step, C, a Bool term, and A, a term, in that order. Refusals 6 and 7.
 use Rattle.std.specs.Prelude.{Bool, true, false, ◌&&◌, ◌||◌, not, List, [], ◌∷◌, ◌++◌, ℕ, zero, suc, ◌+◌, ◌*◌, ◌/◌}
 use Rattle.std.specs.Prelude.{◌%◌, eqb, leb, ltb, length}
-use Rattle.std.proofs.Math.Option.{Option, none}
+use Rattle.std.specs.Prelude.{Option, None}
 use Rattle.numbers.specs.Bytes.{Bytes, bytes_of}
 use Rattle.terms.specs.Term.{Term, sort, same_sort, record_number}
 use Rattle.terms.specs.Term.Sort.{bool}
 use Rattle.terms.specs.Book.{count, tree}
 use Rattle.terms.specs.Format.{run_record_bytes, max_run_records}
-use Rattle.rules.specs.Refusal.{Outcome, ◌>>=◌, assert, or_else}
-use Rattle.rules.specs.Refusal.Outcome.{ok, refused}
+use Rattle.rules.specs.Refusal.{◌>>=◌, assert, or_else}
+use Rattle.std.specs.Prelude.{Result, Ok, Err}
 use Rattle.runs.specs.Verdict.{LentRefusal}
 use Rattle.runs.specs.Verdict.LentRefusal.{run_size, run_record}
 use Rattle.runs.specs.Rule.{Rule, rule_of, is_rule}
@@ -88,33 +88,33 @@ shape_ok rule ps cs as' = not (is_rule assume rule) || (is_empty ps && (eqb (len
 
 -- an S record with the number of a rule
 unfoldable pub head_rule : Rec → Option Rule
-head_rule s = elim (eqb s.mark S && eqb s.number 0) [ true ↦ rule_of s.byte | false ↦ none ]
+head_rule s = elim (eqb s.mark S && eqb s.number 0) [ true ↦ rule_of s.byte | false ↦ None ]
 
 -- step n: an S record and what stands behind it, up to the next that is not in order
-unfoldable pub read_step : Bytes → ℕ → Rec → List Rec → List Rec → List Rec → Outcome LentRefusal Step
+unfoldable pub read_step : Bytes → ℕ → Rec → List Rec → List Rec → List Rec → Result Step LentRefusal
 read_step book n s ps cs as' = do
   rule ← or_else (head_rule s) run_record
   _ ← assert (all_right (λ p. ltb p n) ps) run_record
   _ ← assert (all_right (λ c. ltb c (count book) && same_sort (sort (tree book c)) bool) cs) run_record
   _ ← assert (all_right (λ a. ltb a (count book)) as') run_record
   _ ← assert (shape_ok rule ps cs as') run_record
-  ok (step rule (numbers_of ps) (terms_of book cs) (terms_of book as'))
+  Ok (step rule (numbers_of ps) (terms_of book cs) (terms_of book as'))
 
 -- at most k steps are left; each takes a record at least
-unfoldable pub read_steps : ℕ → Bytes → ℕ → List Rec → Outcome LentRefusal (List Step)
-read_steps zero book n [] = ok []
-read_steps zero book n (r ∷ rs) = refused run_record
-read_steps (suc k) book n [] = ok []
+unfoldable pub read_steps : ℕ → Bytes → ℕ → List Rec → Result (List Step) LentRefusal
+read_steps zero book n [] = Ok []
+read_steps zero book n (r ∷ rs) = Err run_record
+read_steps (suc k) book n [] = Ok []
 read_steps (suc k) book n (r ∷ rs) = do
   let cs = after P rs
   let as' = after C cs
   s ← read_step book n r (leading P rs) (leading C cs) (leading A as')
   ss ← read_steps k book (suc n) (after A as')
-  ok (s ∷ ss)
+  Ok (s ∷ ss)
 
 -- ---- refusal 6, then 7
 
-unfoldable pub read_run : Bytes → Bytes → Outcome LentRefusal (List Step)
+unfoldable pub read_run : Bytes → Bytes → Result (List Step) LentRefusal
 read_run book run = do
   _ ← assert (eqb (length run % run_record_bytes) 0 && leb (length run / run_record_bytes) max_run_records) run_size
   read_steps (length run / run_record_bytes) book 0 (recs run)
@@ -126,7 +126,7 @@ pub data Every {X : Type 0} (P : X → Type 0) : List X → Type 0 where
 
 -- the steps of a run over a book
 abbrev pub steps_of : Bytes → Bytes → List Step
-steps_of book run = elim (read_run book run) [ ok ss ↦ ss | refused r ↦ [] ]
+steps_of book run = elim (read_run book run) [ Ok ss ↦ ss | Err r ↦ [] ]
 
 abbrev pub record_bytes : ℕ → ℕ → ℕ → Bytes
 record_bytes mark byte n = mark ∷ byte ∷ bytes_of 2 n

@@ -2,7 +2,7 @@
 // then P, the number of an earlier step, C, a Bool term, and A, a term, in that order. A step is handed on as the part
 // of the run that starts with its S.
 ghost use Rattle.std.specs.Prelude.{◌≡◌, ◌&&◌, ◌+◌, ltb, length};
-ghost use Rattle.std.proofs.Math.Option.{some};
+ghost use Rattle.std.specs.Prelude.{Some};
 ghost use Rattle.numbers.specs.Bytes.{Bytes};
 ghost use Rattle.terms.specs.Term.{sort, same_sort};
 ghost use Rattle.terms.specs.Term.Sort.{bool};
@@ -10,8 +10,9 @@ ghost use Rattle.terms.specs.Book.{count, tree, SortsBelow};
 ghost use Rattle.runs.specs.Rule.{Rule, rule_of};
 ghost use Rattle.runs.specs.Run.{head_rule, recs, leading, all_right, shape_ok, read_run};
 ghost use Rattle.runs.specs.Memory.StepParts.{after_in, parts_in, premises_in, clause_in, args_in, head_in, parts_ok};
-ghost use Rattle.runs.specs.Memory.StepParts.{read_in, is_ok, step_from, run_read_of, run_refusal};
-ghost use Rattle.rules.specs.Memory.Parts.{is_some};
+ghost use Rattle.runs.specs.Memory.StepParts.{read_in, step_from, run_read_of, run_refusal};
+ghost use Rattle.std.specs.Prelude.{is_ok};
+ghost use Rattle.std.specs.Prelude.{is_some};
 
 use crate::rule::{ASSUME, POLY_SIMP_REL};
 use numbers::bytes::{byte, read_u16};
@@ -24,7 +25,7 @@ use terms::refusal::{RUN_RECORD, RUN_SIZE};
 
 // Where the parts of a step end, in bytes from its start: its premises, its clause, and its arguments, which end where
 // the step does.
-#[derive(Clone, Copy)]
+#[derive(Debug, Clone, Copy, PartialEq, Eq)]
 pub struct StepParts {
     pub premises: usize,
     pub clause: usize,
@@ -46,23 +47,16 @@ pub enum RunRead {
 fn leading_count(part: &[u8], mark: u8) -> usize
     ensures { result ≡ length (leading mark (recs part.now)) }
 {
-    let n = part.len() / RUN_RECORD_BYTES;
-    let mut k = 0;
-    while k < n {
-        if part[RUN_RECORD_BYTES * k] != mark {
-            return k;
-        }
-        k += 1;
-    }
-    n
+    part.chunks_exact(RUN_RECORD_BYTES)
+        .take_while(|record| record[0] == mark)
+        .count()
 }
 
 // What follows them.
 fn after(part: &[u8], mark: u8) -> &[u8]
     ensures { result.now ≡ after_in mark part.now }
 {
-    let start = RUN_RECORD_BYTES * leading_count(part, mark);
-    &part[start..]
+    &part[RUN_RECORD_BYTES * leading_count(part, mark)..]
 }
 
 pub fn parts(step: &[u8]) -> StepParts
@@ -83,26 +77,21 @@ pub fn premises(step: &[u8], p: StepParts) -> &[u8]
     requires { p ≡ parts_in step.now }
     ensures { result.now ≡ premises_in step.now }
 {
-    let end = p.premises;
-    rest(&step[0..end], 1)
+    rest(&step[..p.premises], 1)
 }
 
 pub fn clause(step: &[u8], p: StepParts) -> &[u8]
     requires { p ≡ parts_in step.now }
     ensures { result.now ≡ clause_in step.now }
 {
-    let start = p.premises;
-    let end = p.clause;
-    &step[start..end]
+    &step[p.premises..p.clause]
 }
 
 pub fn args(step: &[u8], p: StepParts) -> &[u8]
     requires { p ≡ parts_in step.now }
     ensures { result.now ≡ args_in step.now }
 {
-    let start = p.clause;
-    let end = p.args;
-    &step[start..end]
+    &step[p.clause..p.args]
 }
 
 // The run from step k on.
@@ -110,12 +99,8 @@ pub fn step_at(run: &[u8], k: usize) -> &[u8]
     ensures { result.now ≡ step_from k run.now }
 {
     let mut step = run;
-    let mut i = 0;
-    while i < k {
-        let p = parts(step);
-        let end = p.args;
-        step = &step[end..];
-        i += 1;
+    for _ in 0..k {
+        step = &step[parts(step).args..];
     }
     step
 }
@@ -126,31 +111,15 @@ pub fn step_at(run: &[u8], k: usize) -> &[u8]
 fn head_ok(step: &[u8]) -> bool
     ensures { result ≡ is_some (head_rule (head_in step.now)) }
 {
-    if byte(step, 0) == STEP {
-        if byte(step, BYTE_AT) <= POLY_SIMP_REL {
-            return read_u16(step, NUMBER_AT) == 0;
-        }
-    }
-    false
+    byte(step, 0) == STEP && byte(step, BYTE_AT) <= POLY_SIMP_REL && read_u16(step, NUMBER_AT) == 0
 }
 
 // Whether each record's byte is 0 and its number below n.
 fn all_right(part: &[u8], n: usize) -> bool
     ensures { result ≡ all_right (λ k. ltb k n) (recs part.now) }
 {
-    let m = part.len() / RUN_RECORD_BYTES;
-    let mut k = 0;
-    while k < m {
-        let at = RUN_RECORD_BYTES * k;
-        if part[at + BYTE_AT] != 0 {
-            return false;
-        }
-        if n <= read_u16(part, at + NUMBER_AT) as usize {
-            return false;
-        }
-        k += 1;
-    }
-    true
+    part.chunks_exact(RUN_RECORD_BYTES).all(|record| record[BYTE_AT] == 0
+        && (read_u16(record, NUMBER_AT) as usize) < n)
 }
 
 // Whether record c of a book of n records, whose sorts are given, is a Bool term.
@@ -158,10 +127,7 @@ fn is_literal(sorts: &[u8], n: usize, c: usize) -> bool
     ensures { (b : Bytes) → n ≡ count b → SortsBelow (count b) b sorts.now →
         result ≡ (ltb c (count b) && same_sort (sort (tree b c)) bool) }
 {
-    if c < n {
-        return byte(sorts, c) == BOOL_SORT;
-    }
-    false
+    c < n && byte(sorts, c) == BOOL_SORT
 }
 
 // Whether each record's byte is 0 and its number that of a Bool term.
@@ -172,36 +138,19 @@ fn all_literals(book: &[u8], sorts: &[u8], part: &[u8]) -> bool
         (recs part.now) }
 {
     let n = count(book);
-    let m = part.len() / RUN_RECORD_BYTES;
-    let mut k = 0;
-    while k < m {
-        let at = RUN_RECORD_BYTES * k;
-        if part[at + BYTE_AT] != 0 {
-            return false;
-        }
-        if is_literal(sorts, n, read_u16(part, at + NUMBER_AT) as usize) {
-            k += 1;
-        } else {
-            return false;
-        }
-    }
-    true
+    part.chunks_exact(RUN_RECORD_BYTES).all(|record| record[BYTE_AT] == 0
+        && is_literal(sorts, n, read_u16(record, NUMBER_AT) as usize))
 }
 
 // An assume has one C and nothing else.
 fn shape_ok(rule: u8, premises: &[u8], clause: &[u8], args: &[u8]) -> bool
-    ensures { (known : Rule) → rule_of rule ≡ some known → result ≡ shape_ok known (recs premises.now)
+    ensures { (known : Rule) → rule_of rule ≡ Some known → result ≡ shape_ok known (recs premises.now)
         (recs clause.now) (recs args.now) }
 {
-    if rule != ASSUME {
-        return true;
-    }
-    if premises.len() / RUN_RECORD_BYTES == 0 {
-        if clause.len() / RUN_RECORD_BYTES == 1 {
-            return args.len() / RUN_RECORD_BYTES == 0;
-        }
-    }
-    false
+    rule != ASSUME
+        || premises.len() / RUN_RECORD_BYTES == 0
+            && clause.len() / RUN_RECORD_BYTES == 1
+            && args.len() / RUN_RECORD_BYTES == 0
 }
 
 // Whether the records of step n, whose parts p has, are in order.
@@ -210,12 +159,9 @@ fn parts_ok(book: &[u8], sorts: &[u8], step: &[u8], p: StepParts, n: usize) -> b
     requires p_value { p ≡ parts_in step.now }
     ensures { result ≡ parts_ok book.now n step.now }
 {
-    if all_right(premises(step, p), n) {
-        if all_literals(book, sorts, clause(step, p)) {
-            return all_right(args(step, p), count(book));
-        }
-    }
-    false
+    all_right(premises(step, p), n)
+        && all_literals(book, sorts, clause(step, p))
+        && all_right(args(step, p), count(book))
 }
 
 // Whether step n, whose parts p has, can be read.
@@ -224,17 +170,14 @@ fn step_ok(book: &[u8], sorts: &[u8], step: &[u8], p: StepParts, n: usize) -> bo
     requires p_value { p ≡ parts_in step.now }
     ensures { result ≡ is_ok (read_in book.now n step.now) }
 {
-    if head_ok(step) {
-        if parts_ok(book, sorts, step, p, n) {
-            return shape_ok(
-                byte(step, BYTE_AT),
-                premises(step, p),
-                clause(step, p),
-                args(step, p),
-            );
-        }
-    }
-    false
+    head_ok(step)
+        && parts_ok(book, sorts, step, p, n)
+        && shape_ok(
+            byte(step, BYTE_AT),
+            premises(step, p),
+            clause(step, p),
+            args(step, p),
+        )
 }
 
 // ---- the run
@@ -254,23 +197,19 @@ pub fn read_run(book: &[u8], sorts: &[u8], run: &[u8]) -> RunRead
     requires { SortsBelow (count book.now) book.now sorts.now }
     ensures { result ≡ run_read_of (read_run book.now run.now) }
 {
-    if run.len() % RUN_RECORD_BYTES != 0 {
-        return RunRead::Refused(RUN_SIZE);
-    }
-    if MAX_RUN_BYTES < run.len() {
+    if run.len() % RUN_RECORD_BYTES != 0 || MAX_RUN_BYTES < run.len() {
         return RunRead::Refused(RUN_SIZE);
     }
     let mut left = run;
     let mut n = 0;
-    while 0 < left.len() {
+    // A while, since only a step's own records say where the next step starts.
+    while !left.is_empty() {
         let p = parts(left);
-        if step_ok(book, sorts, left, p, n) {
-            let end = p.args;
-            left = &left[end..];
-            n += 1;
-        } else {
+        if !step_ok(book, sorts, left, p, n) {
             return RunRead::Refused(RUN_RECORD);
         }
+        left = &left[p.args..];
+        n += 1;
     }
     RunRead::Steps
 }

@@ -1,5 +1,4 @@
--- The loop of `infers` is that of `la_generic_partial` (linear_arithmetic's PartialFold), with a count of the numbers
--- that were inferred.
+-- The loop of `infers` is that of `la_generic_partial` (linear_arithmetic's PartialFold).
 use mathlib.Core.Path.{◌≡◌}
 use mathlib.Core.List.{List, [], ◌∷◌, ◌++◌}
 use Prim.Native.Nat.{ℕ, ◌+◌, ◌*◌, ◌-◌, ◌/◌, ◌≤◌, ◌<◌}
@@ -20,22 +19,21 @@ use Rattle.linear_arithmetic.proofs.FoldedAreas.{Given, limits_of}
 use Rattle.linear_arithmetic.proofs.PartialFold.{PartSoFar, part-begin, Rested, More, part-more, part-again}
 use Rattle.linear_arithmetic.proofs.PartialFold.{part-fits, part-less}
 
--- so many literals are done, and k numbers were inferred from them
-pub record InferredSoFar (g : Given) (w : Bytes) (p : by_value.Progress) (done k : ℕ) : Type 0 where
+-- so many literals are done
+pub record InferredSoFar (g : Given) (w : Bytes) (p : by_value.Progress) (done : ℕ) : Type 0 where
   pub trace : List Rational
   pub far : PartSoFar g 0 trace w p done
-  pub fewer : k ≤ done
 
 pub inferred-begin :
     (g : Given) → AllNumbers g.limit g.book g.args → Ready g.book g.work →
     Inside g.book g.literals → length g.literals ≤ 16384 → (q : Rational) → q ≡ whole (pos 0) →
-    InferredSoFar g g.work (record { operator = 4; acc = record { len = 0; constant = q }; visits = 0 }) 0 0
+    InferredSoFar g g.work (record { operator = 4; acc = record { len = 0; constant = q }; visits = 0 }) 0
 inferred-begin g numbers ready named small q q-is =
-    record { trace = []; far = part-begin g 0 numbers ready named small q q-is; fewer = omega arith }
+    record { trace = []; far = part-begin g 0 numbers ready named small q q-is }
 
 -- what is left is folded, a number is inferred, and n literals more are done
 module _
-    {g : Given} {w : Bytes} {p : by_value.Progress} {done k : ℕ} (so : InferredSoFar g w p done k)
+    {g : Given} {w : Bytes} {p : by_value.Progress} {done : ℕ} (so : InferredSoFar g w p done)
     {part given w' : Bytes} {r : Folded} (part_is : part ≡ drop (4 * done) g.literals)
     (given_is : given ≡ drop (4 * done) g.args)
     (fold : FoldedLeft g.book w w' (length (numbers_in part)) r
@@ -53,10 +51,5 @@ module _
   pub inferred-less : length g.literals / 4 - (done + n) < length g.literals / 4 - done
   inferred-less = part-less so.far n more
 
-  pub inferred-again : InferredSoFar g w' q (done + n) (k + 1)
-  inferred-again =
-      record {
-        trace = so.trace ++ a ∷ [];
-        far = part-again so.far rested q a n e;
-        fewer = omega (arith, more.some, so.fewer);
-      }
+  pub inferred-again : InferredSoFar g w' q (done + n)
+  inferred-again = record { trace = so.trace ++ a ∷ []; far = part-again so.far rested q a n e }

@@ -5,19 +5,18 @@
 
 mod step;
 
-ghost use Rattle.std.specs.Prelude.{◌≤◌, ◌<◌, IfOk};
+ghost use Rattle.std.specs.Prelude.{◌≡◌, ◌≤◌, ◌<◌, ◌*◌, IfOk};
 
-use numbers::bytes::{byte, read_u16, wide};
 use programs::cases::{
-    Outcome, broken, open_cases, piece, print_total, read_count, read_piece, read_record,
+    Outcome, broken, count_agreeing, open_cases, print_total, read_count, read_piece, read_record,
 };
+use rules::verdict::Verdict;
 use runs::prepare::prepare;
 use std::io;
 use std::io::Read;
-use step::{Head, is_same};
+use step::{NUMBER_BYTES, Step};
 use terms::areas::WORK_BYTES;
-use terms::format::{MAX_RECORDS, RECORD_BYTES};
-use terms::reading::BookRead;
+use terms::format::{MAX_RECORDS, RECORD_BYTES, RUN_RECORD_BYTES};
 
 // The bytes in front of a step, and the most of its records and inferred numbers.
 const HEAD: usize = 7;
@@ -29,145 +28,148 @@ const BOOK: usize = RECORD_BYTES * MAX_RECORDS;
 
 // ---- a step
 
-// Tells of a step that differs.
-fn judge(rt: &impl Print, h: Head, same: bool) -> io::Result<Outcome> {
-    if same {
-        return Ok(Outcome::Agrees);
+// What stands in front of a step: the rule, the verdict and the visits, and how many of each piece stand behind it,
+// which are its literals, its other records and its inferred numbers.
+#[derive(Clone, Copy)]
+struct Head {
+    rule: u8,
+    verdict: u8,
+    visits: u32,
+    literals: u8,
+    others: u8,
+    numbers: u8,
+}
+
+impl From<[u8; HEAD]> for Head {
+    fn from(head: [u8; HEAD]) -> Head {
+        let [rule, verdict, v0, v1, literals, others, numbers] = head;
+        Head {
+            rule,
+            verdict,
+            visits: u32::from(u16::from_le_bytes([v0, v1])),
+            literals,
+            others,
+            numbers,
+        }
     }
-    println!(rt;
-        "a step of rule {} with verdict {} differs",
-        h.rule, h.verdict
-    )?;
-    Ok(Outcome::Differs)
+}
+
+impl Head {
+    fn literal_bytes(self) -> usize
+        ensures { result ≡ 4 * self.literals }
+    {
+        RUN_RECORD_BYTES * usize::from(self.literals)
+    }
+
+    fn other_bytes(self) -> usize
+        ensures { result ≡ 4 * self.others }
+    {
+        RUN_RECORD_BYTES * usize::from(self.others)
+    }
+
+    // The bytes of all pieces.
+    fn bytes(self) -> usize {
+        self.literal_bytes() + self.other_bytes() + NUMBER_BYTES * usize::from(self.numbers)
+    }
+
+    fn expected(self) -> Verdict {
+        if self.verdict == 0 {
+            Verdict::Accepted(self.visits)
+        } else {
+            Verdict::Refused(self.verdict)
+        }
+    }
+
+    // The step of these pieces over a book.
+    fn cut<'a>(self, book: &'a [u8], pieces: &'a [u8]) -> Option<Step<'a>> {
+        let (literals, rest) = pieces.split_at_checked(self.literal_bytes())?;
+        let (others, numbers) = rest.split_at_checked(self.other_bytes())?;
+        Some(Step {
+            book,
+            rule: self.rule,
+            literals,
+            others,
+            numbers,
+            expected: self.expected(),
+        })
+    }
 }
 
 // The book is read anew for each step.
-fn try_step(
-    rt: &impl Print,
-    book: &[u8],
-    h: Head,
-    literals: &[u8],
-    args: &[u8],
-    numbers: &[u8],
-) -> io::Result<Outcome> {
+fn try_step(rt: &impl Print, h: Head, step: Step) -> io::Result<Outcome> {
     let mut work = [0u8; WORK_BYTES];
-    match prepare(book, &mut work) {
-        BookRead::Records(_) => {
-            let same = is_same(book, &mut work, h, literals, args, numbers);
-            judge(rt, h, same)
-        }
-        BookRead::RefusedAt(_, _) => broken(rt),
+    let Ok(_) = prepare(step.book, &mut work) else {
+        return broken(rt);
+    };
+    let same = step.is_same(&mut work);
+    if !same {
+        println!(rt;
+            "a step of rule {} with verdict {} differs",
+            h.rule, h.verdict
+        )?;
     }
-}
-
-// The step behind its head.
-fn try_pieces(rt: &impl Print, file: &mut impl Read, book: &[u8], h: Head) -> io::Result<Outcome> {
-    let mut space = [0u8; STEP];
-    let a = h.literals;
-    let b = h.others;
-    let n = h.numbers;
-    if read_piece(file, n, &mut space)? {
-        return try_step(
-            rt,
-            book,
-            h,
-            piece(&space, 0, a),
-            piece(&space, a, b),
-            piece(&space, b, n),
-        );
-    }
-    broken(rt)
-}
-
-fn head_of(bytes: &[u8]) -> Head {
-    let literals = 4 * wide(byte(bytes, 4));
-    let others = literals + 4 * wide(byte(bytes, 5));
-    let numbers = others + 8 * wide(byte(bytes, 6));
-    Head {
-        rule: byte(bytes, 0),
-        verdict: byte(bytes, 1),
-        visits: read_u16(bytes, 2),
-        literals: literals as usize,
-        others: others as usize,
-        numbers: numbers as usize,
-    }
+    Ok(Outcome::from(same))
 }
 
 // The next step of a book.
 fn next_step(rt: &impl Print, file: &mut impl Read, book: &[u8]) -> io::Result<Outcome> {
     let mut head = [0u8; HEAD];
-    if read_piece(file, HEAD, &mut head)? {
-        return try_pieces(rt, file, book, head_of(&head));
+    if read_piece(file, HEAD, &mut head)?.is_none() {
+        return broken(rt);
     }
-    broken(rt)
+    let h = Head::from(head);
+    let mut space = [0u8; STEP];
+    let Some(pieces) = read_piece(file, h.bytes(), &mut space)? else {
+        return broken(rt);
+    };
+    match h.cut(book, pieces) {
+        Some(step) => try_step(rt, h, step),
+        None => broken(rt),
+    }
 }
 
 // ---- a book
 
+// Whether the file has as many records as the book has room for.
 fn read_records(file: &mut impl Read, book: &mut [u8]) -> io::Result<bool> {
-    for k in 0..book.len() / RECORD_BYTES {
-        let a = RECORD_BYTES * k;
-        let e = a + RECORD_BYTES;
-        if !read_record(file, &mut book[a..e])? {
+    for record in book.chunks_exact_mut(RECORD_BYTES) {
+        if read_record(file, record)?.is_none() {
             return Ok(false);
         }
     }
     Ok(true)
 }
 
-// How many of a book's m steps agree.
-fn try_steps(rt: &impl Print, file: &mut impl Read, book: &[u8], m: usize) -> io::Result<u64>
-    ensures { IfOk result (λ n. n ≤ m) }
-{
-    let mut agree: u64 = 0;
-    for _ in 0..m {
-        match next_step(rt, file, book)? {
-            Outcome::Agrees => agree += 1,
-            Outcome::Differs => {}
-            Outcome::End => break,
-        }
-    }
-    Ok(agree)
-}
-
-// How many steps of the next book agree; first its records are read into `book`.
-fn try_records(rt: &impl Print, file: &mut impl Read, book: &mut [u8]) -> io::Result<u64>
-    ensures { IfOk result (λ n. n < 65536) }
-{
-    if read_records(file, book)? {
-        let m = read_count(file)?;
-        return try_steps(rt, file, book, m);
-    }
-    Ok(0)
-}
-
-// The same for a book of n records.
+// How many steps of the next book agree, which has n records.
 fn try_book(rt: &impl Print, file: &mut impl Read, n: usize) -> io::Result<u64>
     requires { n ≤ 2048 }
-    ensures { IfOk result (λ n. n < 65536) }
+    ensures { IfOk result (λ agree. agree < 65536) }
 {
     let mut book = [0u8; BOOK];
-    let e = RECORD_BYTES * n;
-    try_records(rt, file, &mut book[0..e])
+    let book = &mut book[..RECORD_BYTES * n];
+    if !read_records(file, book)? {
+        return Ok(0);
+    }
+    let Some(m) = read_count(file)? else {
+        broken(rt)?;
+        return Ok(0);
+    };
+    count_agreeing(u64::from(m), |_| next_step(rt, file, book))
 }
 
 // There are fewer than 65,536 books.
-fn try_all(rt: &impl Print, file: &mut impl Read) -> io::Result<u64> {
-    let mut agree: u64 = 0;
-    for _ in 0..65536u64 {
-        let n = read_count(file)?;
-        if MAX_RECORDS < n {
-            break;
-        }
-        agree += try_book(rt, file, n)?;
-    }
-    Ok(agree)
-}
-
 fn main(rt: HostRuntime) -> io::Result<()> {
-    let Some(mut file) = open_cases(&rt) else {
+    let Ok(mut file) = open_cases(&rt) else {
         return Ok(());
     };
-    let agree = try_all(&rt, &mut file)?;
-    print_total(&rt, file, agree, b" steps agree\n")
+    let mut agree = 0;
+    for _ in 0..65536u64 {
+        match read_count(&mut file)? {
+            Some(n) if usize::from(n) <= MAX_RECORDS => {
+                agree += try_book(&rt, &mut file, usize::from(n))?;
+            }
+            _ => break,
+        }
+    }
+    print_total(&rt, agree, b" steps agree\n")
 }

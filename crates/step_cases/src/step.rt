@@ -1,49 +1,60 @@
 // One step: its answer, its visits and the numbers that it infers, beside those of the file.
 ghost use Rattle.std.specs.Prelude.{◌≡◌, ◌≤◌, length};
 ghost use Rattle.terms.specs.Book.{count, all_below};
-ghost use Rattle.rules.specs.Memory.Parts.{Ready, numbers_in, Inside};
+ghost use Rattle.rules.specs.Memory.Parts.{Ready, numbers_in};
+ghost use Rattle.linear_arithmetic.specs.Memory.LinearSteps.{StepReady};
 
 use linear_arithmetic::linear_arithmetic::{
     Folded, bounded_farkas, fold_literals, la_generic, la_tautology, read_args,
 };
 use linear_comb::linear_comb::LinearComb;
 use linear_shapes::linear_shapes::{la_disequality, la_rw_eq, la_totality};
-use numbers::bytes::{byte, read_u16};
+use numbers::bytes::byte;
 use numbers::number::Number;
 use poly_simp::poly_simp::poly_simp;
 use polynomial_rel::polynomial_rel::poly_simp_rel;
 use process_disequality::process_disequality::Progress;
-use rules::run_records::rest;
+use rules::run_records::{number_in, rest};
 use rules::verdict::{Asserted, Verdict};
+use runs::rule::{
+    BOUNDED_FARKAS, LA_DISEQUALITY, LA_GENERIC, LA_RW_EQ, LA_TAUTOLOGY, LA_TOTALITY, POLY_SIMP,
+};
+use terms::format::{PREMISE, RUN_RECORD_BYTES};
 use terms::operator::EQUALS;
 use terms::records::count;
+use terms::refusal::VISIT_LIMIT;
 
 const LIMIT: u32 = 1000000;
 
 // The most bytes of literals that a step may have.
 const MOST_LITERALS: usize = 16384;
 
-// What the file says of a step.
+// The bytes of an inferred number.
+pub(crate) const NUMBER_BYTES: usize = 8;
+
+// What the file says of a step over a book.
 #[derive(Clone, Copy)]
-pub(crate) struct Head {
+pub(crate) struct Step<'a> {
+    pub book: &'a [u8],
     pub rule: u8,
-    pub verdict: u8,
-    pub visits: u32,
-    // Where its literals, its other records and its inferred numbers end, in bytes.
-    pub literals: usize,
-    pub others: usize,
-    pub numbers: usize,
+    pub literals: &'a [u8],
+    // Its arguments, or of rule 8 its premises and the literals of the first.
+    pub others: &'a [u8],
+    // The numbers that it infers.
+    pub numbers: &'a [u8],
+    pub expected: Verdict,
 }
 
 // ---- its answer
 
-// Whether each record of a part of a run names a record of the book.
+// Whether each record of a part of a run names a record of the book. A loop, since under `all` what `number_in` asks is
+// not found.
 fn inside(book: &[u8], part: &[u8]) -> bool
     ensures { result ≡ all_below (count book.now) (numbers_in part.now) }
 {
     let n = count(book);
-    for k in 0..part.len() / 4 {
-        if n <= read_u16(part, 4 * k + 2) as usize {
+    for k in 0..part.len() / RUN_RECORD_BYTES {
+        if n <= number_in(part, k) {
             return false;
         }
     }
@@ -54,172 +65,142 @@ fn inside(book: &[u8], part: &[u8]) -> bool
 fn premises(part: &[u8]) -> usize
     ensures { result ≤ 65536 }
 {
-    let m = part.len() / 4;
-    for k in 0..65536 {
-        if m <= k || byte(part, 4 * k) != b'P' {
-            return k;
-        }
-    }
-    65536
+    part.chunks_exact(RUN_RECORD_BYTES)
+        .take(65536)
+        .take_while(|r| byte(r, 0) == PREMISE)
+        .count()
 }
 
-// A step by its rule; `others` are its arguments, or of rule 8 its premises and the literals of the first.
-fn check(
-    book: &[u8],
-    work: &mut [u8],
-    rule: u8,
-    literals: &[u8],
-    others: &[u8],
-    limit: u32,
-) -> Verdict
-    requires { Ready book.now work.old × (Inside book.now literals.now × (length literals.now ≤ 16384)) }
-    ensures { work.new ≡ work.old }
-{
-    match rule {
-        1 => la_rw_eq(book, literals, 0),
-        2 => la_disequality(book, literals, 0),
-        3 => la_totality(book, literals, 0),
-        4 => la_tautology(book, work, literals, 0, limit),
-        5 => la_generic(book, work, literals, others, 0, limit),
-        6 => bounded_farkas(book, work, literals, others, 0, limit),
-        7 => poly_simp(book, work, literals, 0, limit),
-        _ => {
-            let n = premises(others);
-            poly_simp_rel(book, literals, n, rest(others, n), 0)
-        }
+// Whether two verdicts are the same: `Verdict` derives no equality.
+fn same(found: Verdict, expected: Verdict) -> bool {
+    match (found, expected) {
+        (Verdict::Accepted(n), Verdict::Accepted(m)) => n == m,
+        (Verdict::Refused(c), Verdict::Refused(d)) => c == d,
+        _ => false,
     }
 }
 
-fn same(found: Verdict, verdict: u8, visits: u32) -> bool {
-    match found {
-        Verdict::Accepted(n) => verdict == 0 && n == visits,
-        Verdict::Refused(c) => c == verdict,
-    }
-}
-
-// Whether a step gets the verdict and, where it is accepted, the visits, under a limit.
-fn answers(
-    book: &[u8],
-    work: &mut [u8],
-    rule: u8,
-    literals: &[u8],
-    args: &[u8],
-    limit: u32,
-    verdict: u8,
-    visits: u32,
-) -> bool
-    requires { Ready book.now work.old × (Inside book.now literals.now × (length literals.now ≤ 16384)) }
-    ensures { work.new ≡ work.old }
-{
-    same(
-        check(book, work, rule, literals, args, limit),
-        verdict,
-        visits,
-    )
-}
-
-// Whether a step is accepted under a limit of so many visits, and under no less.
-fn keeps(book: &[u8], work: &mut [u8], rule: u8, literals: &[u8], args: &[u8], visits: u32) -> bool
-    requires ready { Ready book.now work.old × (Inside book.now literals.now × (length literals.now ≤ 16384)) }
-    requires le_visits { 1 ≤ visits }
-    ensures { work.new ≡ work.old }
-{
-    answers(book, work, rule, literals, args, visits, 0, visits)
-        && answers(book, work, rule, literals, args, visits - 1, 10, 0)
-}
-
-// Whether a step gets the verdict and the visits of the file and, where it makes some visits, keeps to a limit of them.
-fn agrees(book: &[u8], work: &mut [u8], h: Head, literals: &[u8], args: &[u8]) -> bool
-    requires { Ready book.now work.old × (Inside book.now literals.now × (length literals.now ≤ 16384)) }
-    ensures { work.new ≡ work.old }
-{
-    let rule = h.rule;
-    let verdict = h.verdict;
-    let visits = h.visits;
-    answers(book, work, rule, literals, args, LIMIT, verdict, visits)
-        && (verdict != 0 || visits == 0 || keeps(book, work, rule, literals, args, visits))
-}
-
-// ---- its inferred numbers
-
-// Whether the arguments of a step are numbers, and those that it infers, each taken as it is found, are those of the
-// file.
-fn infers(book: &[u8], work: &mut [u8], literals: &[u8], args: &[u8], numbers: &[u8]) -> bool
-    requires { Ready book.now work.old × (Inside book.now literals.now × (length literals.now ≤ 16384)) }
-{
-    let Asserted::Holds = read_args(book, args) else {
-        return false;
-    };
-    let mut p = Progress {
-        operator: EQUALS,
-        acc: LinearComb {
-            len: 0,
-            constant: Number::whole(0),
-        },
-        visits: 0,
-    };
-    let mut done = 0;
-    let mut k = 0;
-    loop {
-        match fold_literals(book, work, rest(literals, done), rest(args, done), p, LIMIT) {
-            Folded::Done(_) => {
-                return k == numbers.len() / 8;
+impl Step<'_> {
+    // The step by its rule.
+    fn check(self, work: &mut [u8], limit: u32) -> Verdict
+        requires { StepReady self.book.now work.old self.literals.now }
+        ensures { work.new ≡ work.old }
+    {
+        let book = self.book;
+        let literals = self.literals;
+        let others = self.others;
+        match self.rule {
+            LA_RW_EQ => la_rw_eq(book, literals, 0),
+            LA_DISEQUALITY => la_disequality(book, literals, 0),
+            LA_TOTALITY => la_totality(book, literals, 0),
+            LA_TAUTOLOGY => la_tautology(book, work, literals, 0, limit),
+            LA_GENERIC => la_generic(book, work, literals, others, 0, limit),
+            BOUNDED_FARKAS => bounded_farkas(book, work, literals, others, 0, limit),
+            POLY_SIMP => poly_simp(book, work, literals, 0, limit),
+            _ => {
+                let n = premises(others);
+                poly_simp_rel(book, literals, n, rest(others, n), 0)
             }
-            Folded::Inferred(q, a, n) => {
-                if a.eq(Number::read(numbers, 8 * k)) {
+        }
+    }
+
+    // Whether a step gets a verdict under a limit.
+    fn answers(self, work: &mut [u8], limit: u32, expected: Verdict) -> bool
+        requires { StepReady self.book.now work.old self.literals.now }
+        ensures { work.new ≡ work.old }
+    {
+        same(self.check(work, limit), expected)
+    }
+
+    // Whether a step is accepted under a limit of so many visits, and under no less.
+    fn keeps(self, work: &mut [u8], visits: u32) -> bool
+        requires ready { StepReady self.book.now work.old self.literals.now }
+        requires some { 1 ≤ visits }
+        ensures { work.new ≡ work.old }
+    {
+        self.answers(work, visits, Verdict::Accepted(visits))
+            && self.answers(work, visits - 1, Verdict::Refused(VISIT_LIMIT))
+    }
+
+    // Whether a step gets the verdict and the visits of the file and, where it makes some visits, keeps to a limit of
+    // them.
+    fn agrees(self, work: &mut [u8]) -> bool
+        requires { StepReady self.book.now work.old self.literals.now }
+        ensures { work.new ≡ work.old }
+    {
+        if !self.answers(work, LIMIT, self.expected) {
+            return false;
+        }
+        match self.expected {
+            Verdict::Accepted(0) | Verdict::Refused(_) => true,
+            Verdict::Accepted(visits) => self.keeps(work, visits),
+        }
+    }
+
+    // ---- its inferred numbers
+
+    // Whether the arguments of a step are numbers, and those that it infers, each taken as it is found, are those of
+    // the file.
+    fn infers(self, work: &mut [u8]) -> bool
+        requires { StepReady self.book.now work.old self.literals.now }
+    {
+        let book = self.book;
+        let literals = self.literals;
+        let args = self.others;
+        let Asserted::Holds = read_args(book, args) else {
+            return false;
+        };
+        let mut p = Progress {
+            operator: EQUALS,
+            acc: LinearComb {
+                len: 0,
+                constant: Number::whole(0),
+            },
+            visits: 0,
+        };
+        let mut done = 0;
+        let mut left = self.numbers;
+        loop {
+            match fold_literals(book, work, rest(literals, done), rest(args, done), p, LIMIT) {
+                Folded::Done(_) => return left.len() < NUMBER_BYTES,
+                Folded::Inferred(q, a, n) => {
+                    let Some((number, more)) = left.split_at_checked(NUMBER_BYTES) else {
+                        return false;
+                    };
+                    if !a.eq(Number::read(number, 0)) {
+                        return false;
+                    }
                     p = q;
                     done += n;
-                    k += 1;
-                } else {
-                    return false;
+                    left = more;
                 }
-            }
-            Folded::Refused(_) => {
-                return false;
+                Folded::Refused(_) => return false,
             }
         }
     }
-}
 
-// Only an accepted step of `la_generic` or `bounded_farkas` infers numbers.
-fn may_infer(h: Head) -> bool {
-    h.verdict == 0 && matches!(h.rule, 5 | 6)
-}
-
-// ---- all of it
-
-// Whether a step whose literals name records of the book is as in the file.
-fn is_told(
-    book: &[u8],
-    work: &mut [u8],
-    h: Head,
-    literals: &[u8],
-    args: &[u8],
-    numbers: &[u8],
-) -> bool
-    requires { Ready book.now work.old × (Inside book.now literals.now × (length literals.now ≤ 16384)) }
-{
-    if agrees(book, work, h, literals, args) {
-        if may_infer(h) {
-            return infers(book, work, literals, args, numbers);
-        }
-        return numbers.len() == 0;
+    // Only an accepted step of `la_generic` or `bounded_farkas` infers numbers.
+    fn may_infer(self) -> bool {
+        matches!(self.rule, LA_GENERIC | BOUNDED_FARKAS)
+            && matches!(self.expected, Verdict::Accepted(_))
     }
-    false
-}
 
-// Whether all of a step is as in the file.
-pub(crate) fn is_same(
-    book: &[u8],
-    work: &mut [u8],
-    h: Head,
-    literals: &[u8],
-    args: &[u8],
-    numbers: &[u8],
-) -> bool
-    requires { Ready book.now work.old }
-{
-    literals.len() <= MOST_LITERALS
-        && inside(book, literals)
-        && is_told(book, work, h, literals, args, numbers)
+    // ---- all of it
+
+    // Whether all of a step is as in the file.
+    pub(crate) fn is_same(self, work: &mut [u8]) -> bool
+        requires { Ready self.book.now work.old }
+    {
+        if MOST_LITERALS < self.literals.len()
+            || !inside(self.book, self.literals)
+            || !self.agrees(work)
+        {
+            return false;
+        }
+        if self.may_infer() {
+            self.infers(work)
+        } else {
+            self.numbers.is_empty()
+        }
+    }
 }

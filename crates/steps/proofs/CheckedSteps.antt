@@ -10,7 +10,7 @@ use native.Mathlib.Omega.{arith}
 use lib.ListN.{length, get_or}
 use Rattle.numbers.specs.Bytes.{Bytes, le}
 use Rattle.rules.specs.Refusal.{Result, ◌>>=◌}
-use Rattle.rules.specs.Refusal.Outcome.{ok, refused}
+use Rattle.std.specs.Prelude.{Ok, Err}
 use Rattle.rules.specs.Limits.{Limits, limited}
 use Rattle.linear_shapes.specs.LinearShapes.{la_rw_eq, la_disequality, la_totality}
 use Rattle.process_disequality.specs.ProcessDisequality.{Progress}
@@ -75,18 +75,18 @@ module _ {b run part : Bytes} (s : StandsIn b run part) where
 
 visits-still : (n : ℕ) (r : Result (Unit {0})) → visits_after (still n r) ≡ after n r
 unfolding ◌>>=◌
-visits-still n (ok u) = refl
-visits-still n (refused x) = refl
+visits-still n (Ok u) = refl
+visits-still n (Err x) = refl
 
 visits-moved : (r : Result ℕ) → visits_after (moved r) ≡ r
 unfolding ◌>>=◌
-visits-moved (ok n) = refl
-visits-moved (refused x) = refl
+visits-moved (Ok n) = refl
+visits-moved (Err x) = refl
 
 pub visits-traced : (r : Result Progress) → visits_after (traced r) ≡ visits_of r
 unfolding ◌>>=◌
-visits-traced (ok p) = refl
-visits-traced (refused x) = refl
+visits-traced (Ok p) = refl
+visits-traced (Err x) = refl
 
 module _ (l : Limits) (ss : List Step) (b part : Bytes) (n : ℕ) where
   abbrev Judged : Verdict → Type 0

@@ -3,7 +3,7 @@ use mathlib.Core.Path.{◌≡◌, refl, sym, ap, ◌∙◌}
 use Prim.Native.Nat.{ℕ}
 use native.Mathlib.Omega.{arith}
 use Rattle.rules.specs.Refusal.{Result, ◌>>=◌}
-use Rattle.rules.specs.Refusal.Outcome.{ok, refused}
+use Rattle.std.specs.Prelude.{Ok, Err}
 use Rattle.rules.specs.Memory.Parts.{verdict_of, Refuses}
 use Rattle.rules.specs.declared.verdict.Verdict as by-rule
 use Rattle.rules.specs.declared.verdict.Verdict.TheVariants as verdict
@@ -12,8 +12,8 @@ use Rattle.steps.specs.Memory.StepAnswers.{visits_after, verdict_refusal}
 
 pub refused_as : (c : ℕ) (d : Result Accepted) → verdict.Refused c ≡ verdict_of (visits_after d) → Refuses c d
 unfolding ◌>>=◌
-refused_as c (ok a) e = let z : ◌≡◌ {A = ℕ} 0 1 = cc in absurd (omega arith)
-refused_as c (refused r) e = record { reason = r; is = refl; code = cc }
+refused_as c (Ok a) e = let z : ◌≡◌ {A = ℕ} 0 1 = cc in absurd (omega arith)
+refused_as c (Err r) e = record { reason = r; is = refl; code = cc }
 
 -- v is the answer, and n the number that is handed on
 pub refusal-as :
@@ -25,7 +25,7 @@ refusal-as d {c = c} is stops number_is =
 
 pub accepted-as :
     (v : ℕ) (d : Result Accepted) → verdict.Accepted v ≡ verdict_of (visits_after d) →
-    (a : Accepted) × ((d ≡ ok a) × (v ≡ a.visits))
+    (a : Accepted) × ((d ≡ Ok a) × (v ≡ a.visits))
 unfolding ◌>>=◌
-accepted-as v (ok a) e = (a, (refl, cc))
-accepted-as v (refused r) e = let z : ◌≡◌ {A = ℕ} 0 1 = cc in absurd (omega arith)
+accepted-as v (Ok a) e = (a, (refl, cc))
+accepted-as v (Err r) e = let z : ◌≡◌ {A = ℕ} 0 1 = cc in absurd (omega arith)

@@ -3,7 +3,7 @@ use Rattle.std.specs.Prelude.{List, [], ◌∷◌, ℕ, get_or}
 use Rattle.numbers.specs.Rational.{Rational}
 use Rattle.terms.specs.Term.{Term}
 use Rattle.rules.specs.Refusal.{Result, ◌>>=◌}
-use Rattle.rules.specs.Refusal.Outcome.{ok}
+use Rattle.std.specs.Prelude.{Ok}
 use Rattle.rules.specs.Limits.{Limits}
 use Rattle.rules.specs.Shapes.{Clause}
 use Rattle.linear_shapes.specs.LinearShapes as shape
@@ -35,17 +35,17 @@ abbrev pub accepted : ℕ → List Rational → Accepted
 accepted n qs = record { visits = n; inferred = qs }
 
 abbrev pub still : ℕ → Result (Unit {0}) → Result Accepted
-still n r = r >>= λ u. ok (accepted n [])
+still n r = r >>= λ u. Ok (accepted n [])
 
 abbrev pub moved : Result ℕ → Result Accepted
-moved r = r >>= λ n. ok (accepted n [])
+moved r = r >>= λ n. Ok (accepted n [])
 
 abbrev pub traced : Result Progress → Result Accepted
-traced r = r >>= λ p. ok (accepted p.visits p.trace)
+traced r = r >>= λ p. Ok (accepted p.visits p.trace)
 
 -- a rule on a step's clause and arguments, and on the clauses of the steps that it names
 unfoldable pub check_rule : Rule → Limits → List Clause → Clause → List Term → ℕ → Result Accepted
-check_rule assume l premises c args n = ok (accepted n [])
+check_rule assume l premises c args n = Ok (accepted n [])
 check_rule la_rw_eq l premises c args n = still n (shape.la_rw_eq c)
 check_rule la_disequality l premises c args n = still n (shape.la_disequality c)
 check_rule la_totality l premises c args n = still n (shape.la_totality c)

@@ -5,42 +5,18 @@ use mathlib.Core.Path.{◌≡◌, refl, sym, ap, ◌∙◌}
 use mathlib.Core.Bool.{Bool, true, false, cond}
 use mathlib.Core.Logic.{◌⊎◌, ⊎_elim, inl, inr}
 use mathlib.Core.List.{List, [], ◌∷◌}
-use Prim.Native.Nat.{ℕ, zero, suc, ◌*◌, ◌-◌, ◌/◌, ◌≤◌, ◌<◌, min}
+use Prim.Native.Nat.{ℕ, zero, suc, ◌*◌, ◌/◌, ◌≤◌, ◌<◌}
 use native.Mathlib.Nat.{eq-or-lt_of_le, le_of_suc-le-suc}
 use native.Mathlib.Omega.{arith}
-use borrow.Author.Tests.{lt-ltb, le-ltb, eq-eqb, ne_eqb}
+use borrow.Author.Tests.{lt-ltb, le-ltb}
 use lib.Dec.{ltb}
-use lib.ListN.{length, get_or, take, drop, length-drop, get_or-eq_default}
-use lib.Seq.{take-nil}
+use lib.ListN.{length, get_or, get_or-eq_default}
 use Rattle.numbers.specs.Bytes.{Bytes, le, same_bytes}
 use Rattle.terms.specs.Term.{Term, Terms}
 use Rattle.terms.specs.Term.Terms.{nil, ◌▹◌}
-use Rattle.terms.specs.Book.{record_of, kind, arg_count, arg_bytes, numbers, nothing, earlier, argument_at, arguments}
+use Rattle.terms.specs.Book.{record_of, numbers, nothing, earlier, argument_at, arguments}
 use Rattle.terms.specs.Book.{forest, stands}
 use Rattle.numbers.proofs.LittleEndian.{le_cons, le_of_two}
-
--- ---- the part of a record that holds its arguments, as the function `arg_bytes` finds it
-
--- what is taken beyond the end does not matter
-take-agree : (m n : ℕ) (l : Bytes) → min m (length l) ≡ min n (length l) → take m l ≡ take n l
-take-agree m n [] h = rw (take-nil m, take-nil n)
-take-agree zero zero (x ∷ l) h = refl
-take-agree zero (suc n) (x ∷ l) h = absurd (omega arith)
-take-agree (suc m) zero (x ∷ l) h = absurd (omega arith)
-take-agree (suc m) (suc n) (x ∷ l) h = ap (λ (t : Bytes). x ∷ t) (take-agree m n l (omega arith))
-
-module _ (r : Bytes) where
-  pub arg_bytes_of :
-      (k x n : ℕ) → k ≡ kind r → k ≡ 5 → x ≡ arg_count r → min n (length r - 4) ≡ min (2 * x) (length r - 4) →
-      take n (drop 4 r) ≡ arg_bytes r
-  arg_bytes_of k x n first five second size =
-      rw (← first, eq-eqb k 5 five, ← second) (take-agree n (2 * x) (drop 4 r) (rw length-drop size))
-
-  pub no_operation : (k : ℕ) → k ≡ kind r → (k ≡ 5 → ⊥) → [] ≡ arg_bytes r
-  no_operation k first other = rw (← first, ne_eqb k 5 other)
-
-  pub no_arguments : (k : ℕ) → k ≡ kind r → k ≡ 5 → length r < 4 → [] ≡ arg_bytes r
-  no_arguments k first five short = arg_bytes_of k (arg_count r) 0 first five refl (omega arith)
 
 -- ---- numbers of two bytes
 

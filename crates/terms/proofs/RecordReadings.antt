@@ -3,7 +3,7 @@
 -- cases. At the end stands the same for a record of the book.
 use mathlib.Core.Path.{◌≡◌, refl, sym, ◌∙◌, ap, subst}
 use mathlib.Core.Bool.{Bool, true, false, ◌&&◌, cond}
-use mathlib.Core.Option.{some, none}
+use Rattle.std.specs.Prelude.{Some, None}
 use Prim.Native.Nat.{ℕ}
 use native.Mathlib.Omega.{arith}
 use borrow.Author.Tests.{eqb-true, eqb-false, eq-eqb, ne_eqb}
@@ -18,12 +18,12 @@ use Rattle.terms.specs.Term.Terms.{nil}
 use Rattle.terms.specs.Book.{record_of, kind, operator, field1, field2, integer_of, rational_of, is_number, is_vector}
 use Rattle.terms.specs.Book.{atom_sort, arg_bytes, numbers, arguments, node, forest, tree}
 use Rattle.terms.specs.Readers.{as_number, as_bitvector, as_op, arguments_of}
-use Rattle.terms.specs.declared.term.Reading.{Reading}
-use Rattle.terms.specs.declared.term.Reading.TheVariants.{Value, NotNumber}
-use Rattle.terms.specs.declared.term.BitVector.TheVariants.{Bits, NotBitvector}
 use Rattle.numbers.proofs.Truths.{if_either}
 use Rattle.numbers.proofs.LittleEndian.{cond_either}
 use Rattle.terms.proofs.Trees.{tree-node}
+use Rattle.terms.specs.Readers.{Reading}
+use Rattle.std.specs.Prelude.{Ok, Err}
+use Rattle.terms.specs.declared.term.NotRead.TheVariants.{NotNumber}
 
 -- ---- the five kinds of term
 
@@ -83,7 +83,7 @@ abbrev pub constant_of : Bytes → Rational
 constant_of r = frac (signed 8 (field1 r)) (denominator r)
 
 abbrev pub if_number : Rational → Reading
-if_number q = cond (is_number q) (Value q) NotNumber
+if_number q = cond (is_number q) (Ok q) (Err NotNumber)
 
 module _ (r : Bytes) where
   pub denominator-integer : kind r ≡ 1 → denominator r ≡ pos 1
@@ -98,7 +98,7 @@ module _ (r : Bytes) where
   -- the bytes of neither kind of constant
   not-number :
       (kind r ≡ 1 → is_number (integer_of r) ≡ false) → (kind r ≡ 2 → is_number (rational_of r) ≡ false) →
-      NotNumber ≡ if_number (constant_of r)
+      Err NotNumber ≡ if_number (constant_of r)
   not-number a b = rw refused
     where
       refused : is_number (constant_of r) ≡ false
@@ -118,14 +118,14 @@ module _ (r : Bytes) where
   as_number_of (an_atom a b c d) = not-number a b
 
   pub no_number_of :
-      {i : ℕ} {ts : Terms} {t : Term} → Node i r ts t → (kind r ≡ 1 → ⊥) → (kind r ≡ 2 → ⊥) → NotNumber ≡ as_number t
+      {i : ℕ} {ts : Terms} {t : Term} → Node i r ts t → (kind r ≡ 1 → ⊥) → (kind r ≡ 2 → ⊥) → Err NotNumber ≡ as_number t
   no_number_of n a b = not-number (λ k. absurd (a k)) (λ k. absurd (b k)) ∙ sym (as_number_of n)
 
   -- ---- bit-vectors and operations
 
   pub as_bitvector_of :
       {i : ℕ} {ts : Terms} {t : Term} → Node i r ts t →
-      as_bitvector t ≡ cond (eqb (kind r) 3 && is_vector r) (Bits (field1 r) (field2 r)) NotBitvector
+      as_bitvector t ≡ cond (eqb (kind r) 3 && is_vector r) (Some ((field1 r), (field2 r))) None
   unfolding as_bitvector
   as_bitvector_of (an_integer k t) = rw k
   as_bitvector_of (a_rational k t) = rw k
@@ -135,7 +135,7 @@ module _ (r : Bytes) where
 
   pub as_op_of :
       {i : ℕ} {ts : Terms} {t : Term} → Node i r ts t →
-      as_op t ≡ cond (eqb (kind r) 5) (some (operator r, ts)) none
+      as_op t ≡ cond (eqb (kind r) 5) (Some (operator r, ts)) None
   unfolding as_op
   as_op_of (an_integer k t) = rw k
   as_op_of (a_rational k t) = rw k
@@ -145,7 +145,7 @@ module _ (r : Bytes) where
 
   pub args_of_of :
       (o : ℕ) {i : ℕ} {ts : Terms} {t : Term} → Node i r ts t →
-      args_of o t ≡ cond (eqb (kind r) 5 && eqb o (operator r)) (some ts) none
+      args_of o t ≡ cond (eqb (kind r) 5 && eqb o (operator r)) (Some ts) None
   args_of_of o (an_integer k t) = rw k
   args_of_of o (a_rational k t) = rw k
   args_of_of o (a_bitvector k t) = rw k
@@ -168,16 +168,16 @@ module _ (b : Bytes) (i : ℕ) {r : Bytes} (r-is : r ≡ record_of b i) where
   pub as_number_record : as_number (tree b i) ≡ as_number (node 0 r nil)
   as_number_record = as_number_of r record_node ∙ sym (as_number_of r (node_is 0 r nil))
 
-  pub vector-found : kind r ≡ 3 → is_vector r ≡ true → as_bitvector (tree b i) ≡ Bits (field1 r) (field2 r)
+  pub vector-found : kind r ≡ 3 → is_vector r ≡ true → as_bitvector (tree b i) ≡ Some ((field1 r), (field2 r))
   vector-found k t = as_bitvector_of r record_node ∙ rw (k, t)
 
-  pub no_vector : (kind r ≡ 3 → is_vector r ≡ false) → as_bitvector (tree b i) ≡ NotBitvector
+  pub no_vector : (kind r ≡ 3 → is_vector r ≡ false) → as_bitvector (tree b i) ≡ None
   no_vector h = as_bitvector_of r record_node ∙ rw (not-both (kind r) 3 (is_vector r) h)
 
-  pub as_op_record : kind r ≡ 5 → as_op (tree b i) ≡ some (operator r, below b i r)
+  pub as_op_record : kind r ≡ 5 → as_op (tree b i) ≡ Some (operator r, below b i r)
   as_op_record k = as_op_of r record_node ∙ rw k
 
-  pub as_op-other : (kind r ≡ 5 → ⊥) → as_op (tree b i) ≡ none
+  pub as_op-other : (kind r ≡ 5 → ⊥) → as_op (tree b i) ≡ None
   as_op-other h = as_op_of r record_node ∙ rw (ne_eqb (kind r) 5 h)
 
   pub arguments_of_record : arguments_of (tree b i) ≡ below b i r
@@ -188,10 +188,10 @@ module _ (b : Bytes) (i : ℕ) {r : Bytes} (r-is : r ≡ record_of b i) where
       go true e = rw (as_op_record (eqb-true (kind r) 5 e), arguments_of)
       go false e = rw (as_op-other (eqb-false (kind r) 5 e), arguments_of, e)
 
-  pub args_of_record : (o : ℕ) → kind r ≡ 5 → operator r ≡ o → args_of o (tree b i) ≡ some (below b i r)
+  pub args_of_record : (o : ℕ) → kind r ≡ 5 → operator r ≡ o → args_of o (tree b i) ≡ Some (below b i r)
   args_of_record o k e = args_of_of r o record_node ∙ rw (k, eq-eqb o (operator r) (sym e))
 
-  pub args_of-other : (o : ℕ) → (kind r ≡ 5 → operator r ≡ o → ⊥) → args_of o (tree b i) ≡ none
+  pub args_of-other : (o : ℕ) → (kind r ≡ 5 → operator r ≡ o → ⊥) → args_of o (tree b i) ≡ None
   args_of-other o h =
       args_of_of r o record_node
       ∙ rw (not-both (kind r) 5 (eqb o (operator r)) (λ k. ne_eqb o (operator r) (λ e. h k (sym e))))

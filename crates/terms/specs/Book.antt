@@ -20,10 +20,8 @@ use Rattle.terms.specs.Term.Terms.{nil, ◌▹◌}
 use Rattle.terms.specs.declared.reading.BookRefusal.{BookRefusal}
 use Rattle.terms.specs.declared.reading.BookRefusal.TheVariants.{BookSize, RecordLayout, SortBroken}
 use Rattle.terms.specs.declared.reading.BookRefusal.TheVariants.{RecordRepeated}
-use Rattle.terms.specs.declared.reading.BookRead.{BookRead}
-use Rattle.terms.specs.declared.reading.BookRead.TheVariants.{Records, RefusedAt}
-use Rattle.terms.specs.declared.reading.RecordRead.{RecordRead}
-use Rattle.terms.specs.declared.reading.RecordRead.TheVariants.{Sorted, Refused}
+use Rattle.terms.specs.declared.reading.BookError.{BookError}
+use Rattle.std.specs.Prelude.{Result, Ok, Err}
 
 -- ---- a record's fields
 
@@ -210,33 +208,45 @@ stands (suc n) b r = elim (stands n b r) [ true ↦ true | false ↦ same_bytes 
 
 -- ---- the book
 
+-- what reading a book finds: so many records, or why it is refused
+abbrev pub BookRead : Type 0
+BookRead = Result ℕ BookError
+
+-- record i is refused
+abbrev pub refused_at : BookRefusal → ℕ → BookRead
+refused_at c i = Err (record { refusal = c; at = i })
+
+-- and a record: its sort as one number
+abbrev pub RecordRead : Type 0
+RecordRead = Result ℕ BookRefusal
+
 -- refusal 3, 4 or 5, or the record's sort
 unfoldable pub record_read : Bytes → ℕ → RecordRead
 record_read b i =
     elim (layout_ok i (record_of b i)) [
-      | false ↦ Refused RecordLayout
+      | false ↦ Err RecordLayout
       | true ↦
           elim (sort_ok (tree b i)) [
-            | false ↦ Refused SortBroken
+            | false ↦ Err SortBroken
             | true ↦
                 elim (stands i b (record_of b i)) [
-                  | true ↦ Refused RecordRepeated
-                  | false ↦ Sorted (sort_code (sort (tree b i)))
+                  | true ↦ Err RecordRepeated
+                  | false ↦ Ok (sort_code (sort (tree b i)))
                 ]
           ]
     ]
 
 -- n records are left, from record i on
 unfoldable pub read_records : ℕ → Bytes → ℕ → BookRead
-read_records zero b i = Records i
-read_records (suc n) b i = elim (record_read b i) [ Sorted s ↦ read_records n b (i + 1) | Refused c ↦ RefusedAt c i ]
+read_records zero b i = Ok i
+read_records (suc n) b i = elim (record_read b i) [ Ok s ↦ read_records n b (i + 1) | Err c ↦ refused_at c i ]
 
 -- whole records, and not too many
 abbrev pub size_ok : Bytes → Bool
 size_ok b = eqb (length b % 32) 0 && leb (length b / 32) max_records
 
 unfoldable pub read_book : Bytes → BookRead
-read_book b = elim (size_ok b) [ true ↦ read_records (length b / 32) b 0 | false ↦ RefusedAt BookSize 0 ]
+read_book b = elim (size_ok b) [ true ↦ read_records (length b / 32) b 0 | false ↦ refused_at BookSize 0 ]
 
 -- document 01's number of a refusal
 abbrev pub book_number : BookRefusal → ℕ
@@ -247,14 +257,14 @@ book_number RecordRepeated = 5
 
 -- the same for each case of `BookRead`; 0 is no refusal
 abbrev pub refusal_of : BookRead → ℕ
-refusal_of (Records n) = 0
-refusal_of (RefusedAt c i) = book_number c
+refusal_of (Ok n) = 0
+refusal_of (Err e) = book_number e.refusal
 
 -- ---- what reading leaves in memory: the sorts of the records that were read, a byte each
 
 abbrev pub records_read : BookRead → ℕ
-records_read (Records n) = n
-records_read (RefusedAt c i) = i
+records_read (Ok n) = n
+records_read (Err e) = e.at
 
 unfoldable pub put_sorts : ℕ → Bytes → Bytes → Bytes
 put_sorts zero b w = w

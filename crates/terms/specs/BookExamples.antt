@@ -3,7 +3,7 @@
 -- terms'.
 use Rattle.std.specs.Prelude.{◌≡◌, refl, Bool, true, false, ◌&&◌, cond, List, [], ◌∷◌, ◌++◌, ℕ, zero, suc, ◌+◌, eqb}
 use Rattle.std.specs.Prelude.{ℤ, pos, negsuc, length, replicate, set}
-use Rattle.std.proofs.Math.Option.{some}
+use Rattle.std.specs.Prelude.{Some}
 use Rattle.std.proofs.Common.{zero-lt-suc}
 use Rattle.numbers.specs.Pair.{pair, eq_p}
 use Rattle.numbers.specs.Rational.{frac, whole, gcd, gcd_within, lowest, div_q, neg_q, is_zero, is_integer, in_range}
@@ -21,11 +21,10 @@ use Rattle.terms.specs.Readers.{as_bitvector}
 use Rattle.terms.specs.Readers.{remove_negation, bounded, ranged}
 use Rattle.terms.specs.Smtlib.{Assignment, as_pair, value, meaning, every, any, chain, fold_left, sum_z, product_z}
 use Rattle.terms.specs.Smtlib.{divs_even}
-use Rattle.terms.specs.declared.reading.BookRead.{BookRead}
-use Rattle.terms.specs.declared.reading.BookRead.TheVariants.{Records}
-use Rattle.terms.specs.declared.term.BitVector.TheVariants.{Bits}
-use Rattle.terms.specs.declared.term.Reading.{Reading}
-use Rattle.terms.specs.declared.term.Reading.TheVariants.{Value, NotNumber}
+use Rattle.terms.specs.Book.{BookRead}
+use Rattle.std.specs.Prelude.{Ok, Err}
+use Rattle.terms.specs.Readers.{Reading}
+use Rattle.terms.specs.declared.term.NotRead.TheVariants.{NotNumber}
 
 -- ---- records from their parts
 
@@ -96,7 +95,7 @@ unfoldable sorts_of : ℕ → Bytes → ℕ → List ℕ
 sorts_of zero b i = []
 sorts_of (suc n) b i = sort_code (sort (tree b i)) ∷ sorts_of n b (suc i)
 
-it_is_a_book : read_book book ≡ Records 20
+it_is_a_book : read_book book ≡ Ok 20
 unfolding reads book
 it_is_a_book = refl
 
@@ -116,16 +115,16 @@ readings (i ∷ l) = reading i ∷ readings l
 
 what_is_read :
     readings (4 ∷ 5 ∷ 6 ∷ 7 ∷ 11 ∷ 12 ∷ 16 ∷ 17 ∷ 18 ∷ [])
-    ≡ Value (whole (pos 3)) ∷ Value (whole (negsuc 6)) ∷ Value (frac (pos 1) (pos 2)) ∷ NotNumber
-    ∷ Value (whole (negsuc 2)) ∷ Value (whole (negsuc 5)) ∷ Value (frac (negsuc 6) (pos 3)) ∷ NotNumber ∷ NotNumber ∷ []
+    ≡ Ok (whole (pos 3)) ∷ Ok (whole (negsuc 6)) ∷ Ok (frac (pos 1) (pos 2)) ∷ Err NotNumber
+    ∷ Ok (whole (negsuc 2)) ∷ Ok (whole (negsuc 5)) ∷ Ok (frac (negsuc 6) (pos 3)) ∷ Err NotNumber ∷ Err NotNumber ∷ []
 unfolding reads book reading
 what_is_read = refl
 
-bits-are-read : as_bitvector (tree book 7) ≡ Bits 128 8
+bits-are-read : as_bitvector (tree book 7) ≡ Some (128, 8)
 unfolding reads book
 bits-are-read = refl
 
-negation_is_removed : remove_negation (tree book 10) ≡ some (tree book 9)
+negation_is_removed : remove_negation (tree book 10) ≡ Some (tree book 9)
 unfolding reads book
 negation_is_removed = refl
 

@@ -2,7 +2,7 @@
 -- Numbers are pairs of any size, compared by cross products.
 use Rattle.std.specs.Prelude.{Bool, true, false, not, ◌&&◌, ◌||◌, cond, List, [], ◌∷◌, ℕ, ◌%◌, ◌^◌, ◌<◌, eqb, ℤ, pos}
 use Rattle.std.specs.Prelude.{neg_ℤ, ◌+ℤ◌, ◌*ℤ◌}
-use Rattle.std.proofs.Math.Option.{Option, some, none}
+use Rattle.std.specs.Prelude.{Option, Some, None}
 use Rattle.numbers.specs.Pair.{Pair, whole_p, add_p, mul_p, neg_p, div_p, eq_p, less_p, less_eq_p, ◌≈◌}
 use Rattle.numbers.specs.Rational as Rational
 use Rattle.numbers.specs.Rational.{is_zero, is_integer, div_q, modulo}
@@ -14,8 +14,9 @@ use Rattle.terms.specs.Term.Sort.{bool, int, real, bits}
 use Rattle.terms.specs.Term.Term.{integer, rational, bitvector, atom, op}
 use Rattle.terms.specs.Term.Terms.{nil, ◌▹◌}
 use Rattle.terms.specs.Readers.{unbounded, as_signed_number, as_fraction}
-use Rattle.terms.specs.declared.term.Reading.{Reading}
-use Rattle.terms.specs.declared.term.Reading.TheVariants.{Value, NotNumber, OutOfRange}
+use Rattle.terms.specs.Readers.{Reading}
+use Rattle.std.specs.Prelude.{Ok, Err}
+use Rattle.terms.specs.declared.term.NotRead.TheVariants.{NotNumber, OutOfRange}
 
 -- ---- values
 
@@ -165,26 +166,26 @@ mul_m ρ i ts vs = number (reduce mul_p vs)
 abbrev pub div_m : Meaning
 div_m ρ i ts vs =
     elim (as_fraction unbounded (op i IntDiv ts)) [
-      | Value q ↦ number (Rational.value q)
-      | NotNumber ↦ given ρ i int
-      | OutOfRange ↦ given ρ i int
+      | Ok q ↦ number (Rational.value q)
+      | Err NotNumber ↦ given ρ i int
+      | Err OutOfRange ↦ given ρ i int
     ]
 
 -- the second argument as a number that is not 0
 abbrev pub divisor : Terms → Option Rational.Rational
-divisor nil = none
-divisor (a ▹ nil) = none
+divisor nil = None
+divisor (a ▹ nil) = None
 divisor (a ▹ b ▹ ts) =
     elim (as_fraction unbounded b) [
-      | Value q ↦ cond (is_zero q) none (some q)
-      | NotNumber ↦ none
-      | OutOfRange ↦ none
+      | Ok q ↦ cond (is_zero q) None (Some q)
+      | Err NotNumber ↦ None
+      | Err OutOfRange ↦ None
     ]
 
 -- Reals: / by a number that is not 0 is the quotient; by anything else it has a value of its own
 abbrev pub real_div_m : Meaning
 real_div_m ρ i ts vs =
-    elim (divisor ts) [ some q ↦ number (div_p (as_pair (first_of vs)) (Rational.value q)) | none ↦ given ρ i real ]
+    elim (divisor ts) [ Some q ↦ number (div_p (as_pair (first_of vs)) (Rational.value q)) | None ↦ given ρ i real ]
 
 -- Reals_Ints: to_real is the same number
 abbrev pub to_real_m : Meaning
@@ -241,15 +242,15 @@ holds ρ (t ∷ ts) = is_true (value ρ t) || holds ρ ts
 -- ---- the premise on div: each div of two written numbers with a nonzero divisor comes out even
 
 abbrev pub even : Reading → Reading → Bool
-even (Value n) (Value d) = is_zero d || is_integer (div_q n d)
-even (Value n) NotNumber = true
-even (Value n) OutOfRange = true
-even NotNumber d = true
-even OutOfRange d = true
+even (Ok n) (Ok d) = is_zero d || is_integer (div_q n d)
+even (Ok n) (Err NotNumber) = true
+even (Ok n) (Err OutOfRange) = true
+even (Err NotNumber) d = true
+even (Err OutOfRange) d = true
 
 abbrev pub even_div : ℕ → Terms → Bool
 even_div o ts =
-    elim (binary IntDiv (op 0 o ts)) [ some p ↦ even (as_signed_number p.0) (as_signed_number p.1) | none ↦ true ]
+    elim (binary IntDiv (op 0 o ts)) [ Some p ↦ even (as_signed_number p.0) (as_signed_number p.1) | None ↦ true ]
 
 unfoldable mutual
   pub divs_even : Term → Bool

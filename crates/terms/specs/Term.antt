@@ -1,7 +1,7 @@
 -- Terms: the tree below a record of the book, each node with its record number. The Rust has `Rc<Term>`, and two terms
 -- are equal where they are the same allocation; here they are equal where their record numbers are.
 use Rattle.std.specs.Prelude.{Bool, true, false, ◌&&◌, ◌||◌, cond, List, [], ◌∷◌, ℕ, ◌+◌, leb, eqb, ℤ}
-use Rattle.std.proofs.Math.Option.{Option, some, none}
+use Rattle.std.specs.Prelude.{Option, Some, None}
 use Rattle.numbers.specs.Rational.{Rational}
 use Rattle.terms.specs.Format.{bool_sort, int_sort, real_sort, bits_code}
 use Rattle.terms.specs.Operator.{GreaterEq, Mult, IntDiv, ToReal, Equals, Or}
@@ -104,27 +104,27 @@ unfoldable mutual
 -- ---- the arguments of an operation, by their count: what `match_term!` asks
 
 abbrev pub args_of : ℕ → Term → Option Terms
-args_of o (integer i v) = none
-args_of o (rational i q) = none
-args_of o (bitvector i v w) = none
-args_of o (atom i s n) = none
-args_of o (op i p ts) = cond (eqb o p) (some ts) none
+args_of o (integer i v) = None
+args_of o (rational i q) = None
+args_of o (bitvector i v w) = None
+args_of o (atom i s n) = None
+args_of o (op i p ts) = cond (eqb o p) (Some ts) None
 
 abbrev pub one? : Terms → Option Term
-one? nil = none
-one? (a ▹ nil) = some a
-one? (a ▹ b ▹ ts) = none
+one? nil = None
+one? (a ▹ nil) = Some a
+one? (a ▹ b ▹ ts) = None
 
 abbrev pub two? : Terms → Option (Term × Term)
-two? nil = none
-two? (a ▹ nil) = none
-two? (a ▹ b ▹ nil) = some (a, b)
-two? (a ▹ b ▹ c ▹ ts) = none
+two? nil = None
+two? (a ▹ nil) = None
+two? (a ▹ b ▹ nil) = Some (a, b)
+two? (a ▹ b ▹ c ▹ ts) = None
 
 -- (o a)
 unfoldable pub unary : ℕ → Term → Option Term
-unary o t = elim (args_of o t) [ some ts ↦ one? ts | none ↦ none ]
+unary o t = elim (args_of o t) [ Some ts ↦ one? ts | None ↦ None ]
 
 -- (o a b)
 unfoldable pub binary : ℕ → Term → Option (Term × Term)
-binary o t = elim (args_of o t) [ some ts ↦ two? ts | none ↦ none ]
+binary o t = elim (args_of o t) [ Some ts ↦ two? ts | None ↦ None ]

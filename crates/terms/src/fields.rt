@@ -14,19 +14,13 @@ const LIMIT: u64 = 2147483647;
 pub fn is_number(n: i64, d: i64) -> bool
     ensures { result ≡ is_number (frac n d) }
 {
-    if LIMIT < magnitude(n) {
-        return false;
-    }
-    if LIMIT < magnitude(d) {
-        return false;
-    }
-    0 < d
+    magnitude(n) <= LIMIT && magnitude(d) <= LIMIT && 0 < d
 }
 
 pub fn is_width(w: u64) -> bool
     ensures { result ≡ is_width w }
 {
-    if 1 <= w { w <= MAX_WIDTH } else { false }
+    (1..=MAX_WIDTH).contains(&w)
 }
 
 // Whether the fields are a bit-vector's width and a value below 2^width.
@@ -34,8 +28,5 @@ pub fn is_vector(r: &[u8]) -> bool
     ensures { result ≡ is_vector r.now }
 {
     let w = read_u64(r, SECOND_AT);
-    if is_width(w) {
-        return read_u64(r, FIRST_AT) < 1 << w;
-    }
-    false
+    is_width(w) && read_u64(r, FIRST_AT) < 1 << w
 }

@@ -10,8 +10,7 @@ use numbers::bytes::{byte, read_u16};
 pub fn count(book: &[u8]) -> usize
     ensures { result ≡ count book.now }
 {
-    let n = book.len() / RECORD_BYTES;
-    if n <= MAX_RECORDS { n } else { MAX_RECORDS }
+    (book.len() / RECORD_BYTES).min(MAX_RECORDS)
 }
 
 // The bytes of a record.
@@ -19,28 +18,23 @@ pub fn record(book: &[u8], id: usize) -> &[u8]
     ensures { result.now ≡ record_of book.now id }
 {
     if id < count(book) {
-        let a = RECORD_BYTES * id;
-        let e = a + RECORD_BYTES;
-        return &book[a..e];
+        let at = RECORD_BYTES * id;
+        &book[at..at + RECORD_BYTES]
+    } else {
+        &[]
     }
-    &book[0..0]
 }
 
 // The part of a record that holds its arguments, two bytes each.
 pub fn arg_bytes(r: &[u8]) -> &[u8]
     ensures { result.now ≡ arg_bytes r.now }
 {
-    if byte(r, 0) == OPERATION {
-        if ARGS_AT <= r.len() {
-            let n = 2 * (byte(r, COUNT_AT) as usize);
-            if n <= r.len() - ARGS_AT {
-                let e = ARGS_AT + n;
-                return &r[ARGS_AT..e];
-            }
-            return &r[ARGS_AT..];
-        }
+    if byte(r, 0) != OPERATION {
+        return &[];
     }
-    &r[0..0]
+    let args = r.get(ARGS_AT..).unwrap_or(&[]);
+    let n = 2 * usize::from(byte(r, COUNT_AT));
+    &args[..n.min(args.len())]
 }
 
 // Argument k of record `id`, from the part that holds its arguments; the number of no record where it is not an earlier

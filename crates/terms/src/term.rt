@@ -12,47 +12,24 @@ use crate::format::{ATOM, BIT_VECTOR, FIRST_AT, INTEGER, OPERATION, OPERATOR_AT,
 use crate::operator::{INT_DIV, NO_OPERATOR, NOT, REAL_DIV, SUB};
 use crate::records::{arg_bytes, argument, record};
 use numbers::bytes::{byte, read_u64, signed_u64};
-use numbers::number::{Checked, Number};
+use numbers::number::Number;
 
-// What a reader finds in a term.
-#[derive(Clone, Copy)]
-pub enum Reading {
-    Value(Number),
+// Why no number is read in a term.
+#[derive(Clone, Copy, Debug, PartialEq, Eq)]
+pub enum NotRead {
     // Refusal 25, where a number is asked for.
     NotNumber,
     // Refusal 11.
     OutOfRange,
 }
 
-#[derive(Clone, Copy)]
-pub enum BitVector {
-    // Value and width.
-    Bits(u64, u64),
-    // Refusal 41, where a bit-vector is asked for.
-    NotBitvector,
-}
-
-// The record of the one argument of an operation, if it is such an operation.
-#[derive(Clone, Copy)]
-pub enum Only {
-    Of(usize),
-    NotOne,
-}
-
-// The records of its two arguments.
-#[derive(Clone, Copy)]
-pub enum Two {
-    Both(usize, usize),
-    NotTwo,
-}
-
 // The number that a record's bytes are. An atom is told by its kind, without a look at its other bytes.
-fn constant(r: &[u8]) -> Reading
+fn constant(r: &[u8]) -> Result<Number, NotRead>
     ensures { Finds result (as_number (node 0 r.now nil)) }
 {
     let k = byte(r, 0);
     if k == ATOM {
-        return Reading::NotNumber;
+        return Err(NotRead::NotNumber);
     }
     let n = signed_u64(read_u64(r, FIRST_AT));
     let d = match k {
@@ -61,113 +38,103 @@ fn constant(r: &[u8]) -> Reading
         _ => 0,
     };
     if is_number(n, d) {
-        return Reading::Value(Number { num: n, den: d });
+        Ok(Number { num: n, den: d })
+    } else {
+        Err(NotRead::NotNumber)
     }
-    Reading::NotNumber
 }
 
-pub fn as_number(book: &[u8], id: usize) -> Reading
+pub fn as_number(book: &[u8], id: usize) -> Result<Number, NotRead>
     ensures { Finds result (as_number (tree book.now id)) }
 {
     constant(record(book, id))
 }
 
-// (o x): the record of x.
-pub fn unary(book: &[u8], id: usize, o: u8) -> Only
+// (o x): the record of x, if the term is such an operation.
+pub fn unary(book: &[u8], id: usize, o: u8) -> Option<usize>
     ensures { Child book.now id result (unary o (tree book.now id)) }
 {
     let r = record(book, id);
-    if byte(r, 0) == OPERATION {
-        if byte(r, OPERATOR_AT) == o {
-            let args = arg_bytes(r);
-            if args.len() / 2 == 1 {
-                return Only::Of(argument(args, 0, id));
-            }
+    if byte(r, 0) == OPERATION && byte(r, OPERATOR_AT) == o {
+        let args = arg_bytes(r);
+        if args.len() / 2 == 1 {
+            return Some(argument(args, 0, id));
         }
     }
-    Only::NotOne
+    None
 }
 
-// (o x y): the records of x and y.
-pub fn binary(book: &[u8], id: usize, o: u8) -> Two
+// (o x y): the records of x and y, if it is such an operation.
+pub fn binary(book: &[u8], id: usize, o: u8) -> Option<(usize, usize)>
     ensures { Children book.now id result (binary o (tree book.now id)) }
 {
     let r = record(book, id);
-    if byte(r, 0) == OPERATION {
-        if byte(r, OPERATOR_AT) == o {
-            let args = arg_bytes(r);
-            if args.len() / 2 == 2 {
-                return Two::Both(argument(args, 0, id), argument(args, 1, id));
-            }
+    if byte(r, 0) == OPERATION && byte(r, OPERATOR_AT) == o {
+        let args = arg_bytes(r);
+        if args.len() / 2 == 2 {
+            return Some((argument(args, 0, id), argument(args, 1, id)));
         }
     }
-    Two::NotTwo
+    None
 }
 
-fn negated(x: Reading) -> Reading
+fn negated(x: Result<Number, NotRead>) -> Result<Number, NotRead>
     requires { Finds x x }
     ensures { Finds result (negated x) }
 {
-    match x {
-        Reading::Value(q) => Reading::Value(q.neg()),
-        Reading::NotNumber => Reading::NotNumber,
-        Reading::OutOfRange => Reading::OutOfRange,
-    }
+    Ok(x?.neg())
 }
 
-pub fn as_signed_number(book: &[u8], id: usize) -> Reading
+pub fn as_signed_number(book: &[u8], id: usize) -> Result<Number, NotRead>
     ensures { Finds result (as_signed_number (tree book.now id)) }
 {
     match unary(book, id, SUB) {
-        Only::Of(x) => negated(as_number(book, x)),
-        Only::NotOne => as_number(book, id),
+        Some(x) => negated(as_number(book, x)),
+        None => as_number(book, id),
     }
 }
 
 // (div x y) or (/ x y)
-fn quotient_of(book: &[u8], id: usize) -> Two
+fn quotient_of(book: &[u8], id: usize) -> Option<(usize, usize)>
     ensures { Children book.now id result (quotient_of (tree book.now id)) }
 {
     match binary(book, id, INT_DIV) {
-        Two::Both(x, y) => Two::Both(x, y),
-        Two::NotTwo => binary(book, id, REAL_DIV),
+        None => binary(book, id, REAL_DIV),
+        both => both,
     }
 }
 
 // The divisor is read before the dividend.
-fn as_unsigned_fraction(book: &[u8], id: usize) -> Reading
+fn as_unsigned_fraction(book: &[u8], id: usize) -> Result<Number, NotRead>
     ensures { Finds result (as_unsigned_fraction ranged (tree book.now id)) }
 {
-    let Two::Both(x, y) = quotient_of(book, id) else {
+    let Some((x, y)) = quotient_of(book, id) else {
         return as_number(book, id);
     };
-    let Reading::Value(d) = as_signed_number(book, y) else {
-        return Reading::NotNumber;
+    let Ok(d) = as_signed_number(book, y) else {
+        return Err(NotRead::NotNumber);
     };
     if d.is_zero() {
-        return Reading::NotNumber;
+        return Err(NotRead::NotNumber);
     }
-    let Reading::Value(n) = as_signed_number(book, x) else {
-        return Reading::NotNumber;
+    let Ok(n) = as_signed_number(book, x) else {
+        return Err(NotRead::NotNumber);
     };
-    let Checked::Value(q) = n.div(d) else {
-        return Reading::OutOfRange;
-    };
-    Reading::Value(q)
+    n.div(d).ok_or(NotRead::OutOfRange)
 }
 
 // A fraction that is an operation, or one minus over any.
-fn as_operation(book: &[u8], id: usize) -> Reading
+fn as_operation(book: &[u8], id: usize) -> Result<Number, NotRead>
     ensures { Finds result (as_fraction ranged (tree book.now id)) }
 {
     match unary(book, id, SUB) {
-        Only::Of(x) => negated(as_unsigned_fraction(book, x)),
-        Only::NotOne => as_unsigned_fraction(book, id),
+        Some(x) => negated(as_unsigned_fraction(book, x)),
+        None => as_unsigned_fraction(book, id),
     }
 }
 
 // Most terms that are read are no operations: they take no call.
-pub fn as_fraction(book: &[u8], id: usize) -> Reading
+pub fn as_fraction(book: &[u8], id: usize) -> Result<Number, NotRead>
     ensures { Finds result (as_fraction ranged (tree book.now id)) }
 {
     if operator(book, id) == NO_OPERATOR {
@@ -176,16 +143,16 @@ pub fn as_fraction(book: &[u8], id: usize) -> Reading
     as_operation(book, id)
 }
 
-pub fn as_bitvector(book: &[u8], id: usize) -> BitVector
+// Value and width; where a bit-vector is asked for, None is refusal 41.
+pub fn as_bitvector(book: &[u8], id: usize) -> Option<(u64, u64)>
     ensures { FindsVector result (as_bitvector (tree book.now id)) }
 {
     let r = record(book, id);
-    if byte(r, 0) == BIT_VECTOR {
-        if is_vector(r) {
-            return BitVector::Bits(read_u64(r, FIRST_AT), read_u64(r, SECOND_AT));
-        }
+    if byte(r, 0) == BIT_VECTOR && is_vector(r) {
+        Some((read_u64(r, FIRST_AT), read_u64(r, SECOND_AT)))
+    } else {
+        None
     }
-    BitVector::NotBitvector
 }
 
 // The operator of `as_op`; `NO_OPERATOR` where the term is no operation.
@@ -208,7 +175,7 @@ pub fn args(book: &[u8], id: usize) -> &[u8]
 }
 
 // x of (not x)
-pub fn remove_negation(book: &[u8], id: usize) -> Only
+pub fn remove_negation(book: &[u8], id: usize) -> Option<usize>
     ensures { Child book.now id result (remove_negation (tree book.now id)) }
 {
     unary(book, id, NOT)

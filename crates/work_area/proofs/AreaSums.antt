@@ -8,10 +8,8 @@ use lib.ListN.{length}
 use Rattle.numbers.specs.Rational.{Rational, Gives, add_q, checked}
 use Rattle.numbers.specs.Bytes.{Bytes}
 use Rattle.terms.specs.Term.{Term}
-use Rattle.numbers.specs.declared.number.Checked.{Checked}
-use Rattle.numbers.specs.declared.number.Checked.TheVariants as answer
 use Rattle.rules.specs.Refusal.{Result, ◌>>=◌}
-use Rattle.rules.specs.Refusal.Outcome.{ok}
+use Rattle.std.specs.Prelude.{Ok}
 use Rattle.rules.specs.Limits.{limited, plus}
 use Rattle.index_map.specs.IndexMap.{Map, combination, insert_all, add, neg}
 use Rattle.linear_comb.specs.LinearComb.{LinearComb}
@@ -28,11 +26,13 @@ use Rattle.index_map.proofs.StoredEntries.{clear_all}
 use Rattle.linear_comb.proofs.Areas.{area-length, only_then}
 use Rattle.linear_comb.proofs.AreaSteps.{given-area, given-only}
 use Rattle.work_area.proofs.InsertLoops.{InsertedAll}
+use Rattle.numbers.specs.Rational.{Checked}
+use Rattle.std.specs.Prelude.{None, Some}
 
 -- ---- the definition: the entries, then the constant
 
 abbrev Then : ℕ → Rational → Rational → Map Term → Result LinearComb
-Then l c d m = plus (limited l) c d >>= λ q. ok (combination m q)
+Then l c d m = plus (limited l) c d >>= λ q. Ok (combination m q)
 
 add_parts :
     (t : Bool) (l : ℕ) (m r : Map Term) (c d : Rational) →
@@ -49,7 +49,7 @@ module _ {bk x : Bytes} {d : Result (Map Term)} (l : ℕ) (c e : Rational) where
   sums-refused i = record { map = i.map; held = i.held; is = (rw i.is.0, i.is.1) }
 
   module _ {n : ℕ} (i : Inserts bk x (Length n) d) (r : Checked) (made : Gives r (checked (add_q c e))) where
-    sums_out : r ≡ answer.OutOfRange → Combines bk (blanked n x) combined.OutOfRange (d >>= Then l c e)
+    sums_out : r ≡ None → Combines bk (blanked n x) combined.OutOfRange (d >>= Then l c e)
     unfolding ◌>>=◌
     sums_out out =
         record {
@@ -59,7 +59,7 @@ module _ {bk x : Bytes} {d : Result (Map Term)} (l : ℕ) (c e : Rational) where
         }
 
     sums-sum :
-        (q : Rational) → r ≡ answer.Value q →
+        (q : Rational) → r ≡ Some q →
         Combines bk x (combined.Is (record { len = n; constant = q })) (d >>= Then l c e)
     unfolding ◌>>=◌
     sums-sum q value =
@@ -106,7 +106,7 @@ module _
       (s : Checked)
       (made : Gives s (checked (add_q a.constant v))) where
     pub added-sum :
-        (q : Rational) → s ≡ answer.Value q →
+        (q : Rational) → s ≡ Some q →
         Added w₀ to a from b turned w (combined.Is (record { len = len; constant = q }))
     added-sum q value = (
       all.0.1,
@@ -116,7 +116,7 @@ module _
     )
 
     pub added_out :
-        Area to w₀ → length w ≡ length w₀ → s ≡ answer.OutOfRange → (w' : Bytes) →
+        Area to w₀ → length w ≡ length w₀ → s ≡ None → (w' : Bytes) →
         w' ≡ with_area to (blanked len (area_of to w)) w → Added w₀ to a from b turned w' combined.OutOfRange
     added_out area size out w' is =
         let area-w : Area to w = record { size = size ∙ area.size; among = area.among } in

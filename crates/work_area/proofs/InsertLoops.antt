@@ -13,7 +13,7 @@ use Rattle.numbers.specs.Bytes.{Bytes, le, number_at}
 use Rattle.terms.specs.Term.{Term, record_number}
 use Rattle.terms.specs.Book.{count, tree}
 use Rattle.rules.specs.Refusal.{Result, ◌>>=◌, assert}
-use Rattle.rules.specs.Refusal.Outcome.{ok}
+use Rattle.std.specs.Prelude.{Ok}
 use Rattle.rules.specs.Limits.{limited}
 use Rattle.index_map.specs.IndexMap.{Map, neg_all, insert, insert_all}
 use Rattle.index_map.specs.Memory.Entries.{slots, most_entries, terms, entries_of, Grown, absent, Good, Held, Kept, Inserts}
@@ -32,7 +32,7 @@ use Rattle.linear_comb.proofs.EntryPlaces.{kept_at, all_behind}
 -- an entry of which no other has the key, with another value: it comes to the end, or 0 is not entered
 new-good :
     (b : Bytes) (l : ℕ) (m : Map Term) (e : Term × Rational) (s : Map Term) (v : Rational) → Proper v →
-    Good b (m ++ e ∷ s) → (m' : Map Term) → insert terms (limited l) m e.0 v ≡ ok m' → Good b (m' ++ s)
+    Good b (m ++ e ∷ s) → (m' : Map Term) → insert terms (limited l) m e.0 v ≡ Ok m' → Good b (m' ++ s)
 unfolding ◌>>=◌ assert
 new-good b l m e s v proper good m' is = go (is_zero v) refl
   where
@@ -62,7 +62,7 @@ pub record Turn
   pub first : Result (Map Term)
   pub made : Inserts b x r first
   pub then : (first >>= λ m. insert_all terms (limited l) m (signed_all turned rest)) ≡ d
-  pub new : n ≡ 0 → (m : Map Term) → first ≡ ok m → Good b (m ++ rest)
+  pub new : n ≡ 0 → (m : Map Term) → first ≡ Ok m → Good b (m ++ rest)
 
 module _ {b x : Bytes} {n l : ℕ} {turned : Bool} {rest : Map Term} {d : Result (Map Term)} where
   turn_more : {len : ℕ} → Turn b x n l (Length len) turned rest d → Left b x n len l turned rest d
@@ -93,7 +93,7 @@ unfolding insert_all neg_all
 insert_first true l m e s = refl
 insert_first false l m e s = refl
 
-insert_none : (t : Bool) (l : ℕ) (m : Map Term) → insert_all terms (limited l) m (signed_all t []) ≡ ok m
+insert_none : (t : Bool) (l : ℕ) (m : Map Term) → insert_all terms (limited l) m (signed_all t []) ≡ Ok m
 unfolding insert_all neg_all
 insert_none true l m = refl
 insert_none false l m = refl
@@ -174,9 +174,6 @@ module _
     {w : Bytes}
     {len k : ℕ}
     (i : Inserting w₀ to n from m turned w len k) where
-  pub apart_now : Apart to from w
-  apart_now = same-apart i.apart i.size
-
   from_same : area_of from w ≡ area_of from w₀
   from_same = (in_first i.apart i.only).second
 

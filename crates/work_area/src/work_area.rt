@@ -17,7 +17,7 @@ ghost use Rattle.index_map.specs.declared.index_map.Inserted.TheVariants as inse
 use index_map::index_map::{Inserted, append, clear, insert, key_at, value_at};
 use linear_comb::linear_comb::{Combined, LinearComb, mul, neg};
 use numbers::bytes::byte;
-use numbers::number::{Checked, Number};
+use numbers::number::Number;
 use terms::areas::{STEP_AT, SUM_BYTES};
 use terms::format::INT_SORT;
 
@@ -34,8 +34,7 @@ pub fn area(work: &[u8], j: usize) -> &[u8]
     ensures { result.now ≡ area_of j work.now }
 {
     let start = STEP_AT + SUM_BYTES * j;
-    let end = start + SUM_BYTES;
-    &work[start..end]
+    &work[start..start + SUM_BYTES]
 }
 
 // Empties area j of n entries.
@@ -44,8 +43,7 @@ pub fn clear_in(work: &mut [u8], j: usize, n: usize)
     ensures { work.new ≡ with_area j (blanked n (area_of j work.old)) work.old }
 {
     let start = STEP_AT + SUM_BYTES * j;
-    let end = start + SUM_BYTES;
-    clear(&mut work[start..end], n);
+    clear(&mut work[start..start + SUM_BYTES], n);
 }
 
 fn insert_in(work: &mut [u8], j: usize, n: usize, key: usize, value: Number) -> Inserted
@@ -56,8 +54,7 @@ fn insert_in(work: &mut [u8], j: usize, n: usize, key: usize, value: Number) -> 
         (insert terms (limited l) (entries_of b (area_of j work.old) n) (tree b key) value) }
 {
     let start = STEP_AT + SUM_BYTES * j;
-    let end = start + SUM_BYTES;
-    insert(&mut work[start..end], n, key, value)
+    insert(&mut work[start..start + SUM_BYTES], n, key, value)
 }
 
 // The same with a key that no entry has.
@@ -70,8 +67,7 @@ fn append_in(work: &mut [u8], j: usize, n: usize, key: usize, value: Number) -> 
         (insert terms (limited l) (entries_of b (area_of j work.old) n) (tree b key) value) }
 {
     let start = STEP_AT + SUM_BYTES * j;
-    let end = start + SUM_BYTES;
-    append(&mut work[start..end], n, key, value)
+    append(&mut work[start..start + SUM_BYTES], n, key, value)
 }
 
 pub fn neg_in(work: &mut [u8], j: usize, s: LinearComb) -> LinearComb
@@ -81,8 +77,7 @@ pub fn neg_in(work: &mut [u8], j: usize, s: LinearComb) -> LinearComb
         Held b (area_of j work.new) (neg_all (entries_of b (area_of j work.old) s.len)) }
 {
     let start = STEP_AT + SUM_BYTES * j;
-    let end = start + SUM_BYTES;
-    neg(&mut work[start..end], s)
+    neg(&mut work[start..start + SUM_BYTES], s)
 }
 
 pub fn mul_in(work: &mut [u8], j: usize, s: LinearComb, q: Number) -> Combined
@@ -93,8 +88,7 @@ pub fn mul_in(work: &mut [u8], j: usize, s: LinearComb, q: Number) -> Combined
         (mul (limited l) (comb_of b (area_of j work.old) s) q) }
 {
     let start = STEP_AT + SUM_BYTES * j;
-    let end = start + SUM_BYTES;
-    mul(&mut work[start..end], s, q)
+    mul(&mut work[start..start + SUM_BYTES], s, q)
 }
 
 // ---- two areas
@@ -118,12 +112,10 @@ fn copy_all(work: &mut [u8], to: usize, from: usize, m: usize, turned: bool) -> 
         (insert_all terms (limited l) [] (signed_all turned (entries_of b (area_of from work.old) m))) }
 {
     let mut len = 0;
-    let mut k = 0;
-    while k < m {
+    for k in 0..m {
         let key = key_at(area(work, from), k);
         let value = signed(turned, value_at(area(work, from), k));
         len = append_in(work, to, len, key, value);
-        k += 1;
     }
     len
 }
@@ -143,15 +135,13 @@ fn insert_all(work: &mut [u8], to: usize, n: usize, from: usize, m: usize, turne
         return Inserted::Length(copy_all(work, to, from, m, turned));
     }
     let mut len = n;
-    let mut k = 0;
-    while k < m {
+    for k in 0..m {
         let key = key_at(area(work, from), k);
         let value = signed(turned, value_at(area(work, from), k));
         let Inserted::Length(longer) = insert_in(work, to, len, key, value) else {
             return Inserted::OutOfRange;
         };
         len = longer;
-        k += 1;
     }
     Inserted::Length(len)
 }
@@ -173,14 +163,10 @@ fn add_signed(
         (add terms (limited l) (comb_of bk (area_of to work.old) a)
         (signed_comb turned (comb_of bk (area_of from work.old) b))) }
 {
-    let n = a.len;
-    let m = b.len;
-    let c = a.constant;
-    let d = b.constant;
-    let Inserted::Length(len) = insert_all(work, to, n, from, m, turned) else {
+    let Inserted::Length(len) = insert_all(work, to, a.len, from, b.len, turned) else {
         return Combined::OutOfRange;
     };
-    let Checked::Value(constant) = c.add(signed(turned, d)) else {
+    let Some(constant) = a.constant.add(signed(turned, b.constant)) else {
         clear_in(work, to, len);
         return Combined::OutOfRange;
     };
@@ -221,13 +207,5 @@ pub fn all_int(work: &[u8], j: usize, n: usize) -> bool
         result ≡ all_int (entries_of b (area_of j work.now) n) }
 {
     let entries = area(work, j);
-    let mut k = 0;
-    while k < n {
-        let key = key_at(entries, k);
-        if byte(work, key) != INT_SORT {
-            return false;
-        }
-        k += 1;
-    }
-    true
+    (0..n).all(|k| byte(work, key_at(entries, k)) == INT_SORT)
 }

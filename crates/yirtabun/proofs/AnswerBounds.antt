@@ -2,6 +2,7 @@
 --     accepted-few       a marking accepts 4,096 steps at most: a run has no more records, and each step takes one
 --     written-few       an elaboration writes 4,096 records to the run and 65,536 bytes to the tail at most, by `fits`
 --     marked-fits, elaborated-fits       so the numbers that the code casts fit
+use Rattle.std.specs.Prelude.{Result}
 use mathlib.Core.Path.{◌≡◌, refl, ap}
 use mathlib.Core.Bool.{Bool, true, false}
 use mathlib.Core.List.{List, [], ◌∷◌}
@@ -16,9 +17,6 @@ use Rattle.numbers.specs.Bytes.{Bytes}
 use Rattle.numbers.proofs.Truths.{both}
 use Rattle.terms.specs.Book.{read_book}
 use Rattle.terms.specs.Format.{max_records, max_run_records}
-use Rattle.terms.specs.declared.reading.BookRead.{BookRead}
-use Rattle.terms.specs.declared.reading.BookRead.TheVariants.{Records, RefusedAt}
-use Rattle.rules.specs.Refusal.{Outcome}
 use Rattle.rules.specs.Limits.{Limits, limited}
 use Rattle.rules.proofs.Yields.{Yields, past, and_then, weaker, guarded}
 use Rattle.rules.proofs.Yields.Yields.{gives, refuses}
@@ -35,6 +33,8 @@ use Rattle.elaborate.specs.declared.elaborate.Elaborated.{Elaborated}
 use Rattle.out_areas.proofs.RealRecord.{tail_bytes-length}
 use Rattle.out_areas.proofs.OutAreas.{fit_of}
 use Rattle.elaborate.proofs.Unrefused.{chosen, checked, elaborate_is}
+use Rattle.terms.specs.Book.{BookRead}
+use Rattle.std.specs.Prelude.{Ok, Err}
 
 -- ---- accepted steps
 
@@ -63,7 +63,7 @@ module _ (l : Limits) where
   checked-few (stops e) = omega arith
   checked-few (goes_on e ms) = omega (arith, checked-few ms)
 
-  ran-few : {x : Outcome LentRefusal (List Step)} → Yields (λ ss. length ss ≤ max_run_records) x → Accepts (mark_run l x)
+  ran-few : {x : Result (List Step) LentRefusal} → Yields (λ ss. length ss ≤ max_run_records) x → Accepts (mark_run l x)
   unfolding mark_run
   ran-few (gives {a = ss} h) = rw (check_steps_from l ss) (omega (arith, h, checked-few (marks l ss ss 0)))
   ran-few refuses = omega arith
@@ -73,8 +73,8 @@ module _ (l : Limits) where
   marked-few book run = go (read_book book)
     where
       go : (x : BookRead) → Accepts (mark_book l book run x)
-      go (Records n) = ran-few (run-few book run)
-      go (RefusedAt c i) = omega arith
+      go (Ok n) = ran-few (run-few book run)
+      go (Err e) = omega arith
 
 accepted-few : (book run : Bytes) (limit work : ℕ) → Accepts (check book run limit work)
 unfolding check

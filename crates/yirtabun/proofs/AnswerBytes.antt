@@ -1,47 +1,63 @@
 -- The bytes of an answer in the slice that a caller lends.
---     padded_byte, padded_long       a text with zeros behind it: its bytes, and that it fills the slice
---     copied-shown       the bytes of a text copied one by one into a slice, zeros behind them: `shown`
+--     parts-shown       a text copied to the front of a slice, zeros behind it: `shown`
 --     marked-bytes, elaborated-bytes       the numbers of an answer put into an array of zeros: `number_bytes`
---     of_marked, of_elaborated       the bytes of the code's answers
-use mathlib.Core.Path.{◌≡◌, refl, sym}
-use mathlib.Core.List.{[], ◌∷◌, ◌++◌}
-use Prim.Native.Nat.{ℕ, zero, suc, ◌-◌, ◌≤◌}
+use mathlib.Core.Path.{◌≡◌, refl, ap, ◌∙◌}
+use mathlib.Core.List.{[], ◌∷◌, ◌++◌, append-nil}
+use mathlib.Core.Logic.{⊎_elim}
+use Prim.Native.Nat.{ℕ, ◌-◌, ◌≤◌, ◌<◌, min}
 use native.Mathlib.Omega.{arith}
-use lib.ListN.{length, get_or, replicate, length-append, length-replicate}
+use lib.ListN.{length, take, drop, replicate, length-append, length-drop, length-replicate, drop_of_length-le}
+use lib.Seq.{take_all, take_at, length-take-le}
+use Rattle.std.proofs.lemmas.Bool.{cases_lt}
+use Rattle.std.proofs.lemmas.List.{take-append-le}
 use Rattle.numbers.specs.Bytes.{Bytes, put, put_digits, bytes_of}
-use Rattle.numbers.proofs.CopiedBytes.{Copied, front_all}
 use Rattle.marking.specs.Answers.{area}
-use Rattle.marking.specs.declared.check.Marked.{Marked}
-use Rattle.elaborate.specs.declared.elaborate.Elaborated.{Elaborated}
 use Rattle.yirtabun.specs.Answers.{number_bytes, shown}
 
 -- ---- a text with zeros behind it
 
-zero-byte : (m k : ℕ) → ◌≡◌ {A = ℕ} (get_or (replicate m 0) k 0) 0
-zero-byte zero k = refl
-zero-byte (suc m) zero = refl
-zero-byte (suc m) (suc k) = zero-byte m k
+module _ (b d : Bytes) {n : ℕ} (n-is : n ≡ min (length b) (length d)) where
+  shown-front : take n b ++ replicate (length d - n) 0 ≡ shown (length d) b
+  unfolding shown area
+  shown-front = ⊎_elim long short (cases_lt (length b) (length d))
+    where
+      short :
+          length d ≤ length b →
+          take n b ++ replicate (length d - n) 0 ≡ take (length d) (b ++ replicate (length d - length b) 0)
+      short h =
+          let all : n ≡ length d = omega (arith, n-is) in
+          let none : length d - length d ≡ 0 = omega arith in
+          rw (all, none, take-append-le) (append-nil (take (length d) b))
 
-byte-behind : (b : Bytes) (m k : ℕ) → get_or b k 0 ≡ get_or (b ++ replicate m 0) k 0
-byte-behind [] m k = sym (zero-byte m k)
-byte-behind (x ∷ b) m zero = refl
-byte-behind (x ∷ b) m (suc k) = byte-behind b m k
+      long :
+          length b < length d →
+          take n b ++ replicate (length d - n) 0 ≡ take (length d) (b ++ replicate (length d - length b) 0)
+      long h =
+          let all : n ≡ length b = omega (arith, n-is) in
+          let size : length (b ++ replicate (length d - length b) 0) ≤ length d =
+          simp (length-append, length-replicate) (omega arith) in
+          rw (all, take_all (length b) b (omega arith), take_all (length d) _ size)
 
-module _ (n : ℕ) (b : Bytes) where
-  pub padded_byte : (k : ℕ) → get_or b k 0 ≡ get_or (area n b) k 0
-  unfolding area
-  padded_byte = byte-behind b (n - length b)
+  -- v and z are put in place of the front of d, up to n, and of what is behind it
+  module _ {v : Bytes} (v-is : v ≡ take n b) where
+    abbrev half : Bytes
+    half = v ++ drop n d
 
-  pub padded_long : n ≤ length (area n b)
-  unfolding area
-  padded_long = simp (length-append, length-replicate) (omega arith)
+    size : length v ≡ n
+    size = ap length v-is ∙ length-take-le n b (omega (arith, n-is))
 
--- all bytes of d are written
-pub copied-shown :
-    (b : Bytes) {d w : Bytes} {k : ℕ} → Copied (length d) d 0 (area (length d) b) w k → length d ≤ k →
-    w ≡ shown (length d) b
-unfolding shown
-copied-shown b c h = front_all c refl h
+    rest : length (drop n half) ≡ length d - n
+    rest = simp (length-drop, length-append) (omega (arith, size, n-is))
+
+    pub parts-shown :
+        {z : Bytes} → z ≡ replicate (length (take (length half - n) (drop n half))) 0 →
+        take n half ++ (z ++ drop (length half - n) (drop n half)) ≡ shown (length d) b
+    parts-shown z-is =
+        let past : length (drop n half) ≤ length half - n = simp length-drop (omega arith) in
+        let all = take_all (length half - n) (drop n half) past in
+        rw (take_at v (drop n d) n size, drop_of_length-le (drop n half) past, append-nil, v-is)
+        (ap (λ x. take n b ++ x) (z-is ∙ ap (λ (x : Bytes). replicate (length x) 0) all ∙ ap (λ k. replicate k 0) rest)
+        ∙ shown-front)
 
 -- ---- the numbers of an answer, put one behind the other
 
@@ -66,11 +82,3 @@ module _ (v s n : ℕ) where
         {t₁ t₂ t₃ t₄ t₅ : Bytes} → t₁ ≡ put 4 v (replicate 20 0) 0 → t₂ ≡ put 4 s t₁ 4 → t₃ ≡ put 4 n t₂ 8 →
         t₄ ≡ put 4 r t₃ 12 → t₅ ≡ put 4 t t₄ 16 → t₅ ≡ number_bytes (v ∷ s ∷ n ∷ r ∷ t ∷ [])
     elaborated-bytes first second third fourth fifth = rw (fifth, fourth, third, second, first) elaborated_text
-
--- ---- the bytes of the code's answers
-
-abbrev pub of_marked : Marked → Bytes
-of_marked r = number_bytes (r.verdict ∷ r.steps ∷ r.visits ∷ [])
-
-abbrev pub of_elaborated : Elaborated → Bytes
-of_elaborated r = number_bytes (r.verdict ∷ r.steps ∷ r.visits ∷ r.run ∷ r.tail ∷ [])

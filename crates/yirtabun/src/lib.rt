@@ -12,17 +12,15 @@ ghost use Rattle.yirtabun.specs.Answers.{number_bytes, shown, CheckShown, Elabor
 
 use elaborate::elaborate::{elaborate, written};
 use marking::check::check;
-use numbers::bytes::{byte, write_u32};
+use numbers::bytes::write_u32;
 
 // Puts as many bytes of a text as it takes into a slice, and zeros behind them.
 fn show(text: &[u8], answer: &mut [u8])
     ensures { answer.new ≡ shown (length answer.old) text.now }
 {
-    let mut k = 0;
-    while k < answer.len() {
-        answer[k] = byte(text, k);
-        k += 1;
-    }
+    let n = text.len().min(answer.len());
+    answer[..n].copy_from_slice(&text[..n]);
+    answer[n..].fill(0);
 }
 
 // Puts the numbers of a marking into a slice: 12 bytes.

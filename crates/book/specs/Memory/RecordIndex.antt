@@ -4,7 +4,7 @@
 use Rattle.std.specs.Prelude.{◌≡◌, ◌⊎◌, [], ◌∷◌, ℕ, ◌+◌, ◌*◌, ◌/◌, ◌%◌, ◌≤◌, ◌<◌, length, get_or}
 use Rattle.numbers.specs.Bytes.{Bytes, le}
 use Rattle.terms.specs.Book.{record_of, read_book, records_read, put_sorts}
-use Rattle.terms.specs.declared.reading.BookRead.{BookRead}
+use Rattle.terms.specs.Book.{BookRead}
 
 -- ---- chains
 

@@ -8,8 +8,7 @@ use Rattle.terms.specs.Operator.{Or, Equals, GreaterEq, Mult, IntDiv, ToReal}
 use Rattle.numbers.specs.Choice.{when◌then◌else◌}
 use Rattle.terms.specs.Book.{kind, operator, sort_byte, field2, arg_bytes, numbers}
 use Rattle.book.specs.declared.sort.ArgSorts.{ArgSorts}
-use Rattle.book.specs.declared.sort.Sorting.{Sorting}
-use Rattle.book.specs.declared.sort.Sorting.TheVariants.{Of, Broken}
+use Rattle.std.specs.Prelude.{Option, Some, None}
 
 -- the sort of an argument of record i; what is no earlier record counts as a Bool atom
 abbrev pub sort_at : ℕ → Bytes → ℕ → ℕ
@@ -56,8 +55,8 @@ gives_by o c =
     when leb o ToReal then real_sort else
     c.first
 
-unfoldable pub sort_rule : ℕ → ArgSorts → Sorting
-sort_rule o c = cond (takes_by o c) (Of (gives_by o c)) Broken
+unfoldable pub sort_rule : ℕ → ArgSorts → Option ℕ
+sort_rule o c = cond (takes_by o c) (Some (gives_by o c)) None
 
 -- above `bits_code` by the width; a width that is none stands as 0
 abbrev pub width_code : Bytes → ℕ
@@ -71,10 +70,10 @@ atom_code r =
     bool_sort
 
 -- record i with bytes r, where w has the sorts of the records before it
-unfoldable pub sorting : ℕ → Bytes → Bytes → Sorting
+unfoldable pub sorting : ℕ → Bytes → Bytes → Option ℕ
 sorting i w r =
-    when eqb (kind r) integer_kind then Of int_sort else
-    when eqb (kind r) real_kind then Of real_sort else
-    when eqb (kind r) vector_kind then Of (width_code r) else
+    when eqb (kind r) integer_kind then Some int_sort else
+    when eqb (kind r) real_kind then Some real_sort else
+    when eqb (kind r) vector_kind then Some (width_code r) else
     when eqb (kind r) operation_kind then sort_rule (operator r) (common (arg_sorts i w (numbers (arg_bytes r)))) else
-    Of (atom_code r)
+    Some (atom_code r)

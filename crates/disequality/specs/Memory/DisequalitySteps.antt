@@ -1,7 +1,7 @@
 -- A literal with the work area lent: what each function of `disequality` answers and leaves, in terms of the
 -- definitions.
 use Rattle.std.specs.Prelude.{◌≡◌, [], ℕ, ◌<◌, pos, length}
-use Rattle.std.proofs.Math.Option.{Option, some, none}
+use Rattle.std.specs.Prelude.{Option, Some, None}
 use Rattle.numbers.specs.Rational.{Rational, whole, neg_q}
 use Rattle.numbers.specs.Bytes.{Bytes}
 use Rattle.terms.specs.Term.{Term, Terms}
@@ -9,7 +9,7 @@ use Rattle.terms.specs.Book.{count, tree, SortsBelow}
 use Rattle.terms.specs.Readers.{arguments_of}
 use Rattle.terms.specs.Format.{work_bytes}
 use Rattle.rules.specs.Refusal.{Result, or_else, ◌>>=◌}
-use Rattle.rules.specs.Refusal.Outcome.{ok, refused}
+use Rattle.std.specs.Prelude.{Ok, Err}
 use Rattle.rules.specs.Refusal.Refusal.{number_range, invalid_disequality_op}
 use Rattle.rules.specs.Limits.{Limits, times}
 use Rattle.index_map.specs.IndexMap.{Map, combination, sub, new, Walked, walked, add_constant}
@@ -35,20 +35,20 @@ unfoldable pub relation_of : Term → Result (ℕ × Term × Term)
 relation_of phi = do
   (o, args) ← or_else (inner phi) invalid_disequality_op
   (a, b) ← two_sides args
-  ok (o, a, b)
+  Ok (o, a, b)
 
 -- what the code has for an operator that there may not be
 abbrev pub or_zero : Option ℕ → ℕ
-or_zero (some o) = o
-or_zero none = 0
+or_zero (Some o) = o
+or_zero None = 0
 
 -- an operator, and the record whose arguments it stands between
 abbrev pub InnerIs : Bytes → Operation → Option (ℕ × Terms) → Type 0
-InnerIs b (operation.Of o x) d = (d ≡ some (o, arguments_of (tree b x))) × (x < count b)
-InnerIs b operation.NoRelation d = d ≡ none
+InnerIs b (operation.Of o x) d = (d ≡ Some (o, arguments_of (tree b x))) × (x < count b)
+InnerIs b operation.NoRelation d = d ≡ None
 
 abbrev pub RelationIs : Bytes → Relation → Result (ℕ × Term × Term) → Type 0
-RelationIs b (relation.Is o x y) d = (d ≡ ok (o, tree b x, tree b y)) × ((x < count b) × (y < count b))
+RelationIs b (relation.Is o x y) d = (d ≡ Ok (o, tree b x, tree b y)) × ((x < count b) × (y < count b))
 RelationIs b (relation.Refused c) d = Refuses c d
 
 -- document 01's number of a relation's refusal; 0 where there is none
@@ -64,7 +64,7 @@ constant_side l q n = do
 
 -- two areas hold the two sides
 abbrev pub SidesAre : Sides → Map Term → Map Term → Result (ℕ × LinearComb × LinearComb × ℕ) → Type 0
-SidesAre (sides.Both o s t v) m n d = (d ≡ ok (o, comb_with s m, comb_with t n, v)) × (SumHas s m × SumHas t n)
+SidesAre (sides.Both o s t v) m n d = (d ≡ Ok (o, comb_with s m, comb_with t n, v)) × (SumHas s m × SumHas t n)
 SidesAre (sides.Refused c) m n d = Refuses c d × ((m ≡ []) × (n ≡ []))
 
 -- document 01's number of the sides' refusal; 0 where there is none
@@ -88,7 +88,7 @@ literal_refusal (literal.Refused c) = c
 
 abbrev pub LiteralIs : Literal → Map Term → Result Disequality → Type 0
 LiteralIs (literal.Is q) m d =
-    (d ≡ ok (disequality q.operator (comb_with q.sum m) q.visits)) × SumHas q.sum m
+    (d ≡ Ok (disequality q.operator (comb_with q.sum m) q.visits)) × SumHas q.sum m
 LiteralIs (literal.Refused c) m d = Refuses c d × (m ≡ [])
 
 -- in the area of the left side
@@ -109,12 +109,12 @@ pub record SubtractedLeft (b w w' : Bytes) (r : Literal) (d : Result Disequality
 unfoldable pub subtracted : Limits → ℕ → LinearComb → LinearComb → ℕ → Result Disequality
 subtracted l o s t n = do
   d ← sub terms l s t
-  ok (turned o (combination d.entries (neg_q d.constant)) n)
+  Ok (turned o (combination d.entries (neg_q d.constant)) n)
 
 -- strengthening changes the operator and the constant; the entries m stay
 abbrev pub StrengthenedIs : Map Term → Strengthened → Result (ℕ × LinearComb) → Type 0
-StrengthenedIs m (stronger.Is o s) d = (d ≡ ok (o, comb_with s m)) × SumHas s m
-StrengthenedIs m stronger.OutOfRange d = d ≡ refused number_range
+StrengthenedIs m (stronger.Is o s) d = (d ≡ Ok (o, comb_with s m)) × SumHas s m
+StrengthenedIs m stronger.OutOfRange d = d ≡ Err number_range
 
 -- the areas of a literal's two sides are empty
 pub record Between (b w : Bytes) : Type 0 where

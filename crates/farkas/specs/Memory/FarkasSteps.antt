@@ -1,14 +1,14 @@
 -- What one step's elaboration answers, and what it leaves in the out areas: every byte of them, also behind a step that
 -- is refused.
 use Rattle.std.specs.Prelude.{◌≡◌, true, false, List, [], ◌∷◌, ◌++◌, ℕ, ◌*◌, length, drop}
-use Rattle.std.proofs.Math.Option.{some, none}
+use Rattle.std.specs.Prelude.{Some, None}
 use Rattle.numbers.specs.Rational.{Rational}
 use Rattle.numbers.specs.Bytes.{Bytes}
 use Rattle.terms.specs.Term.{Term}
 use Rattle.terms.specs.Operator.{Equals}
 use Rattle.terms.specs.Format as format
 use Rattle.rules.specs.Refusal.{Result}
-use Rattle.rules.specs.Refusal.Outcome.{ok, refused}
+use Rattle.std.specs.Prelude.{Ok, Err}
 use Rattle.rules.specs.Limits.{Limits, limited}
 use Rattle.index_map.specs.IndexMap.{new}
 use Rattle.process_disequality.specs.ProcessDisequality.{Progress, progress, process_disequality}
@@ -40,15 +40,15 @@ stepped_refusal (stepped.Refused c) = c
 unfoldable pub inferred_until : Limits → Clause → List Rational → Progress → List Rational
 inferred_until l [] args p = p.trace
 inferred_until l (phi ∷ clause) [] p =
-    elim (process_disequality l p phi none) [ ok q ↦ inferred_until l clause [] q | refused r ↦ p.trace ]
+    elim (process_disequality l p phi None) [ Ok q ↦ inferred_until l clause [] q | Err r ↦ p.trace ]
 inferred_until l (phi ∷ clause) (a ∷ args) p =
-    elim (process_disequality l p phi (some a)) [ ok q ↦ inferred_until l clause args q | refused r ↦ p.trace ]
+    elim (process_disequality l p phi (Some a)) [ Ok q ↦ inferred_until l clause args q | Err r ↦ p.trace ]
 
 -- of `bounded_farkas`, and of a step
 unfoldable pub farkas_numbers : Limits → Clause → List Term → ℕ → List Rational
 farkas_numbers l clause args n = elim (read_args l args) [
-  | ok qs ↦ inferred_until l clause qs (progress Equals new [] n)
-  | refused r ↦ []
+  | Ok qs ↦ inferred_until l clause qs (progress Equals new [] n)
+  | Err r ↦ []
 ]
 
 unfoldable pub step_numbers : Limits → Step → ℕ → List Rational
@@ -66,7 +66,7 @@ more_step b m n step limit visits s =
 -- inferred is written too
 abbrev pub SteppedIs : Bytes → Bytes → Bytes → Stepped → Written → Result Accepted → Type 0
 SteppedIs b o t (stepped.Accepted n out) w d =
-    (a : Accepted) × ((d ≡ ok a) × ((n ≡ a.visits) × Holds b o t out (add_reals b w a.inferred)))
+    (a : Accepted) × ((d ≡ Ok a) × ((n ≡ a.visits) × Holds b o t out (add_reals b w a.inferred)))
 SteppedIs b o t (stepped.Refused c) w d = Refuses c d
 
 -- the counts of what is written; a refused step answers none

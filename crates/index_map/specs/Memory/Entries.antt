@@ -2,13 +2,13 @@
 -- of the map; what is not used is 0.
 use Rattle.std.specs.Prelude.{◌≡◌, Bool, true, ◌&&◌, not, List, [], ◌∷◌, ℕ, zero, suc, ◌+◌, ◌≤◌, ◌<◌, eqb, length}
 use Rattle.std.specs.Prelude.{drop}
-use Rattle.std.proofs.Math.Option.{Option, some, none}
+use Rattle.std.specs.Prelude.{Option, Some, None}
 use Rattle.numbers.specs.Rational.{Rational, Proper}
 use Rattle.numbers.specs.Bytes.{Bytes, le, put, bytes_of, number_at}
 use Rattle.terms.specs.Term.{Term, record_number, same}
 use Rattle.terms.specs.Book.{count, tree}
 use Rattle.rules.specs.Refusal.{Result}
-use Rattle.rules.specs.Refusal.Outcome.{ok, refused}
+use Rattle.std.specs.Prelude.{Ok, Err}
 use Rattle.rules.specs.Refusal.Refusal.{number_range}
 use Rattle.index_map.specs.IndexMap.{Map, Keys}
 use Rattle.index_map.specs.declared.index_map.Inserted.{Inserted}
@@ -94,12 +94,12 @@ pub record Kept (b w : Bytes) (n : ℕ) : Type 0 where
   pub size : n ≡ length map
 
 abbrev pub InsertedIs : Inserted → Map Term → Result (Map Term) → Type 0
-InsertedIs (Length n) m d = (d ≡ ok m) × (n ≡ length m)
-InsertedIs OutOfRange m d = (d ≡ refused number_range) × (m ≡ [])
+InsertedIs (Length n) m d = (d ≡ Ok m) × (n ≡ length m)
+InsertedIs OutOfRange m d = (d ≡ Err number_range) × (m ≡ [])
 
 abbrev pub CoefficientIs : Coefficient → Option Rational → Type 0
-CoefficientIs (Of q) d = (d ≡ some q) × Proper q
-CoefficientIs Missing d = d ≡ none
+CoefficientIs (Of q) d = (d ≡ Some q) × Proper q
+CoefficientIs Missing d = d ≡ None
 
 pub record Inserts (b w : Bytes) (r : Inserted) (d : Result (Map Term)) : Type 0 where
   pub map : Map Term

@@ -1,13 +1,13 @@
 -- Rules 4 to 6 on one step that is given as parts of the lent run, with the work area lent: what each function of the
 -- code answers and leaves, in terms of the definitions.
 use Rattle.std.specs.Prelude.{◌≡◌, ◌&&◌, not, cond, List, [], ◌∷◌, ℕ, zero, suc, ◌≤◌, eqb, length}
-use Rattle.std.proofs.Math.Option.{Option, some, none}
+use Rattle.std.specs.Prelude.{Option, Some, None}
 use Rattle.numbers.specs.Rational.{Rational, Proper}
 use Rattle.numbers.specs.Bytes.{Bytes}
 use Rattle.terms.specs.Term.{Term}
 use Rattle.terms.specs.Format.{max_run_bytes}
 use Rattle.rules.specs.Refusal.{Result, ◌>>=◌, assert, number}
-use Rattle.rules.specs.Refusal.Outcome.{ok}
+use Rattle.std.specs.Prelude.{Ok}
 use Rattle.rules.specs.Refusal.Refusal.{disequality_is_not_contradiction, disequality_is_not_tautology}
 use Rattle.rules.specs.Limits.{Limits, limited}
 use Rattle.index_map.specs.IndexMap.{Map}
@@ -34,7 +34,7 @@ StepReady b w literals = Ready b w × (Inside b literals × (length literals ≤
 
 -- the visits of an answer
 abbrev pub visits_of : Result Progress → Result ℕ
-visits_of r = r >>= λ p. ok p.visits
+visits_of r = r >>= λ p. Ok p.visits
 
 -- a rule's verdict on a step's literals and arguments, after n visits
 abbrev pub verdict_by : (Limits → Clause → List Term → ℕ → Result Progress) → ℕ → Bytes → Bytes → Bytes → ℕ → Verdict
@@ -45,12 +45,12 @@ verdict_by rule l b literals args n =
 -- as it is found, and goes on with the literals that are left. What the fold has made, and how many literals are done
 
 unfoldable pub fold_some : Limits → Clause → List Rational → Progress → ℕ → Result (Progress × ℕ)
-fold_some l [] args p k = ok (p, k)
+fold_some l [] args p k = Ok (p, k)
 fold_some l (phi ∷ clause) [] p k = do
-  q ← process_disequality l p phi none
-  ok (q, suc k)
+  q ← process_disequality l p phi None
+  Ok (q, suc k)
 fold_some l (phi ∷ clause) (a ∷ args) p k = do
-  q ← process_disequality l p phi (some a)
+  q ← process_disequality l p phi (Some a)
   fold_some l clause args q (suc k)
 
 -- all arguments are numbers
@@ -65,8 +65,8 @@ fold_read l clause args p = do
 
 -- n literals in all
 abbrev pub FoldedIs : ℕ → Folded → Map Term → Result (Progress × ℕ) → Type 0
-FoldedIs n (folded.Done p) m d = (d ≡ ok (progress_with p m [], n)) × SumHas p.acc m
-FoldedIs n (folded.Inferred p q k) m d = (d ≡ ok (progress_with p m (q ∷ []), k)) × (SumHas p.acc m × Proper q)
+FoldedIs n (folded.Done p) m d = (d ≡ Ok (progress_with p m [], n)) × SumHas p.acc m
+FoldedIs n (folded.Inferred p q k) m d = (d ≡ Ok (progress_with p m (q ∷ []), k)) × (SumHas p.acc m × Proper q)
 FoldedIs n (folded.Refused c) m d = Refuses c d × (m ≡ [])
 
 pub record FoldedLeft (b w w' : Bytes) (n : ℕ) (r : Folded) (d : Result (Progress × ℕ)) : Type 0 where
@@ -77,8 +77,8 @@ pub record FoldedLeft (b w w' : Bytes) (n : ℕ) (r : Folded) (d : Result (Progr
 
 -- argument k
 abbrev pub at : List Rational → ℕ → Option Rational
-at [] k = none
-at (q ∷ qs) zero = some q
+at [] k = None
+at (q ∷ qs) zero = Some q
 at (q ∷ qs) (suc k) = at qs k
 
 -- the last line of `la_generic_partial`
@@ -93,4 +93,4 @@ unfoldable pub tautology_of : Limits → Term → ℕ → Result ℕ
 tautology_of l phi n = do
   d ← disequality_of l phi n
   _ ← assert (is_tautology d) disequality_is_not_tautology
-  ok d.visits
+  Ok d.visits

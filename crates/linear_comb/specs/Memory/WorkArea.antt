@@ -8,7 +8,7 @@ use Rattle.numbers.specs.Bytes.{Bytes}
 use Rattle.terms.specs.Term.{Term}
 use Rattle.terms.specs.Format.{max_records, work_bytes, step_at}
 use Rattle.rules.specs.Refusal.{Result}
-use Rattle.rules.specs.Refusal.Outcome.{ok, refused}
+use Rattle.std.specs.Prelude.{Ok, Err}
 use Rattle.rules.specs.Refusal.Refusal.{number_range}
 use Rattle.index_map.specs.IndexMap.{Map, combination, neg_all, neg}
 use Rattle.linear_comb.specs.LinearComb.{LinearComb}
@@ -53,8 +53,8 @@ negated s = record { len = s.len; constant = neg_q s.constant }
 
 abbrev pub CombinedIs : Combined → Map Term → Result LinearComb → Type 0
 CombinedIs (combined.Is s) m d =
-    (d ≡ ok (combination m s.constant)) × ((s.len ≡ length m) × Proper s.constant)
-CombinedIs combined.OutOfRange m d = (d ≡ refused number_range) × (m ≡ [])
+    (d ≡ Ok (combination m s.constant)) × ((s.len ≡ length m) × Proper s.constant)
+CombinedIs combined.OutOfRange m d = (d ≡ Err number_range) × (m ≡ [])
 
 -- ---- promises about the bytes w that are left in an area
 

@@ -1,18 +1,14 @@
 -- What `add_term` does at a term, as one value: the code looks at a record first, and then walks.
-use Rattle.std.specs.Prelude.{◌≡◌, true, List, ℕ, ◌≤◌, ◌<◌}
-use Rattle.std.proofs.Math.Option.{some, none}
+use Rattle.std.specs.Prelude.{◌≡◌, Bool, true, false, List, ℕ, ◌≤◌, ◌<◌}
+use Rattle.std.specs.Prelude.{Some, None}
 use Rattle.numbers.specs.Rational.{Rational, Proper, mul_q, neg_q, checked}
 use Rattle.numbers.specs.Bytes.{Bytes}
 use Rattle.terms.specs.Term.{Term, Terms, record_number, two?}
 use Rattle.terms.specs.Term.Terms.{nil, ◌▹◌}
 use Rattle.terms.specs.Book.{count, tree, numbers, all_below}
 use Rattle.terms.specs.Readers.{ranged, as_fraction, as_op, arguments_of}
-use Rattle.numbers.specs.declared.number.Checked.{Checked}
-use Rattle.numbers.specs.declared.number.Checked.TheVariants as checked
-use Rattle.terms.specs.declared.term.Reading.{Reading}
-use Rattle.terms.specs.declared.term.Reading.TheVariants.{Value, NotNumber, OutOfRange}
 use Rattle.rules.specs.Refusal.{Result, ◌>>=◌}
-use Rattle.rules.specs.Refusal.Outcome.{ok}
+use Rattle.std.specs.Prelude.{Ok}
 use Rattle.rules.specs.Limits.{Limits, limited}
 use Rattle.index_map.specs.IndexMap.{Map, Walked, walked, add_entry, add_constant}
 use Rattle.linear_walk.specs.LinearTerms.{arm_of, add_term, add_args}
@@ -31,38 +27,48 @@ use Rattle.linear_walk.specs.declared.linear_walk.Flat.TheVariants as flat
 use Rattle.linear_walk.specs.declared.linear_walk.Walk.{Walk}
 use Rattle.linear_walk.specs.declared.linear_walk.Walk.TheVariants as walk
 use Rattle.linear_comb.specs.Memory.Notes.{Noted}
+use Rattle.numbers.specs.Rational.{Checked}
+use Rattle.terms.specs.Readers.{Reading}
+use Rattle.std.specs.Prelude.{Err}
+use Rattle.terms.specs.declared.term.NotRead.TheVariants.{NotNumber, OutOfRange}
 
 -- a constant, where it is in range
 abbrev pub constant_node : Checked → Node
-constant_node (checked.Value q) = node.Constant q
-constant_node checked.OutOfRange = node.OutOfRange
+constant_node (Some q) = node.Constant q
+constant_node None = node.OutOfRange
 
 -- a leaf's node, by what the leaf is read as
 abbrev pub read_node : Rational → Reading → Node
-read_node coeff (Value q) = constant_node (checked (mul_q q coeff))
-read_node coeff NotNumber = node.Atom
-read_node coeff OutOfRange = node.OutOfRange
+read_node coeff (Ok q) = constant_node (checked (mul_q q coeff))
+read_node coeff (Err NotNumber) = node.Atom
+read_node coeff (Err OutOfRange) = node.OutOfRange
 
 unfoldable pub leaf_node : Term → Rational → Node
 leaf_node t coeff = read_node coeff (as_fraction ranged t)
 
 -- a number times the term of a record
 abbrev pub scaled_node : ℕ → Checked → Node
-scaled_node x (checked.Value c) = node.Factor x c
-scaled_node x checked.OutOfRange = node.OutOfRange
+scaled_node x (Some c) = node.Factor x c
+scaled_node x None = node.OutOfRange
 
 unfoldable pub factor_node : ℕ → Rational → Rational → Node
 factor_node x q coeff = scaled_node x (checked (mul_q q coeff))
 
+-- refusal 11
+abbrev pub is_outside : Reading → Bool
+is_outside (Ok q) = false
+is_outside (Err NotNumber) = false
+is_outside (Err OutOfRange) = true
+
 -- both factors are read before either is looked at
 abbrev pub factors_node : Reading → Reading → ℕ → ℕ → Rational → Node
-factors_node OutOfRange q x y coeff = node.OutOfRange
-factors_node (Value p) OutOfRange x y coeff = node.OutOfRange
-factors_node (Value p) (Value q) x y coeff = factor_node y p coeff
-factors_node (Value p) NotNumber x y coeff = factor_node y p coeff
-factors_node NotNumber OutOfRange x y coeff = node.OutOfRange
-factors_node NotNumber (Value q) x y coeff = factor_node x q coeff
-factors_node NotNumber NotNumber x y coeff = node.Atom
+factors_node (Err OutOfRange) q x y coeff = node.OutOfRange
+factors_node (Ok p) (Err OutOfRange) x y coeff = node.OutOfRange
+factors_node (Ok p) (Ok q) x y coeff = factor_node y p coeff
+factors_node (Ok p) (Err NotNumber) x y coeff = factor_node y p coeff
+factors_node (Err NotNumber) (Err OutOfRange) x y coeff = node.OutOfRange
+factors_node (Err NotNumber) (Ok q) x y coeff = factor_node x q coeff
+factors_node (Err NotNumber) (Err NotNumber) x y coeff = node.Atom
 
 unfoldable pub product_node : Term → Term → Rational → Node
 product_node a b coeff =
@@ -73,16 +79,16 @@ operation_node t o ts coeff = elim (arm_of o ts) [
   | sum ↦ node.Args coeff coeff
   | negation ↦ node.Args (neg_q coeff) (neg_q coeff)
   | difference ↦ node.Args coeff (neg_q coeff)
-  | product ↦ elim (two? ts) [ some p ↦ product_node p.0 p.1 coeff | none ↦ node.Atom ]
+  | product ↦ elim (two? ts) [ Some p ↦ product_node p.0 p.1 coeff | None ↦ node.Atom ]
   | leaf ↦ leaf_node t coeff
 ]
 
 unfoldable pub node_of : Term → Rational → Node
-node_of t coeff = elim (as_op t) [ some p ↦ operation_node t p.0 p.1 coeff | none ↦ leaf_node t coeff ]
+node_of t coeff = elim (as_op t) [ Some p ↦ operation_node t p.0 p.1 coeff | None ↦ leaf_node t coeff ]
 
 -- the arguments: the first with one coefficient, the others with another
 unfoldable pub add_each : Terms → Limits → Rational → Rational → Walked Term → Result (Walked Term)
-add_each nil l first others w = ok w
+add_each nil l first others w = Ok w
 add_each (t ▹ ts) l first others w = do
   w ← add_term t l first w
   add_args ts l others w

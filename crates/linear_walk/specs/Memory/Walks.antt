@@ -4,7 +4,7 @@ use Rattle.numbers.specs.Rational.{Proper}
 use Rattle.numbers.specs.Bytes.{Bytes}
 use Rattle.terms.specs.Term.{Term}
 use Rattle.rules.specs.Refusal.{Result}
-use Rattle.rules.specs.Refusal.Outcome.{ok}
+use Rattle.std.specs.Prelude.{Ok}
 use Rattle.index_map.specs.IndexMap.{Map, combination, Walked, walked}
 use Rattle.linear_walk.specs.declared.linear_walk.Walk.{Walk}
 use Rattle.linear_walk.specs.declared.linear_walk.Walk.TheVariants.{Done, Refused}
@@ -18,7 +18,7 @@ walk_refusal (Refused c) = c
 
 abbrev pub WalkIs : Walk → Map Term → Result (Walked Term) → Type 0
 WalkIs (Done s v) m d =
-    (d ≡ ok (walked (combination m s.constant) v)) × ((s.len ≡ length m) × Proper s.constant)
+    (d ≡ Ok (walked (combination m s.constant) v)) × ((s.len ≡ length m) × Proper s.constant)
 WalkIs (Refused c) m d = Refuses c d × (m ≡ [])
 
 pub record Walks (b w : Bytes) (r : Walk) (d : Result (Walked Term)) : Type 0 where

@@ -1,11 +1,9 @@
 -- A marking under way by value, and what comes before its first step, in terms of `Check`.
 use Rattle.std.specs.Prelude.{◌≡◌, true, false, List, ℕ, ◌-◌, ◌≤◌, length}
-use Rattle.std.proofs.Math.Option.{some, none}
+use Rattle.std.specs.Prelude.{Some, None}
 use Rattle.numbers.specs.Bytes.{Bytes}
 use Rattle.terms.specs.Book.{read_book, records_read, put_sorts}
-use Rattle.terms.specs.declared.reading.BookRead.TheVariants.{Records, RefusedAt}
-use Rattle.rules.specs.Refusal.{Outcome}
-use Rattle.rules.specs.Refusal.Outcome.{ok, refused}
+use Rattle.std.specs.Prelude.{Result, Ok, Err}
 use Rattle.rules.specs.Memory.Parts.{Ready}
 use Rattle.runs.specs.Verdict.{LentRefusal, lent_number, verdict_number}
 use Rattle.runs.specs.Verdict.LentRefusal.{work_area_or_limit, of_book}
@@ -30,8 +28,8 @@ state_of run limit s =
       at = place_of run (length s.steps);
       steps = length s.steps;
       counter = record { visits = s.counter.visits; limit = limit };
-      ended = elim s.verdict [ some v ↦ true | none ↦ false ];
-      verdict = elim s.verdict [ some v ↦ verdict_number v | none ↦ 0 ];
+      ended = elim s.verdict [ Some v ↦ true | None ↦ false ];
+      verdict = elim s.verdict [ Some v ↦ verdict_number v | None ↦ 0 ];
     }
 
 -- what every state has that is reached from the first
@@ -54,15 +52,15 @@ Turns book run s r =
 -- ---- before the first step
 
 -- refusals 1 to 7, or the steps of the run
-unfoldable pub opening : Bytes → Bytes → ℕ → ℕ → Outcome LentRefusal (List Step)
+unfoldable pub opening : Bytes → Bytes → ℕ → ℕ → Result (List Step) LentRefusal
 opening book run limit work = elim (lent_ok work limit) [
-  | true ↦ elim (read_book book) [ Records n ↦ read_run book run | RefusedAt c i ↦ refused (of_book c) ]
-  | false ↦ refused work_area_or_limit
+  | true ↦ elim (read_book book) [ Ok n ↦ read_run book run | Err e ↦ Err (of_book e.refusal) ]
+  | false ↦ Err work_area_or_limit
 ]
 
-abbrev pub opened_of : {X : Type 0} → Outcome LentRefusal X → Opened
-opened_of (ok x) = opened.Ready
-opened_of (refused r) = opened.Refused (lent_number r)
+abbrev pub opened_of : {X : Type 0} → Result X LentRefusal → Opened
+opened_of (Ok x) = opened.Ready
+opened_of (Err r) = opened.Refused (lent_number r)
 
 -- document 01's number of the refusal
 abbrev pub opened_refusal : Opened → ℕ

@@ -2,7 +2,7 @@
 -- functions that write promise.
 use Rattle.std.specs.Prelude.{◌≡◌, Bool, true, false, List, [], ◌∷◌, ◌++◌, ℕ, ◌+◌, ◌*◌, ◌%◌, ◌≤◌, ltb, length, take}
 use Rattle.std.specs.Prelude.{drop}
-use Rattle.std.proofs.Math.Option.{some, none}
+use Rattle.std.specs.Prelude.{Some, None}
 use Rattle.numbers.specs.Rational.{Rational, Proper}
 use Rattle.numbers.specs.Bytes.{Bytes}
 use Rattle.terms.specs.Format as format
@@ -71,8 +71,8 @@ more f g s = elim s.full [
 -- an inferred number as an argument, behind its constant where neither the book nor the tail has it
 unfoldable pub more_real : (Written → Bool) → Bytes → Rational → Writing → Writing
 more_real f b q s = elim (find_real (count b) b q 0) [
-  | some i ↦ more f (with_arg i) s
-  | none ↦ elim (ltb (place_in s.done.tail q) (length s.done.tail)) [
+  | Some i ↦ more f (with_arg i) s
+  | None ↦ elim (ltb (place_in s.done.tail q) (length s.done.tail)) [
     | true ↦ more f (with_arg (count b + place_in s.done.tail q)) s
     | false ↦ more f (with_arg (count b + place_in s.done.tail q)) (more f (with_constant q) s)
   ]

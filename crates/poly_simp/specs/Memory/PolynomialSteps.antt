@@ -6,7 +6,7 @@ use Rattle.numbers.specs.Bytes.{Bytes}
 use Rattle.terms.specs.Format.{bits_code, bits_sort, max_width, step_at, work_bytes}
 use Rattle.terms.specs.Term.{Term}
 use Rattle.rules.specs.Refusal.{Result, ◌>>=◌, assert}
-use Rattle.rules.specs.Refusal.Outcome.{ok}
+use Rattle.std.specs.Prelude.{Ok}
 use Rattle.rules.specs.Refusal.Refusal.{polynomials_not_equal}
 use Rattle.rules.specs.Limits.{Limits}
 use Rattle.index_map.specs.IndexMap.{Map, combination, sub}
@@ -68,7 +68,7 @@ unfoldable pub differs : Limits → ℕ → Polynomial → Polynomial → ℕ �
 differs l sort p q n = do
   d ← sub monomials l (reduced_by sort p) (reduced_by sort q)
   _ ← assert (is_nought d) polynomials_not_equal
-  ok n
+  Ok n
 
 -- the verdict, and an empty stack
 pub record DiffersLeft (b w : Bytes) (r : Verdict) (d : Result ℕ) : Type 0 where

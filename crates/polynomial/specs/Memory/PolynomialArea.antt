@@ -10,7 +10,7 @@ use Rattle.terms.specs.Term.{Term, record_number}
 use Rattle.terms.specs.Book.{count, tree}
 use Rattle.terms.specs.Readers.{within}
 use Rattle.rules.specs.Refusal.{Result, ◌>>=◌, assert}
-use Rattle.rules.specs.Refusal.Outcome.{ok}
+use Rattle.std.specs.Prelude.{Ok}
 use Rattle.rules.specs.Refusal.Refusal.{polynomial_size}
 use Rattle.rules.specs.Limits.{Limits, times}
 use Rattle.index_map.specs.Memory.StoredMaps as maps
@@ -183,15 +183,15 @@ walk_refusal (walk.Refused c) = c
 -- ---- the answers, case by case; a refusal leaves an empty area
 
 abbrev pub InsertedIs : Inserted → Map Monomial → Result (Map Monomial) → Type 0
-InsertedIs (inserted.Length n) m d = (d ≡ ok m) × (n ≡ length m)
+InsertedIs (inserted.Length n) m d = (d ≡ Ok m) × (n ≡ length m)
 InsertedIs (inserted.Refused c) m d = Refuses c d × (m ≡ [])
 
 abbrev pub CombinedIs : Combined → Map Monomial → Result Polynomial → Type 0
-CombinedIs (combined.Is s) m d = (d ≡ ok (poly_with s m)) × PolyHas s m
+CombinedIs (combined.Is s) m d = (d ≡ Ok (poly_with s m)) × PolyHas s m
 CombinedIs (combined.Refused c) m d = Refuses c d × (m ≡ [])
 
 abbrev pub WalkIs : Walk → Map Monomial → Result (Walked Monomial) → Type 0
-WalkIs (walk.Done s v) m d = (d ≡ ok (walked (poly_with s m) v)) × PolyHas s m
+WalkIs (walk.Done s v) m d = (d ≡ Ok (walked (poly_with s m) v)) × PolyHas s m
 WalkIs (walk.Refused c) m d = Refuses c d × (m ≡ [])
 
 -- ---- promises

@@ -9,7 +9,7 @@ use Rattle.terms.specs.Term.{Term, Terms}
 use Rattle.terms.specs.Book.{tree}
 use Rattle.terms.specs.Readers.{operator_of, arguments_of}
 use Rattle.rules.specs.Refusal.{Result, ◌>>=◌, assert}
-use Rattle.rules.specs.Refusal.Outcome.{ok, refused}
+use Rattle.std.specs.Prelude.{Ok, Err}
 use Rattle.rules.specs.Refusal.Refusal.{term_of_wrong_form, coeff_is_zero, coeff_different_signums, invalid_operators}
 use Rattle.rules.specs.Limits.{Limits, fraction_err, op_err}
 use Rattle.rules.specs.Shapes.{Clause, binary_err, is_relation}
@@ -39,8 +39,8 @@ abbrev pub scaled_at : Bytes → by_value.Scaled → Scaled
 scaled_at b p = (tree b p.c1, pair_of b p.x1 p.x2, tree b p.c2, pair_of b p.y1 p.y2)
 
 abbrev pub scaled_in : Bytes → Premise → Result Scaled
-scaled_in b (premise.Is p) = ok (scaled_at b p)
-scaled_in b premise.NotScaled = refused term_of_wrong_form
+scaled_in b (premise.Is p) = Ok (scaled_at b p)
+scaled_in b premise.NotScaled = Err term_of_wrong_form
 
 -- ---- the coefficients: `number_case` up to the conclusion, and whether their signs are the same
 
@@ -48,7 +48,7 @@ unfoldable pub one_sign : Rational → Rational → Result Bool
 one_sign p q = do
   _ ← assert (not (is_zero p)) coeff_is_zero
   _ ← assert (not (is_zero q)) coeff_is_zero
-  ok (beq (is_positive p) (is_positive q))
+  Ok (beq (is_positive p) (is_positive q))
 
 unfoldable pub signs_of : Limits → Term → Term → Result Bool
 signs_of l c1 c2 = do
@@ -57,7 +57,7 @@ signs_of l c1 c2 = do
   one_sign p q
 
 abbrev pub SignsAre : Signs → Result Bool → Type 0
-SignsAre (signs.Same t) d = d ≡ ok t
+SignsAre (signs.Same t) d = d ≡ Ok t
 SignsAre (signs.Refused c) d = Refuses c d
 
 -- ---- the conclusion: the rest of `number_case`
@@ -84,6 +84,6 @@ relation_case same p phi = do
 -- `poly_simp_rel` from its premise t and its conclusion phi on
 unfoldable pub scaled_case : Limits → Term → Term → Result (Unit {0})
 scaled_case l t phi = elim (scaled BvMul BvSub t) [
-  | ok p ↦ bitvector_case p phi
-  | refused r ↦ scaled Mult Sub t >>= λ p. number_case l p phi
+  | Ok p ↦ bitvector_case p phi
+  | Err r ↦ scaled Mult Sub t >>= λ p. number_case l p phi
 ]

@@ -1,19 +1,14 @@
 -- What `add_term` of a polynomial does at a term, as one value: the code looks at a record first, and then walks.
 use Rattle.std.specs.Prelude.{◌≡◌, true, false, [], ◌∷◌, ℕ, suc, ◌+◌, ◌*◌, ◌≤◌, ◌<◌, pos, length}
-use Rattle.std.proofs.Math.Option.{some, none}
+use Rattle.std.specs.Prelude.{Some, None}
 use Rattle.numbers.specs.Rational.{Rational, Proper, whole, mul_q, div_q, neg_q, is_zero, checked}
 use Rattle.numbers.specs.Bytes.{Bytes}
 use Rattle.terms.specs.Term.{Term, Terms, record_number}
 use Rattle.terms.specs.Term.Terms.{nil, ◌▹◌}
 use Rattle.terms.specs.Book.{count, tree, numbers, all_below}
 use Rattle.terms.specs.Readers.{within, ranged, as_fraction, as_bitvector, as_op, arguments_of}
-use Rattle.numbers.specs.declared.number.Checked.{Checked}
-use Rattle.numbers.specs.declared.number.Checked.TheVariants as checked
-use Rattle.terms.specs.declared.term.Reading.{Reading}
-use Rattle.terms.specs.declared.term.Reading.TheVariants.{Value, NotNumber, OutOfRange}
-use Rattle.terms.specs.declared.term.BitVector.TheVariants.{Bits, NotBitvector}
 use Rattle.rules.specs.Refusal.{Result, ◌>>=◌, assert}
-use Rattle.rules.specs.Refusal.Outcome.{ok}
+use Rattle.std.specs.Prelude.{Ok}
 use Rattle.rules.specs.Refusal.Refusal.{polynomial_size}
 use Rattle.rules.specs.Limits.{Limits, limited}
 use Rattle.index_map.specs.IndexMap.{Map, Walked, walked}
@@ -26,37 +21,41 @@ use Rattle.polynomial.specs.Memory.PolynomialArea.{poly_with, add_scaled}
 use Rattle.polynomial.specs.declared.polynomial.Walk.{Walk}
 use Rattle.polynomial_walk.specs.declared.polynomial_walk.Node.{Node}
 use Rattle.polynomial_walk.specs.declared.polynomial_walk.Node.TheVariants as node
+use Rattle.numbers.specs.Rational.{Checked}
+use Rattle.terms.specs.Readers.{Reading}
+use Rattle.std.specs.Prelude.{Err}
+use Rattle.terms.specs.declared.term.NotRead.TheVariants.{NotNumber, OutOfRange}
 
 -- a constant, where it is in range
 abbrev pub constant_node : Checked → Node
-constant_node (checked.Value q) = node.Constant q
-constant_node checked.OutOfRange = node.OutOfRange
+constant_node (Some q) = node.Constant q
+constant_node None = node.OutOfRange
 
 unfoldable pub constant_of : Rational → Rational → Node
 constant_of q coeff = constant_node (checked (mul_q q coeff))
 
 unfoldable pub leaf_node : Term → Rational → Node
 leaf_node t coeff = elim (as_fraction ranged t) [
-  | Value q ↦ constant_of q coeff
-  | NotNumber ↦ elim (as_bitvector t) [
-    | Bits v n ↦ constant_of (whole (pos v)) coeff
-    | NotBitvector ↦ node.Atom
+  | Ok q ↦ constant_of q coeff
+  | Err NotNumber ↦ elim (as_bitvector t) [
+    | Some (v, n) ↦ constant_of (whole (pos v)) coeff
+    | None ↦ node.Atom
   ]
-  | OutOfRange ↦ node.OutOfRange
+  | Err OutOfRange ↦ node.OutOfRange
 ]
 
 abbrev pub divided_node : ℕ → Checked → Node
-divided_node x (checked.Value c) = node.Quotient x c
-divided_node x checked.OutOfRange = node.OutOfRange
+divided_node x (Some c) = node.Quotient x c
+divided_node x None = node.OutOfRange
 
 -- the dividend with the coefficient over a divisor that is read and is not 0
 abbrev pub divisor_node : Term → Term → Reading → Rational → Node
-divisor_node t a (Value q) coeff = elim (is_zero q) [
+divisor_node t a (Ok q) coeff = elim (is_zero q) [
   | true ↦ leaf_node t coeff
   | false ↦ divided_node (record_number a) (checked (div_q coeff q))
 ]
-divisor_node t a NotNumber coeff = leaf_node t coeff
-divisor_node t a OutOfRange coeff = node.OutOfRange
+divisor_node t a (Err NotNumber) coeff = leaf_node t coeff
+divisor_node t a (Err OutOfRange) coeff = node.OutOfRange
 
 abbrev pub quotient_node : Term → Terms → Rational → Node
 quotient_node t nil coeff = leaf_node t coeff
@@ -77,11 +76,11 @@ operation_node t o ts coeff = elim (arm_of o ts) [
 ]
 
 unfoldable pub node_of : Term → Rational → Node
-node_of t coeff = elim (as_op t) [ some p ↦ operation_node t p.0 p.1 coeff | none ↦ leaf_node t coeff ]
+node_of t coeff = elim (as_op t) [ Some p ↦ operation_node t p.0 p.1 coeff | None ↦ leaf_node t coeff ]
 
 -- the arguments: the first with one coefficient, the others with another; d products above
 unfoldable pub add_each : Terms → Limits → ℕ → Rational → Rational → Walked Monomial → Result (Walked Monomial)
-add_each nil l d first others w = ok w
+add_each nil l d first others w = Ok w
 add_each (t ▹ ts) l d first others w = do
   w ← add_term t l d first w
   add_args ts l d others w

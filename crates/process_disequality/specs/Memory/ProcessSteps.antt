@@ -1,12 +1,12 @@
 -- `process_disequality` with the work area lent: what each function of the code answers and leaves, in terms of the
 -- definitions.
 use Rattle.std.specs.Prelude.{◌≡◌, List, [], ◌∷◌, ℕ}
-use Rattle.std.proofs.Math.Option.{Option, some, none}
+use Rattle.std.specs.Prelude.{Option, Some, None}
 use Rattle.numbers.specs.Rational.{Rational, Proper}
 use Rattle.numbers.specs.Bytes.{Bytes}
 use Rattle.terms.specs.Term.{Term}
 use Rattle.rules.specs.Refusal.{Result, ◌>>=◌}
-use Rattle.rules.specs.Refusal.Outcome.{ok, refused}
+use Rattle.std.specs.Prelude.{Ok, Err}
 use Rattle.rules.specs.Refusal.Refusal.{number_range}
 use Rattle.rules.specs.Limits.{Limits}
 use Rattle.index_map.specs.IndexMap.{Map, combination, add}
@@ -39,8 +39,8 @@ trace_of (Of q) = q ∷ []
 trace_of Missing = []
 
 abbrev pub given_of : Coefficient → Option Rational
-given_of (Of q) = some q
-given_of Missing = none
+given_of (Of q) = Some q
+given_of Missing = None
 
 abbrev pub CoefficientProper : Coefficient → Type 0
 CoefficientProper (Of q) = Proper q
@@ -52,15 +52,15 @@ inference_refusal (inference.Of q) = 0
 inference_refusal (inference.Refused c) = c
 
 abbrev pub InferredIs : Inference → Result Rational → Type 0
-InferredIs (inference.Of q) d = (d ≡ ok q) × Proper q
+InferredIs (inference.Of q) d = (d ≡ Ok q) × Proper q
 InferredIs (inference.Refused c) d = Refuses c d
 
 -- the argument that is given, or inferred from the sum's entries and the literal's own
 unfoldable pub argument_from : Limits → Map Term → Map Term → Option Rational → Result (Rational × List Rational)
-argument_from l acc own (some a) = ok (a, [])
-argument_from l acc own none = do
+argument_from l acc own (Some a) = Ok (a, [])
+argument_from l acc own None = do
   a ← inferred l acc own
-  ok (a, a ∷ [])
+  Ok (a, a ∷ [])
 
 -- document 01's number of an argument's refusal; 0 where there is none
 abbrev pub argued_refusal : Argued → ℕ
@@ -68,7 +68,7 @@ argued_refusal (argued.Is a f) = 0
 argued_refusal (argued.Refused c) = c
 
 abbrev pub ArguedIs : Argued → Result (Rational × List Rational) → Type 0
-ArguedIs (argued.Is a c) d = (d ≡ ok (a, trace_of c)) × (Proper a × CoefficientProper c)
+ArguedIs (argued.Is a c) d = (d ≡ Ok (a, trace_of c)) × (Proper a × CoefficientProper c)
 ArguedIs (argued.Refused c) d = Refuses c d
 
 -- ---- one literal
@@ -95,7 +95,7 @@ processed_refusal (processed.Refused c) = c
 
 abbrev pub ProcessedIs : Processed → Map Term → Result Progress → Type 0
 ProcessedIs (processed.Accumulated p c) m d =
-    (d ≡ ok (progress_with p m (trace_of c))) × (SumHas p.acc m × CoefficientProper c)
+    (d ≡ Ok (progress_with p m (trace_of c))) × (SumHas p.acc m × CoefficientProper c)
 ProcessedIs (processed.Refused c) m d = Refuses c d × (m ≡ [])
 
 -- the sum so far is in its area, the areas of the two sides are as they were
@@ -110,11 +110,11 @@ unfoldable pub scaled_of : Limits → ℕ → LinearComb → Rational → Result
 scaled_of l o s a = do
   (p, t) ← strengthened l o s a
   scaled ← mul l t (scalar p a)
-  ok (weakened p a, scaled)
+  Ok (weakened p a, scaled)
 
 abbrev pub ScaledIs : Strengthened → Map Term → Result (ℕ × LinearComb) → Type 0
-ScaledIs (stronger.Is o s) m d = (d ≡ ok (o, comb_with s m)) × SumHas s m
-ScaledIs stronger.OutOfRange m d = (d ≡ refused number_range) × (m ≡ [])
+ScaledIs (stronger.Is o s) m d = (d ≡ Ok (o, comb_with s m)) × SumHas s m
+ScaledIs stronger.OutOfRange m d = (d ≡ Err number_range) × (m ≡ [])
 
 pub record ScaledLeft (b w w' : Bytes) (r : Strengthened) (d : Result (ℕ × LinearComb)) : Type 0 where
   pub map : Map Term
@@ -128,7 +128,7 @@ accumulated_of l p d arg = do
   (a, trace) ← argument_of l p d.sum arg
   (o, s) ← scaled_of l d.operator d.sum a
   acc ← add terms l p.acc s
-  ok (progress (join_operators p.operator o) acc trace d.visits)
+  Ok (progress (join_operators p.operator o) acc trace d.visits)
 
 -- the areas of the sum and of the literal are read; the sum is left in its own, and the literal's is emptied
 pub record AccumulatedLeft (b w w' : Bytes) (r : Processed) (d : Result Progress) : Type 0 where

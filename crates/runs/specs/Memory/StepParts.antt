@@ -2,14 +2,13 @@
 -- premises, literals and arguments are parts of the run, and so is what follows the step.
 use Rattle.std.specs.Prelude.{◌≡◌, Bool, true, false, ◌&&◌, List, ℕ, zero, suc, ◌*◌, ◌-◌, ◌<◌, ltb, length, get_or}
 use Rattle.std.specs.Prelude.{take, drop}
-use Rattle.std.proofs.Math.Option.{some, none}
+use Rattle.std.specs.Prelude.{Some, None}
 use Rattle.numbers.specs.Bytes.{Bytes, le}
 use Rattle.terms.specs.Term.{sort, same_sort}
 use Rattle.terms.specs.Term.Sort.{bool}
 use Rattle.terms.specs.Book.{count, tree}
 use Rattle.terms.specs.Format.{run_record_bytes}
-use Rattle.rules.specs.Refusal.{Outcome}
-use Rattle.rules.specs.Refusal.Outcome.{ok, refused}
+use Rattle.std.specs.Prelude.{Result, Ok, Err}
 use Rattle.rules.specs.Memory.Parts.{numbers_in, terms_in}
 use Rattle.runs.specs.Verdict.{LentRefusal, lent_number}
 use Rattle.runs.specs.Rule.{Rule, rule_of}
@@ -59,7 +58,7 @@ unfoldable pub head_in : Bytes → Rec
 head_in part = rec (get_or part 0 0) (get_or part 1 0) (le 2 part 2)
 
 -- reading it as step n
-unfoldable pub read_in : Bytes → ℕ → Bytes → Outcome LentRefusal Step
+unfoldable pub read_in : Bytes → ℕ → Bytes → Result Step LentRefusal
 read_in book n part =
     read_step book n (head_in part) (recs (premises_in part)) (recs (clause_in part)) (recs (args_in part))
 
@@ -72,23 +71,19 @@ parts_ok book n part =
 
 -- its rule
 unfoldable pub rule_in : Bytes → Rule
-rule_in part = elim (rule_of (head_in part).byte) [ some r ↦ r | none ↦ assume ]
+rule_in part = elim (rule_of (head_in part).byte) [ Some r ↦ r | None ↦ assume ]
 
 -- the step, once it was read
 unfoldable pub step_in : Bytes → Bytes → Step
 step_in book part =
     step (rule_in part) (numbers_in (premises_in part)) (terms_in book (clause_in part)) (terms_in book (args_in part))
 
-abbrev pub is_ok : {E X : Type 0} → Outcome E X → Bool
-is_ok (ok x) = true
-is_ok (refused r) = false
-
 -- ---- of a whole run
 
 -- what reading it answers
-abbrev pub run_read_of : {X : Type 0} → Outcome LentRefusal X → RunRead
-run_read_of (ok x) = run_read.Steps
-run_read_of (refused r) = run_read.Refused (lent_number r)
+abbrev pub run_read_of : {X : Type 0} → Result X LentRefusal → RunRead
+run_read_of (Ok x) = run_read.Steps
+run_read_of (Err r) = run_read.Refused (lent_number r)
 
 -- document 01's number of the refusal
 abbrev pub run_refusal : RunRead → ℕ
@@ -103,7 +98,7 @@ step_from (suc k) run = next_in (step_from k run)
 -- part is what is left of a run, which was read, from one of its steps on
 pub record StandsIn (b run part : Bytes) : Type 0 where
   pub steps : List Step
-  pub read : read_run b run ≡ ok steps
+  pub read : read_run b run ≡ Ok steps
   pub number : ℕ
   pub from : part ≡ step_from number run
   pub inside : number < length steps

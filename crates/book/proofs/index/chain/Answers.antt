@@ -1,23 +1,33 @@
-use Prim.Native.Nat.{◌<◌}
+-- The bytes are hashed one by one, as in the definition.
+use mathlib.Core.Path.{◌≡◌, refl, ap, ◌∙◌}
+use mathlib.Core.List.{[], ◌∷◌}
+use Prim.Native.Nat.{ℕ, ◌+◌, ◌*◌, ◌/◌, ◌%◌}
 use native.Mathlib.Omega.{arith}
 use borrow.Author.Rules.{rules}
-use Rattle.book.proofs.RecordChains.{hashing_none, hashing_next, hashing_end}
+use borrow.Author.Tests.{tests}
+use Rattle.std.specs.List.{fold}
+use Rattle.std.proofs.lemmas.Iterator.{YieldsList-from_slice}
+use Rattle.std.proofs.lemmas.Iterator.Consumers.{fold_from_yields_List}
+use Rattle.numbers.specs.Bytes.{Bytes}
+use Rattle.book.specs.Memory.RecordIndex.{hash_from, chain}
+use Rattle.book.proofs.RecordChains.{chain-below}
 use Rattle.book.proofs.index.chain.Goals as goal
 
-pub overflow_add-h : goal.overflow_add-h
-overflow_add-h c =
-    let small : c.byte.result < 256 = search rules in
-    omega (arith, c.loop-k.invariant.small)
+-- as the code computes it, in 16 bits
+mixed : ℕ → ℕ → ℕ
+mixed h x = (h * 40503 % 65536 + x) % 65536
 
-pub loop-k-preserved : goal.loop-k-preserved
-loop-k-preserved c =
-    hashing_next _ _ _ c.loop-k.invariant c.loop-k-test.true _ c.byte.ensures
-
-pub loop-k-init : goal.loop-k-init
-loop-k-init c = hashing_none _
-
-pub overflow_mul-h : goal.overflow_mul-h
-overflow_mul-h c = omega (arith, c.loop-k.invariant.small)
+each_mixed : (h : ℕ) (r : Bytes) → fold mixed h r ≡ hash_from h r
+unfolding mixed hash_from
+each_mixed h [] = refl
+each_mixed h (x ∷ r) =
+    let step : (h * 40503 % 65536 + x) % 65536 ≡ (40503 * h + x) % 65536 = omega arith in
+    rw step (each_mixed ((40503 * h + x) % 65536) r)
 
 pub returns : goal.returns
-returns c = hashing_end _ _ _ c.loop-k.invariant c.loop-k-test.false
+unfolding mixed chain
+returns c =
+    let hash = fold_from_yields_List _ mixed 0 c.fold-h.result c.fold-h.ensures.ran
+    (YieldsList-from_slice c.args.r.now cc) (λ a x b q k. search (rules, tests)) ∙ each_mixed 0 c.args.r.now in
+    let is : c.from.result ≡ chain c.args.r.now = c.from.ensures ∙ ap (λ (x : ℕ). x / 64) hash in
+    (is, omega (arith, is, chain-below c.args.r.now))

@@ -1,6 +1,6 @@
 use mathlib.Core.Path.{◌∙◌, ap}
 use Rattle.terms.specs.Book.{stands}
-use Rattle.book.proofs.RecordChains.{compared, searching_first, link-falls, searching_next}
+use Rattle.book.proofs.RecordChains.{compared, searching_first, searching_next}
 use Rattle.book.proofs.RecordChains.{searching_found, searching_end}
 use Rattle.book.proofs.index.found.Goals as goal
 
@@ -12,11 +12,6 @@ returns-then-same_bytes c =
     searching_found _ _ _ c.requires _ _ c.loop-k.invariant c.loop-k-test.true
     (compared _ _ _ _ _ _ c.record.ensures c.same_bytes.ensures c.if-same_bytes.true)
     ∙ ap (stands _ _) c.record-r.ensures
-
-pub loop-k-smaller : goal.loop-k-smaller
-loop-k-smaller c =
-    rw c.read_u16-k-in-loop-k.ensures
-    (link-falls _ _ _ c.requires _ _ c.loop-k.invariant c.loop-k-test.true)
 
 pub loop-k-preserved : goal.loop-k-preserved
 loop-k-preserved c =

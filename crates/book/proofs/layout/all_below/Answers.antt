@@ -1,7 +1,7 @@
 use mathlib.Core.Path.{sym, ◌∙◌}
 use borrow.Author.Rules.{rules}
 use borrow.Author.Tests.{lt-ltb, le-ltb}
-use Rattle.terms.proofs.Layouts.{walk_on, walk_fails, walk_end, all_below_all}
+use Rattle.terms.proofs.Layouts.{walk_on, walk_fails, all_below_all}
 use Rattle.terms.proofs.RecordBytes.{length-numbers, number_at_lem}
 use Rattle.book.proofs.layout.all_below.Goals as goal
 
@@ -17,6 +17,3 @@ pub loop-k-preserved : goal.loop-k-preserved
 loop-k-preserved c =
     walk_on c.loop-k.invariant _ 0 (search rules)
     (c.read_u16.ensures ∙ sym (number_at_lem _ _ _ (search rules))) (lt-ltb _ _ c.if-id-read_u16.false)
-
-pub returns : goal.returns
-returns c = walk_end c.loop-k.invariant (search rules)

@@ -1,16 +1,25 @@
-use native.Mathlib.Omega.{arith}
+-- The bytes are tested one by one, as in the definition.
+use mathlib.Core.Path.{◌≡◌, refl, ap, ◌∙◌}
+use mathlib.Core.Bool.{Bool, ◌&&◌}
+use mathlib.Core.List.{[], ◌∷◌}
 use borrow.Author.Rules.{rules}
-use lib.ListN.{take, length-take}
-use Rattle.terms.proofs.Layouts.{all_zero_all}
-use Rattle.book.proofs.layout.all_zero.Goals.{then-n-s, else-n-s}
+use borrow.Author.Tests.{tests}
+use lib.Dec.{eqb}
+use Rattle.std.specs.List.{list_all}
+use Rattle.std.proofs.lemmas.Iterator.{YieldsList-from_slice, YieldsList-from_take}
+use Rattle.std.proofs.lemmas.Iterator.Search.{all_from_yields_List}
+use Rattle.numbers.specs.Bytes.{Bytes}
+use Rattle.terms.specs.Book.{all_zero}
 use Rattle.book.proofs.layout.all_zero.Goals as goal
 
-pub loop-k-init : goal.loop-k-init
-loop-k-init c =
-    let start = c.args in
-    let long = length-take start.n start.s.now in
-    record {
-      long = elim c.if-n-s.branch [ then-n-s w ↦ omega arith | else-n-s w ↦ omega arith ];
-      inside = search rules;
-      left = all_zero_all (take start.n start.s.now);
-    }
+each_zero : (s : Bytes) → list_all (λ x. eqb x 0) s ≡ all_zero s
+unfolding all_zero
+each_zero [] = refl
+each_zero (x ∷ s) = ap (λ (b : Bool). eqb x 0 && b) (each_zero s)
+
+pub returns : goal.returns
+returns c =
+    all_from_yields_List (λ x. eqb x 0) _ _ _ c.all.ensures.ran
+    (YieldsList-from_take c.args.n (YieldsList-from_slice c.args.s.now cc) cc)
+    (λ x b q k. search (rules, tests))
+    ∙ each_zero _

@@ -7,7 +7,7 @@ use Rattle.book.proofs.layout.layout_ok.Goals as goal
 
 pub returns-in_default : goal.returns-in_default
 returns-in_default c =
-    layout_of_none c.byte-k.result _ _ c.byte-k.ensures (λ e. omega arith) (λ e. omega arith) (λ e. omega arith)
+    layout_of_none c.byte.result _ _ c.byte.ensures (λ e. omega arith) (λ e. omega arith) (λ e. omega arith)
     (λ e. omega arith) (λ e. omega arith)
 
 pub returns-in-1 : goal.returns-in-1

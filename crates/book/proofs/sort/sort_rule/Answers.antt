@@ -6,6 +6,6 @@ pub returns-then-takes : goal.returns-then-takes
 unfolding sort_rule
 returns-then-takes c = rw (← c.takes.ensures, c.if-takes.true, c.gives.ensures)
 
-pub returns : goal.returns
+pub returns-else-takes : goal.returns-else-takes
 unfolding sort_rule
-returns c = rw (← c.takes.ensures, c.if-takes.false)
+returns-else-takes c = rw (← c.takes.ensures, c.if-takes.false)

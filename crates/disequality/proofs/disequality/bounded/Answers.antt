@@ -15,10 +15,6 @@ returns-in_default c b left held l =
     bounded_out c.requires.0 left held c.requires.1.1 c.neg.ensures.is c.add.ensures _ _ l
     c.in_default.is c.clear_in.ensures
 
-pub neg-requires-2 : goal.neg-requires-2
-neg-requires-2 c =
-    c.add.ensures.proper _ c.in-Value.is
-
 pub turned-requires : goal.turned-requires
 turned-requires c =
     let few = kept_small c.requires.1.0.1.kept in
@@ -27,4 +23,4 @@ turned-requires c =
 pub returns : goal.returns
 returns c b left held l =
     bounded-left c.requires.0 left held c.requires.1.1 c.neg.ensures.is c.add.ensures _ _ l
-    c.in-Value.is c.neg-2.ensures (c.turned.ensures b)
+    c.in-Some.is c.neg-2.ensures (c.turned.ensures b)

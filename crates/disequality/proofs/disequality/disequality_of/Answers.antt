@@ -2,14 +2,8 @@
 -- other is empty again.
 use mathlib.Core.Path.{◌∙◌, ap}
 use Rattle.disequality.specs.Memory.DisequalitySteps.{sides_refusal}
-use Rattle.disequality.proofs.SidesAreas.{sides_apart, left-side, right_side, sides-refused, literal-left}
+use Rattle.disequality.proofs.SidesAreas.{left-side, right_side, sides-refused, literal-left}
 use Rattle.disequality.proofs.disequality.disequality_of.Goals as goal
-
-pub subtracted-requires : goal.subtracted-requires
-subtracted-requires c =
-    let between = c.requires.0 in
-    let both = rw c.in-Both.is at c.negate_disequality-sides.ensures in
-    (sides_apart between _ _ _ both, (_, (left-side between _ _ _ both, right_side between _ _ _ both)))
 
 pub returns-in_default : goal.returns-in_default
 returns-in_default c =

@@ -6,17 +6,17 @@ use Rattle.disequality.proofs.disequality.inner.Goals as goal
 
 pub returns-in-4-to-8 : goal.returns-in-4-to-8
 returns-in-4-to-8 c =
-    negated-relation _ _ c.remove_negation.ensures c.in-Of.is
+    negated-relation _ _ c.remove_negation.ensures c.in-Some.is
     c.requires c.operator-o.ensures (search rules) (search rules)
 
 pub returns-in_default-o : goal.returns-in_default-o
 returns-in_default-o c =
-    negated-low _ _ c.remove_negation.ensures c.in-Of.is
+    negated-low _ _ c.remove_negation.ensures c.in-Some.is
     c.operator-o.ensures (search rules)
 
 pub returns-in_default-o-2 : goal.returns-in_default-o-2
 returns-in_default-o-2 c =
-    negated-high _ _ c.remove_negation.ensures c.in-Of.is
+    negated-high _ _ c.remove_negation.ensures c.in-Some.is
     c.operator-o.ensures (search rules) (search rules)
 
 pub returns-then-p-eq-NO_OPERATOR : goal.returns-then-p-eq-NO_OPERATOR

@@ -6,13 +6,9 @@ use Rattle.linear_comb.proofs.Areas.{only_none}
 use Rattle.disequality.proofs.ConstantSides.{constant-walk}
 use Rattle.disequality.proofs.disequality.right_side.Goals as goal
 
-pub constant_side-requires : goal.constant_side-requires
-constant_side-requires c =
-    c.as_number.ensures.proper _ c.in-Value.is
-
-pub returns-in-Value : goal.returns-in-Value
-returns-in-Value c =
-    let number = sym c.as_number.ensures.is ∙ c.in-Value.is in record {
+pub returns-in-Ok : goal.returns-in-Ok
+returns-in-Ok c =
+    let number = sym c.as_number.ensures.is ∙ c.in-Ok.is in record {
       only_area = only_none c.requires.0;
       walks = rw (constant-walk _ number c.args.limit c.args.visits (search rules))
           (c.constant_side.ensures _ _ c.requires.1.1.1 _);

@@ -11,7 +11,7 @@ pub returns-then-whole : goal.returns-then-whole
 returns-then-whole c b k l =
     whole-greater _ c.args.o _ _ c.is_integer_times-whole.ensures k l c.floor-floor.ensures
     c.raised.result (search rules) (search rules) _
-    (to_z-of_z {w = w64} (search rules) ∙ c.coefficients_gcd-step.ensures.value b k) c.raised.ensures
+    (to_z-of_z {w = w64} (search rules) ∙ c.coefficients_gcd.ensures.value b k) c.raised.ensures
 
 pub returns-else-whole : goal.returns-else-whole
 returns-else-whole c b k l =

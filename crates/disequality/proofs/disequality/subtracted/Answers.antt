@@ -9,14 +9,9 @@ use Rattle.disequality.proofs.SubtractedSides.{out_of_range, subtracted-left}
 use Rattle.disequality.proofs.ConstantSides.{none_held, none_comb}
 use Rattle.disequality.proofs.disequality.subtracted.Goals as goal
 
-pub bounded-requires : goal.bounded-requires
-bounded-requires c =
-    let kept = c.requires.1 in
-    (c.requires.0, ((kept.0, kept.1.0), kept.1.1.proper))
-
-pub returns-then-m-eq0 : goal.returns-then-m-eq0
-returns-then-m-eq0 c b left right l =
-    let none = c.if-m-eq0.true in
+pub returns-then-t-eq0 : goal.returns-then-t-eq0
+returns-then-t-eq0 c b left right l =
+    let none = c.if-t-eq0.true in
     rw (none_comb right none) (c.bounded.ensures b left (none_held right none) l)
 
 pub sub-answer-requires : goal.sub-answer-requires

@@ -2,7 +2,7 @@
 use mathlib.Core.Path.{◌≡◌, ap}
 use native.Mathlib.Omega.{arith}
 use Rattle.numbers.specs.Bytes.{Bytes}
-use Rattle.rules.specs.Refusal.Outcome.{ok}
+use Rattle.std.specs.Prelude.{Ok}
 use Rattle.runs.specs.Run.{read_run, steps_of}
 use Rattle.marking.specs.declared.check.State.{State}
 use Rattle.marking.specs.Memory.Lent.{Underway}
@@ -13,7 +13,7 @@ use Rattle.elaborate.proofs.elaborate.turn.Goals as goal
 
 -- the marking is a state of the run
 given :
-    {book run : Bytes} {s : State} → read_run book run ≡ ok (steps_of book run) → (u : Underway book run s) →
+    {book run : Bytes} {s : State} → read_run book run ≡ Ok (steps_of book run) → (u : Underway book run s) →
     Shows book run s u.state
 given read u = record { read = read; reached = u.reached; is = u.is }
 

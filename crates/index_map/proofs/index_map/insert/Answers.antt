@@ -32,7 +32,7 @@ returns-then-is_zero-2 c = record {
   grown = omega arith;
   inserts =
       entry-removed _ _ _ _ (sym c.is_zero.ensures ∙ c.if-is_zero.false) _ c.find-k.ensures c.if-n-k.false
-      c.value_at.ensures c.add.ensures _ c.in-Value.is (sym c.is_zero-2.ensures ∙ c.if-is_zero-2.true) _
+      c.value_at.ensures c.add.ensures _ c.in-Some.is (sym c.is_zero-2.ensures ∙ c.if-is_zero-2.true) _
       c.swap_remove.ensures;
 }
 
@@ -41,6 +41,6 @@ returns c = record {
   grown = omega arith;
   inserts =
       sum_inserted _ _ _ _ (sym c.is_zero.ensures ∙ c.if-is_zero.false) _ c.find-k.ensures c.if-n-k.false
-      c.value_at.ensures c.add.ensures _ c.in-Value.is (sym c.is_zero-2.ensures ∙ c.if-is_zero-2.false) _
+      c.value_at.ensures c.add.ensures _ c.in-Some.is (sym c.is_zero-2.ensures ∙ c.if-is_zero-2.false) _
       c.put_entry-2.ensures;
 }

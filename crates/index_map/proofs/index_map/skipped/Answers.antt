@@ -1,24 +1,12 @@
-use Rattle.index_map.specs.Memory.Entries.{sums}
-use Rattle.index_map.proofs.EntrySearch.{search_none, search_past}
-use Rattle.index_map.proofs.KeySearch.{keys}
+-- The eights that are counted lack the key.
+use Rattle.std.proofs.Common.{rules, tests}
+use Rattle.rules.proofs.Chunks.{count_chunks}
+use Rattle.index_map.proofs.KeyScan.{lacking, all_pieces, less_pieces, more_pieces, skipped_eights}
 use Rattle.index_map.proofs.index_map.skipped.Goals as goal
 
-pub returns-then-entries-n : goal.returns-then-entries-n
-returns-then-entries-n c =
-    let a = c.args in
-    let s = search_none (keys sums a.key) a.entries.now a.n in
-    (s.most, s.left)
-
-pub returns-then-one_of_eight : goal.returns-then-one_of_eight
-returns-then-one_of_eight c = let s = c.loop-k.invariant in (s.most, s.left)
-
-pub loop-k-preserved : goal.loop-k-preserved
-loop-k-preserved c =
-    search_past _ _ _ 8 c.loop-k.invariant c.loop-k-test.true c.one_of_eight.ensures
-    c.if-one_of_eight.false
-
 pub returns : goal.returns
-returns c = let s = c.loop-k.invariant in (s.most, s.left)
-
-pub loop-k-init : goal.loop-k-init
-loop-k-init c = search_none _ _ _
+returns c =
+    let w = c.take_while.ensures in
+    skipped_eights c.args.key c.args.entries.now c.args.n {u = c.in-Some.used.now} (search rules) (search rules)
+    (count_chunks 80 (λ x. x) all_pieces less_pieces more_pieces c.in-Some.used.now (search rules) (search rules)
+    (lacking c.args.key) w.source w.closure w.done c.count.ensures.ran (λ x b q k. search (rules, tests)))

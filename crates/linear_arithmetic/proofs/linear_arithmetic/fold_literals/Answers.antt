@@ -1,7 +1,6 @@
-use mathlib.Core.Path.{◌∙◌}
 use native.Mathlib.Omega.{arith}
 use Rattle.rules.proofs.RunParts.{length-numbers_in}
-use Rattle.linear_arithmetic.proofs.FoldedAreas.{reached-length, so_far-begin, so_far-end, phi-below}
+use Rattle.linear_arithmetic.proofs.FoldedAreas.{so_far-begin, so_far-end, phi-below}
 use Rattle.linear_arithmetic.proofs.FoldedAreas.{step-refused, step-inferred, step-again}
 use Rattle.linear_arithmetic.proofs.linear_arithmetic.fold_literals.Goals as goal
 
@@ -20,51 +19,21 @@ process_disequality-processed-requires c =
 
 pub returns-in_default : goal.returns-in_default
 returns-in_default c =
-    step-refused c.loop-k.invariant
-    (record {
-      inside = c.loop-k-test.true;
-      phi = c.number_in-phi.result;
-      phi_is = c.number_in-phi.ensures;
-      arg = c.argument_at-arg.result;
-      arg_is = c.argument_at-arg.ensures.by_index;
-      left = c.process_disequality-processed.ensures;
-    })
+    step-refused c.loop-k.invariant c.loop-k-test.true c.number_in-phi.ensures _
+    c.argument_at-arg.ensures.by_index c.process_disequality-processed.ensures
     c.in_default.is c.processed_refusal.ensures
 
 pub returns-in-Of : goal.returns-in-Of
 returns-in-Of c =
-    step-inferred c.loop-k.invariant
-    (record {
-      inside = c.loop-k-test.true;
-      phi = c.number_in-phi.result;
-      phi_is = c.number_in-phi.ensures;
-      arg = c.argument_at-arg.result;
-      arg_is = c.argument_at-arg.ensures.by_index;
-      left = c.process_disequality-processed.ensures;
-    })
+    step-inferred c.loop-k.invariant c.loop-k-test.true c.number_in-phi.ensures _
+    c.argument_at-arg.ensures.by_index c.process_disequality-processed.ensures
     _ _ c.in-Accumulated.is _ c.in-Of.is
 
 pub loop-k-preserved : goal.loop-k-preserved
 loop-k-preserved c =
-    step-again c.loop-k.invariant
-    (record {
-      inside = c.loop-k-test.true;
-      phi = c.number_in-phi.result;
-      phi_is = c.number_in-phi.ensures;
-      arg = c.argument_at-arg.result;
-      arg_is = c.argument_at-arg.ensures.by_index;
-      left = c.process_disequality-processed.ensures;
-    })
+    step-again c.loop-k.invariant c.loop-k-test.true c.number_in-phi.ensures _
+    c.argument_at-arg.ensures.by_index c.process_disequality-processed.ensures
     _ _ c.in-Accumulated.is c.in_default-found.is
 
 pub returns : goal.returns
 returns c = so_far-end c.loop-k.invariant c.loop-k-test.false
-
-pub shape_of-work-in_default : goal.shape_of-work-in_default
-shape_of-work-in_default c = c.process_disequality-processed.auto.work ∙ reached-length c.loop-k.invariant
-
-pub shape_of-work-in-Of : goal.shape_of-work-in-Of
-shape_of-work-in-Of c = c.process_disequality-processed.auto.work ∙ reached-length c.loop-k.invariant
-
-pub shape_of-work : goal.shape_of-work
-shape_of-work c = reached-length c.loop-k.invariant

@@ -1,6 +1,5 @@
 -- The invariant is `FoldedSoFar` of FoldedAreas: nothing was inferred up to literal k, so that what is left of the fold
--- is the whole. The measure is how many literals are left.
-use Prim.Native.Nat.{◌-◌}
+-- is the whole.
 use Rattle.linear_arithmetic.proofs.FoldedAreas.{Given, whole_fold, FoldedSoFar}
 use Rattle.linear_arithmetic.proofs.linear_arithmetic.fold_literals.Given as goal
 
@@ -10,6 +9,3 @@ invariant-loop-k l =
     record { book = l.book; literals = l.literals; args = l.args; limit = l.limit; work = l.initial.work }
     in
     FoldedSoFar g (whole_fold g l.initial.q) l.work l.q l.k
-
-abbrev pub decreases-loop-k : goal.decreases-loop-k
-decreases-loop-k l = l.n - l.k

@@ -1,14 +1,17 @@
 -- Each return is a case of the definition's two tests.
-use Rattle.linear_arithmetic.proofs.LastTests.{positive-right, zero_right, negative-right}
+use Rattle.std.proofs.Common.{rules}
+use Rattle.numbers.specs.Choice.{when◌then◌else◌}
+use Rattle.linear_arithmetic.specs.LinearArithmetic.{is_true_at_zero}
 use Rattle.linear_arithmetic.proofs.linear_arithmetic.is_true_at_zero.Goals as goal
 
 pub returns-then-is_positive : goal.returns-then-is_positive
-returns-then-is_positive c = positive-right _ _ _ c.is_positive.ensures c.if-is_positive.true
+unfolding is_true_at_zero when◌then◌else◌
+returns-then-is_positive c = search rules
 
 pub returns-then-is_zero : goal.returns-then-is_zero
-returns-then-is_zero c =
-    zero_right _ _ _ c.is_positive.ensures _ c.is_zero.ensures c.if-is_positive.false c.if-is_zero.true
+unfolding is_true_at_zero when◌then◌else◌
+returns-then-is_zero c = search rules
 
 pub returns : goal.returns
-returns c =
-    negative-right _ _ _ c.is_positive.ensures _ c.is_zero.ensures c.if-is_positive.false c.if-is_zero.false
+unfolding is_true_at_zero when◌then◌else◌
+returns c = search rules

@@ -1,46 +1,19 @@
 use mathlib.Core.Path.{sym, ◌∙◌}
-use Rattle.linear_arithmetic.proofs.FoldedAreas.{Given}
 use Rattle.linear_arithmetic.proofs.PartialEnd.{part-unread}
-use Rattle.linear_arithmetic.proofs.PartialFold.{part-begin, part_length, part-few, rest_folds}
+use Rattle.linear_arithmetic.proofs.PartialFold.{part-begin, rest_folds}
 use Rattle.linear_arithmetic.proofs.PartialFold.{part-less, part-fits, folded_rest, part_clear, part-more}
 use Rattle.linear_arithmetic.proofs.PartialFold.{part-refused, part-done, part-again}
 use Rattle.linear_arithmetic.proofs.linear_arithmetic.la_generic_partial.Goals as goal
 
 pub returns-in-Refused : goal.returns-in-Refused
 returns-in-Refused c =
-    let asked = c.args in
-    let g : Given =
-    record {
-      book = asked.book.now;
-      literals = asked.literals.now;
-      args = asked.args.now;
-      limit = asked.limit;
-      work = asked.work.now;
-    }
-    in
-    let judged = part-unread g _ c.read_args.ensures c.in-Refused.is in
+    let judged = part-unread _ _ c.read_args.ensures c.in-Refused.is in
     record { value = judged.0; work_unchanged = judged.1 }
 
 pub loop-q-init : goal.loop-q-init
 loop-q-init c =
-    let asked = c.args in
-    let g : Given =
-    record {
-      book = asked.book.now;
-      literals = asked.literals.now;
-      args = asked.args.now;
-      limit = asked.limit;
-      work = asked.work.now;
-    }
-    in
-    let numbers = sym c.in_default.is ∙ c.read_args.ensures asked.limit in
-    (_, part-begin g _ numbers c.requires.0 c.requires.1.0 c.requires.1.1 _ c.whole.ensures)
-
-pub rest-requires : goal.rest-requires
-rest-requires c = part-few c.loop-q.invariant.1
-
-pub rest-requires-in-loop-q : goal.rest-requires-in-loop-q
-rest-requires-in-loop-q c = part-few c.loop-q.invariant.1
+    let numbers = sym c.in_default.is ∙ c.read_args.ensures c.args.limit in
+    (_, part-begin _ _ numbers c.requires.0 c.requires.1.0 c.requires.1.1 _ c.whole.ensures)
 
 pub fold_literals-requires : goal.fold_literals-requires
 fold_literals-requires c =
@@ -51,10 +24,6 @@ pub contradiction-requires : goal.contradiction-requires
 contradiction-requires c =
     part_clear c.loop-q.invariant.1 (folded_rest c.rest.ensures c.rest-in-loop-q.ensures c.fold_literals.ensures) _
     c.in-Done.is
-
-pub shape_of-work-in-Done : goal.shape_of-work-in-Done
-shape_of-work-in-Done c =
-    c.contradiction.auto.work ∙ c.fold_literals.auto.work ∙ part_length c.loop-q.invariant.1
 
 pub returns-in-Done : goal.returns-in-Done
 returns-in-Done c =
@@ -82,9 +51,6 @@ loop-q-preserved c = (
   part-again c.loop-q.invariant.1 (folded_rest c.rest.ensures c.rest-in-loop-q.ensures c.fold_literals.ensures) _ _ _
       c.in-Inferred.is,
 )
-
-pub shape_of-work-in-Refused-fold_literals : goal.shape_of-work-in-Refused-fold_literals
-shape_of-work-in-Refused-fold_literals c = c.fold_literals.auto.work ∙ part_length c.loop-q.invariant.1
 
 pub returns-in-Refused-fold_literals : goal.returns-in-Refused-fold_literals
 returns-in-Refused-fold_literals c =

@@ -10,15 +10,15 @@ returns-in_default-clause-value c =
 pub tautology-requires : goal.tautology-requires
 tautology-requires c = (
   c.requires.0,
-  phi-inside c.args.book.now _ _ (literal_is _ _ c.only_literal.ensures c.in-Of.is) c.requires.1,
+  phi-inside c.args.book.now _ _ (literal_is _ _ c.only_literal.ensures c.in-Some.is) c.requires.1,
 )
 
 pub returns-in_default-binary-clause-value : goal.returns-in_default-binary-clause-value
 returns-in_default-binary-clause-value c =
-    first_form _ _ _ _ _ (literal_is _ _ c.only_literal.ensures c.in-Of.is) _ c.binary.ensures
+    first_form _ _ _ _ _ (literal_is _ _ c.only_literal.ensures c.in-Some.is) _ c.binary.ensures
     c.in_default-binary.is c.tautology.ensures.value
 
 pub returns-clause-value : goal.returns-clause-value
 returns-clause-value c =
-    two-judged _ _ _ _ _ (literal_is _ _ c.only_literal.ensures c.in-Of.is) _ c.binary.ensures
-    c.in-Both.is c.tautology_case.ensures c.verdict_after.ensures
+    two-judged _ _ _ _ _ (literal_is _ _ c.only_literal.ensures c.in-Some.is) _ c.binary.ensures
+    c.in-Some-binary.is c.tautology_case.ensures c.verdict_after.ensures

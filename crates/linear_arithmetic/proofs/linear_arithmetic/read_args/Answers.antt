@@ -1,14 +1,11 @@
 use native.Mathlib.Omega.{arith}
 use borrow.Author.Rules.{rules}
 use Rattle.rules.proofs.RunParts.{length-numbers_in}
-use Rattle.linear_arithmetic.proofs.ReadParts.{read-begin, read_again, read-refused, read-end}
+use Rattle.linear_arithmetic.proofs.ReadParts.{read_again, read-refused, read-end}
 use Rattle.linear_arithmetic.proofs.linear_arithmetic.read_args.Goals as goal
 
 pub number_in-requires : goal.number_in-requires
 number_in-requires c = omega (arith, length-numbers_in c.args.args.now)
-
-pub loop-k-init : goal.loop-k-init
-loop-k-init c = read-begin _ _
 
 pub returns-in-Refused : goal.returns-in-Refused
 returns-in-Refused c =

@@ -3,14 +3,11 @@ use mathlib.Core.Path.{sym, ◌∙◌}
 use Rattle.linear_comb.proofs.CoefficientDivisors.{constant-integer, constant-fraction}
 use Rattle.linear_comb.proofs.linear_comb.coefficients_gcd.Goals as goal
 
-pub returns-then-is_integer : goal.returns-then-is_integer
-returns-then-is_integer c =
+pub returns-clause-value : goal.returns-clause-value
+returns-clause-value c =
     let from = c.gcd_from.ensures in
-    let r =
-    constant-integer _ c.requires.1 (sym c.is_integer.ensures ∙ c.if-is_integer.true) (from.proper, from.value) in
-    record { proper = r.0; value = r.1 }
+    constant-integer _ c.requires.1 (sym c.is_integer.ensures ∙ c.if-not-is_integer.false) from.proper from.value
 
-pub returns : goal.returns
-returns c =
-    let r = constant-fraction _ (sym c.is_integer.ensures ∙ c.if-is_integer.false) in
-    record { proper = r.0; value = r.1 }
+pub returns-then-not-is_integer-clause-value : goal.returns-then-not-is_integer-clause-value
+returns-then-not-is_integer-clause-value c b kept =
+    constant-fraction _ _ (sym c.is_integer.ensures ∙ c.if-not-is_integer.true) b

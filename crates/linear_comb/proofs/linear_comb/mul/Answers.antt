@@ -38,4 +38,4 @@ returns c b kept l =
     scaled kept _ l (sym c.is_zero.ensures ∙ c.if-is_zero.false)
     (tested _ c.eq.ensures c.whole-2.ensures ∙ c.if-eq.false)
     (rw c.in-Length.is at (c.scale_all.ensures b kept.kept l))
-    (sym c.mul.ensures.is ∙ c.in-Value.is) (c.mul.ensures.proper _ c.in-Value.is)
+    (sym c.mul.ensures.is ∙ c.in-Some.is) (c.mul.ensures.proper _ c.in-Some.is)

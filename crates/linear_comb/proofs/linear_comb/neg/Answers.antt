@@ -9,14 +9,8 @@ loop-k-preserved c =
     c.neg.ensures.proper c.put_entry.ensures c.put_entry.auto.entries
     (λ b d t r h. negates_next _ d t _ _ r c.neg.ensures.is h)
 
-pub returns : goal.returns
-returns c = record {
-  value = cc c.neg-2.ensures.is;
-  held = λ b kept. negates_all _ (over c.loop-k.invariant c.loop-k-test.false b kept.kept);
-}
+pub returns-clause-held : goal.returns-clause-held
+returns-clause-held c b kept = negates_all _ (over c.loop-k.invariant c.loop-k-test.false b kept.kept)
 
 pub loop-k-init : goal.loop-k-init
 loop-k-init c = begin (λ b. refl)
-
-pub shape_of-entries : goal.shape_of-entries
-shape_of-entries c = c.loop-k.invariant.size

@@ -3,9 +3,6 @@ use Rattle.linear_comb.proofs.EntryLoops.{begin, at, put, over, cleared}
 use Rattle.linear_comb.proofs.CombinationLoops.{scales_first, scales_next, scales_out, scales_all}
 use Rattle.linear_comb.proofs.linear_comb.scale_all.Goals as goal
 
-pub shape_of-entries-in_default : goal.shape_of-entries-in_default
-shape_of-entries-in_default c = c.clear.auto.entries ∙ c.loop-k.invariant.size
-
 pub returns-in_default : goal.returns-in_default
 returns-in_default c b kept =
     let loop = c.loop-k.invariant in
@@ -16,14 +13,11 @@ returns-in_default c b kept =
 pub loop-k-preserved : goal.loop-k-preserved
 loop-k-preserved c =
     put c.loop-k.invariant c.loop-k-test.true c.value_at-value.ensures.is c.key_at-key.ensures.0
-    (c.mul.ensures.proper _ c.in-Value.is) c.put_entry.ensures c.put_entry.auto.entries
-    (λ b d t r h. scales_next _ _ d t _ r h _ (sym c.mul.ensures.is ∙ c.in-Value.is))
+    (c.mul.ensures.proper _ c.in-Some.is) c.put_entry.ensures c.put_entry.auto.entries
+    (λ b d t r h. scales_next _ _ d t _ r h _ (sym c.mul.ensures.is ∙ c.in-Some.is))
 
 pub loop-k-init : goal.loop-k-init
 loop-k-init c = begin (λ b. scales_first _ _)
-
-pub shape_of-entries : goal.shape_of-entries
-shape_of-entries c = c.loop-k.invariant.size
 
 pub returns : goal.returns
 returns c b kept = scales_all _ _ (over c.loop-k.invariant c.loop-k-test.false b kept)

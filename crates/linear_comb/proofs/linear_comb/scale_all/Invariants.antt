@@ -1,6 +1,5 @@
 -- The loop's invariant is `Loop` of EntryLoops with `Scales`: the entries before k are multiplied, and the definition's
--- result is theirs with what it yields of the others behind. The measure is how many entries are left.
-use Prim.Native.Nat.{◌-◌}
+-- result is theirs with what it yields of the others behind.
 use Rattle.index_map.specs.Memory.Entries.{entries_of}
 use Rattle.linear_comb.proofs.EntryLoops.{Loop}
 use Rattle.linear_comb.proofs.CombinationLoops.{Scales}
@@ -8,6 +7,3 @@ use Rattle.linear_comb.proofs.linear_comb.scale_all.Given as goal
 
 abbrev pub invariant-loop-k : goal.invariant-loop-k
 invariant-loop-k l = Loop (λ b. Scales l.q (entries_of b l.initial.entries l.n)) l.initial.entries l.n l.entries l.k
-
-abbrev pub decreases-loop-k : goal.decreases-loop-k
-decreases-loop-k l = l.n - l.k

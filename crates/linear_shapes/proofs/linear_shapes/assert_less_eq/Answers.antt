@@ -18,12 +18,6 @@ returns-in_default-right c =
     c.as_signed_number_err-right.ensures c.in_default-right.is
     c.expected_refusal-in_default-right.ensures
 
-pub less_eq-requires : goal.less_eq-requires
-less_eq-requires c = (
-  c.as_signed_number_err-left.ensures.proper _ c.in-Value.is,
-  c.as_signed_number_err-right.ensures.proper _ c.in-Value-right.is,
-)
-
 pub returns-then-less_eq : goal.returns-then-less_eq
 unfolding assert_less_eq
 returns-then-less_eq c =

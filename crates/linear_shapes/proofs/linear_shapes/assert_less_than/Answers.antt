@@ -18,12 +18,6 @@ returns-in_default-right c =
     c.as_signed_number_err-right.ensures c.in_default-right.is
     c.expected_refusal-in_default-right.ensures
 
-pub less-requires : goal.less-requires
-less-requires c = (
-  c.as_signed_number_err-left.ensures.proper _ c.in-Value.is,
-  c.as_signed_number_err-right.ensures.proper _ c.in-Value-right.is,
-)
-
 pub returns-then-less : goal.returns-then-less
 unfolding assert_less_than
 returns-then-less c =

@@ -1,8 +1,7 @@
 -- The walk of a record's arguments and the walk of an operation among them, which call each other. What falls is the
 -- record's number: each argument is an earlier record, and a term leads to none that is later. The arguments of record i
--- count as 2 i, the operation that it is as 2 i + 1. The loop's invariant is `Walking` of ArgWalks, its measure how many
--- arguments are left.
-use Rattle.std.proofs.Common.{◌+◌, ◌*◌, ◌-◌}
+-- count as 2 i, the operation that it is as 2 i + 1. The loop's invariant is `Walking` of ArgWalks.
+use Rattle.std.proofs.Common.{◌+◌, ◌*◌}
 use Rattle.linear_walk.proofs.ArgWalks.{Walking}
 use Rattle.linear_walk.proofs.linear_walk.+add_args_add_operation.Given as goal
 
@@ -16,6 +15,3 @@ abbrev pub invariant-add_args-loop-k : goal.invariant-add_args-loop-k
 invariant-add_args-loop-k l =
     Walking l.book l.fn.entries l.part l.id l.limit l.fn.first l.others l.fn.s l.visits
     l.entries l.sum l.seen l.coeff l.noted l.k
-
-abbrev pub decreases-add_args-loop-k : goal.decreases-add_args-loop-k
-decreases-add_args-loop-k l = l.n - l.k

@@ -1,12 +1,9 @@
 -- The term's place says what is added: a number to the constant as in `add_constant`, an atom by `enter`. A refusal
--- empties the area. Where there are arguments, the answer is their place.
-use Rattle.std.proofs.Common.{refl, rules}
+-- empties the area.
+use Rattle.std.proofs.Common.{rules}
 use Rattle.linear_walk.proofs.WalkSteps.{constant_out, constant-added, entry_out, entry-added, sum-small}
-use Rattle.linear_walk.proofs.WalkSteps.{constant_pre, enter_pre, atom-inside, at_refusal, at_constant, at_atom}
+use Rattle.linear_walk.proofs.WalkSteps.{enter_pre, atom-inside, at_refusal, at_constant, at_atom}
 use Rattle.linear_walk.proofs.linear_walk.add_flat.Goals as goal
-
-pub add-requires : goal.add-requires
-add-requires c = (constant_pre c.requires c.descend.ensures c.in-Constant.is).1
 
 -- the sum of the constants is out of range, and in range
 pub returns-in_default : goal.returns-in_default
@@ -14,13 +11,10 @@ returns-in_default c =
     at_constant c.requires c.descend.ensures c.in-Constant.is
     (constant_out c.requires.sum _ _ _ _ c.add.ensures c.in_default.is (search rules))
 
-pub returns-in-Args : goal.returns-in-Args
-returns-in-Args c = ((refl, refl), rw c.in-Args.is at c.descend.ensures)
-
-pub returns-in-Value : goal.returns-in-Value
-returns-in-Value c =
+pub returns-in-Some : goal.returns-in-Some
+returns-in-Some c =
     at_constant c.requires c.descend.ensures c.in-Constant.is
-    (constant-added c.requires.sum _ _ _ _ c.add.ensures c.in-Value.is)
+    (constant-added c.requires.sum _ _ _ _ c.add.ensures c.in-Some.is)
 
 pub enter-requires : goal.enter-requires
 enter-requires c = enter_pre c.requires c.descend.ensures c.in-Atom.is

@@ -22,13 +22,13 @@ returns-else-args-eq1 c =
     difference-node _ _ (search rules) c.neg-minus.ensures
     (λ n. c.if-args-eq1.false (counted _ _ _ _ c.args-in-10.ensures.terms ∙ n)) c.requires
 
-pub returns-in-Both : goal.returns-in-Both
-returns-in-Both c = product-node _ _ _ c.binary.ensures c.in-Both.is c.product.ensures
+pub returns-in-Some : goal.returns-in-Some
+returns-in-Some c = product-node _ _ _ c.binary.ensures c.in-Some.is c.product.ensures
 
-pub returns-in-NotTwo : goal.returns-in-NotTwo
-returns-in-NotTwo c =
-    other-product-node _ _ _ c.binary.ensures (search rules) c.in-NotTwo.is
-    (read-leaf _ _ c.as_fraction.ensures c.leaf-in-NotTwo.ensures)
+pub returns-in-None : goal.returns-in-None
+returns-in-None c =
+    other-product-node _ _ _ c.binary.ensures (search rules) c.in-None.is
+    (read-leaf _ _ c.as_fraction.ensures c.leaf-in-None.ensures)
 
 pub returns-in_default : goal.returns-in_default
 returns-in_default c =

@@ -1,33 +1,30 @@
 -- The node by what both factors are read as: each test tells what is left of the readings.
+use mathlib.Core.Path.{sym, ◌∙◌}
 use Rattle.linear_walk.proofs.NodeAnswers.{first_outside, second_outside, first_number, second_number, no_number}
 use Rattle.linear_walk.proofs.nodes.product.Goals as goal
 
-pub returns-in-OutOfRange : goal.returns-in-OutOfRange
-returns-in-OutOfRange c =
-    first_outside _ _ _ _ c.as_fraction-first.ensures c.as_fraction-second.ensures c.in-OutOfRange.is
+pub returns-then-is_outside : goal.returns-then-is_outside
+returns-then-is_outside c =
+    first_outside _ _ _ _ c.as_fraction-first.ensures c.as_fraction-second.ensures
+    (sym c.is_outside.ensures ∙ c.if-is_outside.true)
 
-pub returns-in-OutOfRange-second : goal.returns-in-OutOfRange-second
-returns-in-OutOfRange-second c =
-    second_outside _ _ _ _ c.as_fraction-first.ensures c.as_fraction-second.ensures c.in-OutOfRange-second.is
+pub returns-then-is_outside-2 : goal.returns-then-is_outside-2
+returns-then-is_outside-2 c =
+    second_outside _ _ _ _ c.as_fraction-first.ensures c.as_fraction-second.ensures
+    (sym c.is_outside-2.ensures ∙ c.if-is_outside-2.true)
 
-pub factor-requires : goal.factor-requires
-factor-requires c = (c.as_fraction-first.ensures.proper _ c.in-Value.is, c.requires)
+pub returns-in-Ok : goal.returns-in-Ok
+returns-in-Ok c =
+    first_number _ _ _ _ c.as_fraction-first.ensures c.as_fraction-second.ensures c.in-Ok.is
+    (sym c.is_outside-2.ensures ∙ c.if-is_outside-2.false) c.factor.ensures
 
-pub returns-in-Value : goal.returns-in-Value
-returns-in-Value c =
-    first_number _ _ _ _ c.as_fraction-first.ensures c.as_fraction-second.ensures
-    c.in-Value.is c.in_default-second.not-OutOfRange c.factor.ensures
-
-pub returns-in_default-second-2 : goal.returns-in_default-second-2
-returns-in_default-second-2 c =
+pub returns-in_default-second : goal.returns-in_default-second
+returns-in_default-second c =
     no_number _ _ _ _ c.as_fraction-first.ensures c.as_fraction-second.ensures
-    c.in_default.not-OutOfRange c.in_default-first.not-Value
-    c.in_default-second.not-OutOfRange c.in_default-second-2.not-Value
-
-pub factor-requires-2 : goal.factor-requires-2
-factor-requires-2 c = (c.as_fraction-second.ensures.proper _ c.in-Value-second.is, c.requires)
+    (sym c.is_outside.ensures ∙ c.if-is_outside.false) c.in_default.not-Ok
+    (sym c.is_outside-2.ensures ∙ c.if-is_outside-2.false) c.in_default-second.not-Ok
 
 pub returns : goal.returns
 returns c =
     second_number _ _ _ _ c.as_fraction-first.ensures c.as_fraction-second.ensures
-    c.in_default.not-OutOfRange c.in_default-first.not-Value c.in-Value-second.is c.factor-2.ensures
+    (sym c.is_outside.ensures ∙ c.if-is_outside.false) c.in_default.not-Ok c.in-Ok-second.is c.factor-2.ensures

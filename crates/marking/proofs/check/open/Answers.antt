@@ -16,11 +16,11 @@ returns-then-limit-gt-MAX_LIMIT c =
     opens-unfit _ _ _ _
     (lent_much _ _ c.if-work-ne-WORK_BYTES.false c.if-limit-lt-MIN_LIMIT.false c.if-limit-gt-MAX_LIMIT.true)
 
-pub returns-in-RefusedAt : goal.returns-in-RefusedAt
-returns-in-RefusedAt c =
+pub returns-in-Err : goal.returns-in-Err
+returns-in-Err c =
     let size = c.if-work-ne-WORK_BYTES.false in
     opens-refused _ _ _ _ (lent-right _ _ size c.if-limit-lt-MIN_LIMIT.false c.if-limit-gt-MAX_LIMIT.false)
-    c.prepare.ensures c.in-RefusedAt.is c.book_number.ensures
+    c.prepare.ensures c.in-Err.is c.book_number.ensures
 
 pub read_run-read-requires : goal.read_run-read-requires
 read_run-read-requires c =

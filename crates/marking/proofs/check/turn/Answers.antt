@@ -2,7 +2,7 @@
 use mathlib.Core.Path.{◌≡◌, sym, ap, ◌∙◌}
 use borrow.Author.Rules.{rules}
 use Rattle.numbers.specs.Bytes.{Bytes}
-use Rattle.rules.specs.Refusal.Outcome.{ok}
+use Rattle.std.specs.Prelude.{Ok}
 use Rattle.runs.specs.Run.{read_run, steps_of}
 use Rattle.marking.specs.Check.{State}
 use Rattle.marking.specs.Memory.Lent.{Reached, Underway, state_of}
@@ -13,7 +13,7 @@ use Rattle.marking.proofs.CheckLoops.{turn-within, turn-refused, turn-accepted}
 use Rattle.marking.proofs.check.turn.Goals as goal
 
 -- s is a state of the run
-module _ {b run : Bytes} {s : by_value.State} (read : read_run b run ≡ ok (steps_of b run)) where
+module _ {b run : Bytes} {s : by_value.State} (read : read_run b run ≡ Ok (steps_of b run)) where
   shown :
       {σ : State} → Reached (steps_of b run) s.counter.limit σ → s ≡ state_of run s.counter.limit σ → Shows b run s σ
   shown reached is = record { read = read; reached = reached; is = is }

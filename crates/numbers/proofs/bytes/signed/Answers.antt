@@ -1,13 +1,13 @@
--- The upper half of the numbers of four bytes stands for the negative ones, 2 ^ 32 lower.
-use borrow.Author.Rules.{rules}
-use Rattle.numbers.proofs.TwosComplement.{signed_low, negative_four}
+-- The library's cast takes the upper half of the numbers of four bytes as the negative ones, as the definition does.
+use mathlib.Core.Path.{refl, ◌∙◌}
+use mir.Facts.{to_z-of_z}
+use mir.Syntax.{w32}
+use Rattle.numbers.proofs.Machine.{returned}
+use Rattle.numbers.proofs.TwosComplement.{cast_signed_is}
 use Rattle.numbers.proofs.bytes.signed.Goals as goal
 
-pub overflow_sub-result : goal.overflow_sub-result
-overflow_sub-result c = (negative_four c.args.v (search rules) (search rules)).fits
-
-pub returns-then-v-lt2147483648 : goal.returns-then-v-lt2147483648
-returns-then-v-lt2147483648 c = signed_low 4 _ (search rules) (search rules)
-
-pub returns-else-v-lt2147483648 : goal.returns-else-v-lt2147483648
-returns-else-v-lt2147483648 c = (negative_four c.args.v (search rules) (search rules)).is
+pub returns : goal.returns
+returns c =
+    returned c.from.type_inv ∙ c.from.ensures
+    ∙ to_z-of_z {w = w32} (record { sfits = c.cast_signed.type_inv }) ∙ c.cast_signed.ensures
+    ∙ cast_signed_is w32 4 _ refl refl

@@ -1,20 +1,12 @@
--- Where there is room both bytes are set in their places, which is the definition unrolled; elsewhere nothing is written.
-use mathlib.Core.Path.{sym}
-use lib.ListN.{length-set}
-use Rattle.numbers.proofs.LittleEndian.{roomy, put_of_two, put-outside}
+-- Where there is room the number's bytes are pasted, which is the definition; elsewhere nothing is written.
+use mathlib.Core.Path.{sym, ◌∙◌, ap}
+use lib.ListN.{take}
+use Rattle.numbers.proofs.LittleEndian.{roomy, put-outside}
+use Rattle.numbers.proofs.ByteArrays.{put_of_array}
 use Rattle.numbers.proofs.bytes.write_u16.Goals as goal
 
 pub returns-then-room : goal.returns-then-room
-returns-then-room c = put_of_two _ _ _ (search roomy)
+returns-then-room c = c.paste.ensures ∙ put_of_array 2 _ _ _ (search roomy) (ap (take 2) c.to_le_bytes.ensures)
 
 pub returns-else-room : goal.returns-else-room
 returns-else-room c = sym (put-outside _ _ _ _ (search roomy))
-
-pub bounds-s-at : goal.bounds-s-at
-bounds-s-at c = search roomy
-
-pub overflow_add-s : goal.overflow_add-s
-overflow_add-s c = search roomy
-
-pub bounds-s-at-then-room : goal.bounds-s-at-then-room
-bounds-s-at-then-room c = simp length-set (search roomy)

@@ -3,7 +3,8 @@ use mathlib.Core.Path.{sym, ◌∙◌}
 use native.Mathlib.Omega.{arith}
 use borrow.Author.Rules.{rules}
 use Rattle.poly_simp.proofs.PolynomialDifferences.{two-areas, first_few, second_few, reduced-ready, clear_ready}
-use Rattle.poly_simp.proofs.PolynomialDifferences.{differ-refused, differ-equal, differ-constant, differ-entries}
+use Rattle.poly_simp.proofs.PolynomialDifferences.{differ-refused, differ-equal, differ-unequal}
+use Rattle.poly_simp.proofs.poly_simp.differ.Goals.{else-d-eq0-via-then-d-eq0+else-is_zero, else-d-eq0-via-else-d-eq0}
 use Rattle.poly_simp.proofs.poly_simp.differ.Goals as goal
 
 pub reduced-a-requires : goal.reduced-a-requires
@@ -41,12 +42,11 @@ returns-then-is_zero c =
     differ-equal c.args.p c.args.q _ _ c.args.sort c.reduced-a.ensures c.reduced-b.ensures c.sub-difference.ensures
     c.args.visits c.in-Is.is c.clear_at.ensures (search rules) (sym c.is_zero.ensures ∙ c.if-is_zero.true)
 
-pub returns-else-is_zero : goal.returns-else-is_zero
-returns-else-is_zero c =
-    differ-constant c.args.p c.args.q _ _ c.args.sort c.reduced-a.ensures c.reduced-b.ensures c.sub-difference.ensures
-    c.args.visits c.in-Is.is c.clear_at.ensures (search rules) (sym c.is_zero.ensures ∙ c.if-is_zero.false)
-
-pub returns-else-n-eq0 : goal.returns-else-n-eq0
-returns-else-n-eq0 c =
-    differ-entries c.args.p c.args.q _ _ c.args.sort c.reduced-a.ensures c.reduced-b.ensures c.sub-difference.ensures
-    c.args.visits c.in-Is.is c.clear_at.ensures (search rules)
+pub returns-else-d-eq0 : goal.returns-else-d-eq0
+returns-else-d-eq0 c =
+    differ-unequal c.args.p c.args.q _ _ c.args.sort c.reduced-a.ensures c.reduced-b.ensures c.sub-difference.ensures
+    c.args.visits c.in-Is.is c.clear_at.ensures
+    (λ none. elim c.else-d-eq0.branch [
+      | else-d-eq0-via-then-d-eq0+else-is_zero w ↦ sym w.is_zero.ensures ∙ w.if-is_zero.false
+      | else-d-eq0-via-else-d-eq0 w ↦ absurd (w.if-d-eq0.false none)
+    ])

@@ -15,7 +15,5 @@ returns-in_default-clause-inserts_at c =
     turning_refused c.loop-k.invariant c.loop-k-test.true (search rules) c.enter_turned-answer.ensures.few
     c.enter_turned-answer.ensures.inserts_at c.in_default.is
 
-pub returns : goal.returns
-returns c =
-    let done = turning_done c.loop-k.invariant c.loop-k-test.false in
-    record { few = done.0; inserts_at = done.1 }
+pub returns-clause-inserts_at : goal.returns-clause-inserts_at
+returns-clause-inserts_at c = turning_done c.loop-k.invariant c.loop-k-test.false

@@ -1,5 +1,5 @@
 use borrow.Author.Rules.{rules}
-use Rattle.poly_simp.proofs.Moduli.{reducing_none, reducing_more, reducing_done}
+use Rattle.poly_simp.proofs.Moduli.{reducing_none, reducing_more}
 use Rattle.poly_simp.proofs.poly_simp.modulo_all.Goals as goal
 
 pub loop-k-init : goal.loop-k-init
@@ -9,6 +9,3 @@ pub loop-k-preserved : goal.loop-k-preserved
 loop-k-preserved c =
     reducing_more c.loop-k.invariant c.loop-k-test.true c.requires.1.0 c.requires.1.1 c.copy_key.ensures
     c.value_at-value.ensures.is c.modulo.ensures.is (search rules) c.put_entry.ensures
-
-pub returns : goal.returns
-returns c = reducing_done c.loop-k.invariant c.loop-k-test.false

@@ -16,4 +16,4 @@ returns-in_default-add c =
 pub returns : goal.returns
 returns c =
     sub-made c.args.p c.args.q c.insert_turned-turned.ensures.inserts_at c.clear_at.ensures c.in-Length.is
-    c.neg.ensures.is c.add.ensures c.in-Value.is
+    c.neg.ensures.is c.add.ensures c.in-Some.is

@@ -1,5 +1,5 @@
 use borrow.Author.Rules.{rules}
-use Rattle.index_map.proofs.EntryBytes.{cleared_none, cleared_more, cleared_all}
+use Rattle.index_map.proofs.EntryBytes.{cleared_none, cleared_more}
 use Rattle.polynomial.proofs.monomials.clear.Goals as goal
 
 pub loop-k-preserved : goal.loop-k-preserved
@@ -8,6 +8,3 @@ loop-k-preserved c =
 
 pub loop-k-init : goal.loop-k-init
 loop-k-init c = cleared_none
-
-pub returns : goal.returns
-returns c = cleared_all c.loop-k.invariant c.loop-k-test.false

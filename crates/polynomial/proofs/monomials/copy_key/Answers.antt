@@ -1,7 +1,12 @@
 -- The bytes between the two ends of the monomial of entry k are copied over all of the key.
-use borrow.Author.Rules.{rules}
-use Rattle.polynomial.proofs.KeyCopies.{key-copied}
+use mathlib.Core.Path.{◌≡◌}
+use Prim.Native.Nat.{◌+◌, ◌*◌, ◌-◌}
+use native.Mathlib.Omega.{arith}
+use Rattle.polynomial.specs.Memory.PolynomialArea.{key_at}
 use Rattle.polynomial.proofs.monomials.copy_key.Goals as goal
 
 pub returns : goal.returns
-returns c = key-copied _ _ (search rules) (search rules) _ (search rules) c.paste.ensures
+unfolding key_at
+returns c =
+    let width : 25 * c.args.k + 17 - 25 * c.args.k ≡ 17 = omega arith in
+    rw width at c.copy_from_slice.ensures.after

@@ -4,7 +4,7 @@ use Prim.Native.Nat.{ℕ, ◌+◌, ◌*◌, ◌-◌}
 use native.Mathlib.Omega.{arith}
 use lib.ListN.{take, drop}
 use Rattle.numbers.specs.Bytes.{Bytes, same_bytes}
-use Rattle.index_map.proofs.EntrySearch.{Searched, search_none, search_end, search_found, search_more}
+use Rattle.index_map.proofs.EntrySearch.{Searched, search_end, search_found, search_more}
 use Rattle.index_map.proofs.KeySearch.{keys}
 use Rattle.polynomial.specs.Memory.PolynomialArea.{polynomials}
 use Rattle.polynomial.proofs.monomials.find.Goals as goal
@@ -24,9 +24,6 @@ pub loop-k-preserved : goal.loop-k-preserved
 loop-k-preserved c =
     let s = c.loop-k.invariant in
     search_more _ _ _ s c.loop-k-test.true (has_key _ s c.same_bytes.ensures) c.if-same_bytes.false
-
-pub loop-k-init : goal.loop-k-init
-loop-k-init c = search_none _ _ _
 
 pub returns : goal.returns
 returns c = search_end _ _ _ c.loop-k.invariant c.loop-k-test.false

@@ -1,5 +1,4 @@
--- The loop's invariant is `Searched` of EntrySearch; the measure is how many entries are left.
-use Prim.Native.Nat.{◌-◌}
+-- The loop's invariant is `Searched` of EntrySearch.
 use Rattle.index_map.proofs.EntrySearch.{Searched}
 use Rattle.index_map.proofs.KeySearch.{keys}
 use Rattle.polynomial.specs.Memory.PolynomialArea.{polynomials}
@@ -7,6 +6,3 @@ use Rattle.polynomial.proofs.monomials.find.Given as goal
 
 abbrev pub invariant-loop-k : goal.invariant-loop-k
 invariant-loop-k l = Searched (keys polynomials l.key) l.entries l.n l.k
-
-abbrev pub decreases-loop-k : goal.decreases-loop-k
-decreases-loop-k l = l.n - l.k

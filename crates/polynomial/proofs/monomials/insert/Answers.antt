@@ -26,11 +26,11 @@ returns-in_default-clause-inserts c =
 pub returns-then-is_zero-2-clause-inserts : goal.returns-then-is_zero-2-clause-inserts
 returns-then-is_zero-2-clause-inserts c =
     entry-removed _ _ _ _ (sym c.is_zero.ensures ∙ c.if-is_zero.false) _ c.find-k.ensures c.if-n-k.false
-    c.value_at.ensures c.add.ensures _ c.in-Value.is (sym c.is_zero-2.ensures ∙ c.if-is_zero-2.true) _
+    c.value_at.ensures c.add.ensures _ c.in-Some.is (sym c.is_zero-2.ensures ∙ c.if-is_zero-2.true) _
     c.swap_remove.ensures
 
 pub returns-clause-inserts : goal.returns-clause-inserts
 returns-clause-inserts c =
     sum-entered _ _ _ _ (sym c.is_zero.ensures ∙ c.if-is_zero.false) _ c.find-k.ensures c.if-n-k.false
-    c.value_at.ensures c.add.ensures _ c.in-Value.is (sym c.is_zero-2.ensures ∙ c.if-is_zero-2.false) _
+    c.value_at.ensures c.add.ensures _ c.in-Some.is (sym c.is_zero-2.ensures ∙ c.if-is_zero-2.false) _
     c.put_entry-2.ensures

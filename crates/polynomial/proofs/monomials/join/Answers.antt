@@ -2,11 +2,8 @@ use mathlib.Core.Path.{◌∙◌}
 use native.Mathlib.Omega.{arith}
 use borrow.Author.Rules.{rules}
 use Rattle.numbers.proofs.LittleEndian.{le_below}
-use Rattle.polynomial.proofs.PlacedAtoms.{join_none, join_more, join-end}
+use Rattle.polynomial.proofs.PlacedAtoms.{join_more, join-end}
 use Rattle.polynomial.proofs.monomials.join.Goals as goal
-
-pub loop-k-init : goal.loop-k-init
-loop-k-init c = join_none
 
 pub put_atom-requires : goal.put_atom-requires
 put_atom-requires c =

@@ -1,5 +1,3 @@
-use lib.Seq.{get_or-set_same}
-use borrow.Author.Rules.{rules}
 use Rattle.polynomial.proofs.AtomPlaces.{key-count}
 use Rattle.polynomial.proofs.PlacedAtoms.{shifted_none, shifted-more, shifted-done}
 use Rattle.polynomial.proofs.monomials.put_atom.Goals as goal
@@ -9,13 +7,9 @@ loop-k-init c = shifted_none c.place_of-at.ensures.upper_bound
 
 pub loop-k-preserved : goal.loop-k-preserved
 loop-k-preserved c =
-    shifted-more c.loop-k.invariant c.loop-k-test.true c.read_u16-moved.ensures c.write_u16.ensures
-
-pub returns-clause-key_after : goal.returns-clause-key_after
-returns-clause-key_after c = get_or-set_same _ 0 _ 0 (search rules)
+    shifted-more c.loop-k.invariant c.loop-k.auto.k c.loop-k-test.true c.read_u16-moved.ensures c.write_u16.ensures
 
 pub returns-clause-key : goal.returns-clause-key
-returns-clause-key c =
-    λ b m t h room a number.
-    shifted-done c.loop-k.invariant c.loop-k-test.false c.write_u16-2.ensures b m t h room a number
+returns-clause-key c b m t h room a number =
+    shifted-done c.loop-k.invariant c.loop-k.auto.k c.loop-k-test.false c.write_u16-2.ensures b m t h room a number
     (c.place_of-at.ensures.value b m h (key-count h))

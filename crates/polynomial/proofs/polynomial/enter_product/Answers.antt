@@ -3,7 +3,6 @@
 use mathlib.Core.Path.{refl, sym, ap, ◌∙◌}
 use native.Mathlib.Omega.{arith}
 use lib.ListN.{length}
-use Rattle.polynomial.proofs.KeyCopies.{copied-over}
 use Rattle.polynomial.proofs.ProductEntries.{part_length}
 use Rattle.polynomial.proofs.EntryAnswers.{read_at, product_too_long, product-outside, product-entered}
 use Rattle.polynomial.proofs.polynomial.enter_product.Goals as goal
@@ -29,5 +28,5 @@ pub returns-clause-inserts_at : goal.returns-clause-inserts_at
 returns-clause-inserts_at c =
     let read =
     read_at _ _ _ c.area_at.ensures c.copy_key.ensures c.area_at-2.ensures c.value_at-d.ensures in
-    product-entered read _ _ c.if-x-other-gt-MAX_ATOMS.false (sym c.mul.ensures.is ∙ c.in-Value.is)
-    (copied-over _ c.args.x.now (sym c.requires.1.0) c.paste.ensures) c.join.ensures c.insert_at.ensures.inserts_at
+    product-entered read _ _ c.if-x-other-gt-MAX_ATOMS.false (sym c.mul.ensures.is ∙ c.in-Some.is)
+    c.copy_from_slice.ensures.after c.join.ensures c.insert_at.ensures.inserts_at

@@ -19,4 +19,4 @@ pub returns-clause-inserts_at : goal.returns-clause-inserts_at
 returns-clause-inserts_at c =
     let read =
     read_at _ _ _ c.area_at.ensures c.copy_key.ensures c.area_at-2.ensures c.value_at-c.ensures in
-    enter-scaled-value read _ (sym c.mul.ensures.is ∙ c.in-Value.is) c.insert_at.ensures.inserts_at
+    enter-scaled-value read _ (sym c.mul.ensures.is ∙ c.in-Some.is) c.insert_at.ensures.inserts_at

@@ -15,8 +15,5 @@ returns-in_default-clause-inserts_at c =
     scaling_refused c.loop-k.invariant c.loop-k-test.true _ (search rules) _ c.enter_scaled-answer.ensures.few
     c.enter_scaled-answer.ensures.inserts_at _ c.in_default.is
 
-pub returns-clause-few : goal.returns-clause-few
-returns-clause-few c = c.loop-k.invariant.few
-
 pub returns-clause-inserts_at : goal.returns-clause-inserts_at
 returns-clause-inserts_at c = scaling_done c.loop-k.invariant c.loop-k-test.false

@@ -1,12 +1,9 @@
-use Rattle.numbers.proofs.CopiedBytes.{copied_none, copied_all}
-use Rattle.polynomial.proofs.MovedAreas.{move_more, moved}
+-- Area 2 is copied over area 0, so what it holds stands there too.
+use native.Mathlib.Omega.{arith}
+use Rattle.polynomial.specs.Memory.PolynomialArea.{part_at}
+use Rattle.polynomial.proofs.StackAreas.{stack-part, stack-put}
 use Rattle.polynomial.proofs.polynomial.move_down.Goals as goal
 
-pub loop-i-preserved : goal.loop-i-preserved
-loop-i-preserved c = move_more c.requires c.loop-i.invariant c.loop-i-test.true
-
 pub returns : goal.returns
-returns c b p q s t = moved (copied_all c.loop-i.invariant c.loop-i-test.false) t
-
-pub loop-i-init : goal.loop-i-init
-loop-i-init c = copied_none
+unfolding part_at
+returns c b p q s t = rw c.copy_within.ensures.after (stack-put t 0 (omega arith) (stack-part t 2 (omega arith)))

@@ -24,5 +24,5 @@ returns-in_default-mul c =
 pub returns : goal.returns
 returns c =
     product-made c.requires.0 c.mul_left-left.ensures.inserts_at c.in-Length.is
-    c.insert_scaled-scaled.ensures.inserts_at c.in-Length-scaled.is (sym c.mul.ensures.is ∙ c.in-Value.is)
-    (c.mul.ensures.proper _ c.in-Value.is) c.move_down.ensures c.clear_at-2.ensures c.clear_at-3.ensures
+    c.insert_scaled-scaled.ensures.inserts_at c.in-Length-scaled.is (sym c.mul.ensures.is ∙ c.in-Some.is)
+    (c.mul.ensures.proper _ c.in-Some.is) c.move_down.ensures c.clear_at-2.ensures c.clear_at-3.ensures

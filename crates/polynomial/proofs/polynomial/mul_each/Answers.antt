@@ -15,8 +15,5 @@ returns-in_default-clause-inserts_at c =
     each-refused c.loop-k.invariant c.loop-k-test.true _ (search rules) _ c.enter_product-answer.ensures.few
     c.enter_product-answer.ensures.inserts_at _ c.in_default.is
 
-pub returns-clause-few : goal.returns-clause-few
-returns-clause-few c = c.loop-k.invariant.few
-
 pub returns-clause-inserts_at : goal.returns-clause-inserts_at
 returns-clause-inserts_at c = each-done c.loop-k.invariant c.loop-k-test.false

@@ -29,4 +29,4 @@ returns-clause-inserts_at c =
     let read =
     read_at _ _ _ c.area_at.ensures c.copy_key.ensures c.area_at-2.ensures c.value_at-c.ensures in
     entry-entered read _ c.mul_each-answer.ensures.inserts_at c.in-Length.is
-    (sym c.mul.ensures.is ∙ c.in-Value.is) c.insert_at.ensures.inserts_at
+    (sym c.mul.ensures.is ∙ c.in-Some.is) c.insert_at.ensures.inserts_at

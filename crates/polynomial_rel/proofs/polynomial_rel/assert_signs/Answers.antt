@@ -1,13 +1,9 @@
 -- The relation is looked at first.
-use borrow.Author.Rules.{rules}
-use Rattle.polynomial_rel.proofs.ScaledSides.{equal-relation, same_relation, other-relation}
+use Rattle.polynomial_rel.proofs.ScaledSides.{signs-agree, signs-differ}
 use Rattle.polynomial_rel.proofs.polynomial_rel.assert_signs.Goals as goal
 
-pub returns-then-o-eq-EQUALS : goal.returns-then-o-eq-EQUALS
-returns-then-o-eq-EQUALS c = equal-relation c.args.o c.args.same (search rules)
-
 pub returns-then-same : goal.returns-then-same
-returns-then-same c = same_relation c.args.o c.args.same (search rules) c.if-same.true
+returns-then-same c = signs-agree c.args.o c.args.same c.if-same.either
 
-pub returns : goal.returns
-returns c = other-relation c.args.o c.args.same (search rules) c.if-same.false
+pub returns-else-same : goal.returns-else-same
+returns-else-same c = signs-differ c.args.o c.args.same c.if-same.false

@@ -12,11 +12,11 @@ returns-in_default c =
 
 pub returns-in_default-only_literal : goal.returns-in_default-only_literal
 returns-in_default-only_literal c =
-    other-premise _ _ _ _ _ (search rules) c.only_literal.ensures c.in-Of.is
+    other-premise _ _ _ _ _ (search rules) c.only_literal.ensures c.in-Some.is
     c.only_literal-2.ensures c.in_default-only_literal.is
 
 pub returns : goal.returns
 returns c =
-    judged_by _ _ _ _ _ (search rules) c.only_literal.ensures c.in-Of.is
-    c.only_literal-2.ensures c.in-Of-only_literal.is c.scaled_case.ensures
+    judged_by _ _ _ _ _ (search rules) c.only_literal.ensures c.in-Some.is
+    c.only_literal-2.ensures c.in-Some-only_literal.is c.scaled_case.ensures
     c.verdict_after.ensures

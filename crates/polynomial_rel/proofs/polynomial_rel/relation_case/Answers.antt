@@ -9,13 +9,13 @@ returns-in_default c = no_equation _ _ _ _ c.binary.ensures c.in_default.is
 pub returns-in_default-first : goal.returns-in_default-first
 returns-in_default-first c =
     no_first_operation _ _ _ _ c.binary.ensures
-    c.in-Both.is
+    c.in-Some.is
     c.as_op_err-first.ensures c.in_default-first.is c.operator_refusal.ensures
 
 pub returns-in_default-second : goal.returns-in_default-second
 returns-in_default-second c =
     no_second_operation _ _ _ _ c.binary.ensures
-    c.in-Both.is
+    c.in-Some.is
     c.as_op_err-first.ensures c.in-Is.is c.as_op_err-second.ensures
     c.in_default-second.is c.operator_refusal-in_default-second.ensures
 
@@ -27,6 +27,6 @@ sides_case-requires c =
 pub returns : goal.returns
 returns c =
     both_operations _ _ _ _ c.binary.ensures
-    c.in-Both.is
+    c.in-Some.is
     c.as_op_err-first.ensures c.in-Is.is c.as_op_err-second.ensures
     c.in-Is-second.is c.sides_case.ensures

@@ -23,11 +23,11 @@ add_constant-requires c = (
   search rules,
   (
     few-entries c.insert_scaled-answer.ensures.few c.in-Length.is,
-    (c.requires.1.1.0.0, c.mul.ensures.proper _ c.in-Value.is),
+    (c.requires.1.1.0.0, c.mul.ensures.proper _ c.in-Some.is),
   ),
 )
 
 pub returns : goal.returns
 returns c b m n stack has has_p l =
     scaled-added stack has has_p _ l _ c.insert_scaled-answer.ensures.inserts_at c.clear_at.ensures
-    c.in-Length.is c.mul.ensures c.in-Value.is c.add_constant.ensures
+    c.in-Length.is c.mul.ensures c.in-Some.is c.add_constant.ensures

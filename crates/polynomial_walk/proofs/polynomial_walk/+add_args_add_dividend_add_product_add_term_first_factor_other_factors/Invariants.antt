@@ -2,9 +2,8 @@
 -- the record's number, then what is left of its factors: each argument, each factor and each dividend is an earlier
 -- record. The arguments of record i count as 4 i spans, and so do its factors behind the first, with the bytes that are
 -- left of them; all its factors count as 4 i + 1 spans, its product as 4 i + 2, its term as 4 i + 3, and in the place of
--- a quotient as 4 i + 4. The loop's invariant is `Walking` of PolynomialArgWalks, its measure how many arguments are
--- left.
-use Rattle.std.proofs.Common.{ℕ, ◌+◌, ◌*◌, ◌-◌, length}
+-- a quotient as 4 i + 4. The loop's invariant is `Walking` of PolynomialArgWalks.
+use Rattle.std.proofs.Common.{ℕ, ◌+◌, ◌*◌, length}
 use Rattle.polynomial_walk.proofs.PolynomialArgWalks.{Walking}
 use Rattle.polynomial_walk.proofs.polynomial_walk.+add_args_add_dividend_add_product_add_term_first_factor_other_factors.Given as goal
 
@@ -34,6 +33,3 @@ abbrev pub invariant-add_args-loop-k : goal.invariant-add_args-loop-k
 invariant-add_args-loop-k l =
     Walking l.book l.fn.stack l.args l.id l.limit l.depth l.fn.first l.others l.fn.s l.visits
     l.stack l.sum l.seen l.coeff l.k
-
-abbrev pub decreases-add_args-loop-k : goal.decreases-add_args-loop-k
-decreases-add_args-loop-k l = l.n - l.k

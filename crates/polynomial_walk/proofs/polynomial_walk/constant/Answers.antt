@@ -6,4 +6,4 @@ pub returns-in_default : goal.returns-in_default
 returns-in_default c = scaled-outside _ _ c.mul.ensures c.in_default.is
 
 pub returns : goal.returns
-returns c = scaled _ _ c.mul.ensures c.in-Value.is
+returns c = scaled _ _ c.mul.ensures c.in-Some.is

@@ -9,12 +9,6 @@ use Rattle.process_disequality.proofs.LiteralSums.{proper-argument, unargued-lef
 use Rattle.process_disequality.proofs.LiteralSums.{sum_left}
 use Rattle.process_disequality.proofs.process_disequality.accumulate.Goals as goal
 
-pub argument_of-argued-requires : goal.argument_of-argued-requires
-argument_of-argued-requires c =
-    let pre = c.requires in
-    let kept = pre.1.0.1.1 in
-    (pre.0, ((pre.1.0.0, (kept.0.kept, kept.1.kept)), pre.1.1))
-
 pub refuse-requires : goal.refuse-requires
 refuse-requires c =
     let kept = c.requires.1.0.1.1 in

@@ -38,6 +38,6 @@ returns c b p q l =
     let own = alone c.if-m-ne1.false c.area.ensures c.key_at-var.ensures.0 c.area-2.ensures c.value_at-own.ensures in (
       quotient_in own b l _ (sym c.is_zero.ensures ∙ c.if-is_zero.false)
           (found _ _ c.get.ensures c.area-3.ensures c.in-Of.is b p).0
-          c.neg.ensures.is c.div.ensures.is c.in-Value.is,
-      c.div.ensures.proper _ c.in-Value.is,
+          c.neg.ensures.is c.div.ensures.is c.in-Some.is,
+      c.div.ensures.proper _ c.in-Some.is,
     )

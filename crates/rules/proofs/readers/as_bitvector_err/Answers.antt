@@ -6,4 +6,4 @@ pub returns-in_default : goal.returns-in_default
 returns-in_default c = no_bits _ c.as_bitvector.ensures c.in_default.is
 
 pub returns : goal.returns
-returns c = bits-found _ c.as_bitvector.ensures c.in-Bits.is
+returns c = bits-found _ c.as_bitvector.ensures c.in-Some.is

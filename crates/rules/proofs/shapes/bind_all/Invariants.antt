@@ -1,11 +1,6 @@
--- The counts are compared first. The loop's invariant is `Binding` of FormSteps, its measure how many parts are left.
-use Prim.Native.Nat.{◌-◌}
-use lib.ListN.{length}
+-- The counts are compared first. The loop's invariant is `Binding` of FormSteps: j of the parts have their names.
 use Rattle.rules.proofs.FormSteps.{Binding}
 use Rattle.rules.proofs.shapes.bind_all.Given as goal
 
 abbrev pub invariant-loop-j : goal.invariant-loop-j
 invariant-loop-j l = Binding l.initial.names l.n l.args l.id l.parts l.names l.m l.j
-
-abbrev pub decreases-loop-j : goal.decreases-loop-j
-decreases-loop-j l = length l.parts - l.j

@@ -8,10 +8,10 @@ returns-in_default c = literal-missing _ _ _ _ c.only_literal.ensures c.in_defau
 
 pub returns-then-matches-eq0 : goal.returns-then-matches-eq0
 returns-then-matches-eq0 c =
-    form-missing _ _ _ _ c.only_literal.ensures c.in-Of.is
+    form-missing _ _ _ _ c.only_literal.ensures c.in-Some.is
     c.matches.result c.matches.new.names (c.matches.ensures _) (search rules)
 
 pub returns : goal.returns
 returns c =
-    form-there _ _ _ _ c.only_literal.ensures c.in-Of.is
+    form-there _ _ _ _ c.only_literal.ensures c.in-Some.is
     c.matches.result c.matches.new.names (c.matches.ensures _) (search rules)

@@ -1,11 +1,8 @@
--- The loop's invariant is `Solving` of FormSteps, its measure how many bytes are left.
-use Prim.Native.Nat.{◌-◌}
-use lib.ListN.{length}
+-- The loop's invariant is `Solving` of FormSteps, over the equations that the iterator has left.
+use mathlib.Core.Path.{◌≡◌}
 use Rattle.rules.proofs.FormSteps.{Solving}
 use Rattle.rules.proofs.shapes.matches.Given as goal
 
-abbrev pub invariant-loop-at : goal.invariant-loop-at
-invariant-loop-at l = Solving l.book l.initial.names l.form l.names l.n l.at
-
-abbrev pub decreases-loop-at : goal.decreases-loop-at
-decreases-loop-at l = length l.form - l.at
+abbrev pub invariant-loop-e : goal.invariant-loop-e
+invariant-loop-e l =
+    (l.e-iterator.size ≡ 6) × Solving l.book l.initial.names l.form l.names l.n l.e-iterator.rest.now

@@ -7,4 +7,4 @@ returns-in_default c = not-negated _ _ _ c.remove_negation.ensures c.in_default.
 
 pub returns : goal.returns
 returns c =
-    below-negation _ _ _ c.remove_negation.ensures c.in-Of.is c.binary.ensures
+    below-negation _ _ _ c.remove_negation.ensures c.in-Some.is c.binary.ensures

@@ -3,14 +3,14 @@ use native.Mathlib.Omega.{arith}
 use Rattle.runs.proofs.StepAreas.{leading-inside, after-found}
 use Rattle.runs.proofs.run.after.Goals as goal
 
-pub overflow_mul-start : goal.overflow_mul-start
-overflow_mul-start c = omega (arith, leading-inside _ _ _ c.leading_count-start.ensures)
+pub overflow_mul-result : goal.overflow_mul-result
+overflow_mul-result c = omega (arith, leading-inside _ _ _ c.leading_count.ensures)
 
 pub slice_bounds-result-count : goal.slice_bounds-result-count
-slice_bounds-result-count c = leading-inside _ _ _ c.leading_count-start.ensures
+slice_bounds-result-count c = leading-inside _ _ _ c.leading_count.ensures
 
 pub slice_bounds-result-start : goal.slice_bounds-result-start
-slice_bounds-result-start c = leading-inside _ _ _ c.leading_count-start.ensures
+slice_bounds-result-start c = leading-inside _ _ _ c.leading_count.ensures
 
 pub returns : goal.returns
-returns c = after-found _ _ _ c.leading_count-start.ensures
+returns c = after-found _ _ _ c.leading_count.ensures

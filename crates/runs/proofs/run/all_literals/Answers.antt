@@ -1,23 +1,18 @@
-use mathlib.Core.Path.{sym, ◌∙◌}
-use borrow.Author.Rules.{rules}
-use Rattle.runs.proofs.StepReading.{right-begin, right_on, right_end, byte-wrong, number-wrong}
+-- The records of the part are tested one after the other.
+use mathlib.Core.Path.{◌∙◌}
+use Rattle.std.proofs.Common.{rules, tests}
+use Rattle.rules.proofs.Chunks.{all_chunks}
+use Rattle.runs.specs.Run.{recs}
+use Rattle.runs.specs.Memory.StepParts.{head_in}
+use Rattle.runs.proofs.RowRecords.{is_literal}
+use Rattle.runs.proofs.RunRecords.{less_recs, more_recs}
+use Rattle.runs.proofs.StepReading.{is_right, all_right_all}
 use Rattle.runs.proofs.run.all_literals.Goals as goal
 
-pub returns-then-part-at-ne0 : goal.returns-then-part-at-ne0
-returns-then-part-at-ne0 c = byte-wrong c.loop-k.invariant (search rules) c.if-part-at-ne0.true
-
-pub returns-else-is_literal : goal.returns-else-is_literal
-returns-else-is_literal c =
-    number-wrong c.loop-k.invariant (search rules) c.if-part-at-ne0.false c.read_u16.ensures
-    (sym (c.is_literal.ensures c.args.book.now (search rules) (search rules)) ∙ c.if-is_literal.false)
-
-pub loop-k-preserved : goal.loop-k-preserved
-loop-k-preserved c =
-    right_on c.loop-k.invariant (search rules) c.if-part-at-ne0.false c.read_u16.ensures
-    (sym (c.is_literal.ensures c.args.book.now (search rules) (search rules)) ∙ c.if-is_literal.true)
-
-pub loop-k-init : goal.loop-k-init
-loop-k-init c = right-begin _ _
-
 pub returns : goal.returns
-returns c = right_end c.loop-k.invariant (search rules)
+unfolding head_in
+returns c =
+    let a = c.args in
+    all_chunks 4 head_in recs less_recs more_recs a.part.now (search rules) (search rules)
+    (is_right (is_literal a.book.now)) c.all.ensures.ran (λ x b q k. search (rules, tests))
+    ∙ all_right_all _ _

@@ -1,23 +1,18 @@
-use borrow.Author.Rules.{rules}
-use borrow.Author.Tests.{lt-ltb, le-ltb}
-use Rattle.runs.proofs.StepReading.{right-begin, right_on, right_end, byte-wrong, number-wrong}
+-- The records of the part are tested one after the other.
+use mathlib.Core.Path.{◌∙◌}
+use lib.Dec.{ltb}
+use Rattle.std.proofs.Common.{rules, tests}
+use Rattle.rules.proofs.Chunks.{all_chunks}
+use Rattle.runs.specs.Run.{recs}
+use Rattle.runs.specs.Memory.StepParts.{head_in}
+use Rattle.runs.proofs.RunRecords.{less_recs, more_recs}
+use Rattle.runs.proofs.StepReading.{is_right, all_right_all}
 use Rattle.runs.proofs.run.all_right.Goals as goal
 
-pub returns-then-part-at-ne0 : goal.returns-then-part-at-ne0
-returns-then-part-at-ne0 c = byte-wrong c.loop-k.invariant (search rules) c.if-part-at-ne0.true
-
-pub returns-then-n-read_u16 : goal.returns-then-n-read_u16
-returns-then-n-read_u16 c =
-    number-wrong c.loop-k.invariant (search rules) c.if-part-at-ne0.false c.read_u16.ensures
-    (le-ltb _ _ c.if-n-read_u16.true)
-
-pub loop-k-preserved : goal.loop-k-preserved
-loop-k-preserved c =
-    right_on c.loop-k.invariant (search rules) c.if-part-at-ne0.false c.read_u16.ensures
-    (lt-ltb _ _ c.if-n-read_u16.false)
-
-pub loop-k-init : goal.loop-k-init
-loop-k-init c = right-begin _ _
-
 pub returns : goal.returns
-returns c = right_end c.loop-k.invariant (search rules)
+unfolding head_in
+returns c =
+    let a = c.args in
+    all_chunks 4 head_in recs less_recs more_recs a.part.now (search rules) (search rules)
+    (is_right (λ k. ltb k a.n)) c.all.ensures.ran (λ x b q k. search (rules, tests))
+    ∙ all_right_all _ _

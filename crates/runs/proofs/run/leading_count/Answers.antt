@@ -1,15 +1,19 @@
-use borrow.Author.Rules.{rules}
-use Rattle.runs.proofs.StepAreas.{counted-begin, counted-again, counted_stop, counted-end}
+-- The records that are counted are those in front with the mark.
+use mathlib.Core.Path.{◌∙◌}
+use lib.Dec.{eqb}
+use Rattle.std.proofs.Common.{rules, tests}
+use Rattle.rules.proofs.Chunks.{count_chunks}
+use Rattle.runs.specs.Run.{recs}
+use Rattle.runs.specs.Memory.StepParts.{head_in}
+use Rattle.runs.proofs.RunRecords.{less_recs, more_recs}
+use Rattle.runs.proofs.StepAreas.{leading-prefix}
 use Rattle.runs.proofs.run.leading_count.Goals as goal
 
-pub returns-then-part-k : goal.returns-then-part-k
-returns-then-part-k c = counted_stop _ _ _ c.loop-k.invariant (search rules) (search rules)
-
-pub loop-k-preserved : goal.loop-k-preserved
-loop-k-preserved c = counted-again _ _ _ c.loop-k.invariant (search rules) (search rules)
-
 pub returns : goal.returns
-returns c = counted-end _ _ _ c.loop-k.invariant (search rules)
-
-pub loop-k-init : goal.loop-k-init
-loop-k-init c = counted-begin _ _
+unfolding head_in
+returns c =
+    let a = c.args in
+    let w = c.take_while.ensures in
+    count_chunks 4 head_in recs less_recs more_recs a.part.now (search rules) (search rules) (λ r. eqb r.mark a.mark)
+    w.source w.closure w.done c.count.ensures.ran (λ x b q k. search (rules, tests))
+    ∙ leading-prefix a.part.now a.mark (recs a.part.now)

@@ -15,5 +15,5 @@ part b i h = let size : 32 * i + 32 - 32 * i ≡ 32 = omega arith in rw size (sy
 pub returns-then-id-count : goal.returns-then-id-count
 returns-then-id-count c = part _ _ (search rules)
 
-pub returns : goal.returns
-returns c = sym (record_of-outside _ _ (search rules))
+pub returns-else-id-count : goal.returns-else-id-count
+returns-else-id-count c = sym (record_of-outside _ _ (search rules))

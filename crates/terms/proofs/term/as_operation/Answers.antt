@@ -3,14 +3,14 @@ use Rattle.terms.specs.Readers.{ranged, as_unsigned_fraction, as_fraction}
 use Rattle.terms.proofs.Findings.{signed-inside, signed-itself}
 use Rattle.terms.proofs.term.as_operation.Goals as goal
 
-pub returns-in-Of : goal.returns-in-Of
+pub returns-in-Some : goal.returns-in-Some
 unfolding as_fraction
-returns-in-Of c =
-    signed-inside (as_unsigned_fraction ranged) c.unary.ensures c.in-Of.is c.as_unsigned_fraction.ensures
+returns-in-Some c =
+    signed-inside (as_unsigned_fraction ranged) c.unary.ensures c.in-Some.is c.as_unsigned_fraction.ensures
     c.negated.ensures
 
-pub returns-in-NotOne : goal.returns-in-NotOne
+pub returns-in-None : goal.returns-in-None
 unfolding as_fraction
-returns-in-NotOne c =
-    signed-itself (as_unsigned_fraction ranged) c.unary.ensures c.in-NotOne.is
-    c.as_unsigned_fraction-in-NotOne.ensures
+returns-in-None c =
+    signed-itself (as_unsigned_fraction ranged) c.unary.ensures c.in-None.is
+    c.as_unsigned_fraction-in-None.ensures

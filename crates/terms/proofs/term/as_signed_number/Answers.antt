@@ -3,14 +3,14 @@ use Rattle.terms.specs.Readers.{as_number, as_signed_number}
 use Rattle.terms.proofs.Findings.{signed-inside, signed-itself}
 use Rattle.terms.proofs.term.as_signed_number.Goals as goal
 
-pub returns-in-Of : goal.returns-in-Of
+pub returns-in-Some : goal.returns-in-Some
 unfolding as_signed_number
-returns-in-Of c =
-    signed-inside as_number c.unary.ensures c.in-Of.is c.as_number.ensures
+returns-in-Some c =
+    signed-inside as_number c.unary.ensures c.in-Some.is c.as_number.ensures
     c.negated.ensures
 
-pub returns-in-NotOne : goal.returns-in-NotOne
+pub returns-in-None : goal.returns-in-None
 unfolding as_signed_number
-returns-in-NotOne c =
-    signed-itself as_number c.unary.ensures c.in-NotOne.is
-    c.as_number-in-NotOne.ensures
+returns-in-None c =
+    signed-itself as_number c.unary.ensures c.in-None.is
+    c.as_number-in-None.ensures

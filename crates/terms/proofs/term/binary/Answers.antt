@@ -2,6 +2,7 @@
 use borrow.Author.Rules.{rules}
 use Rattle.terms.proofs.Children.{children-found, other_than_children, no_operation-children}
 use Rattle.terms.proofs.term.binary.Goals as goal
+use Rattle.terms.proofs.term.binary.Goals.{else-byte-eq-OPERATION-via-then-byte-eq-OPERATION+else-byte-o, else-byte-eq-OPERATION-via-else-byte-eq-OPERATION}
 
 pub returns-then-args-eq2 : goal.returns-then-args-eq2
 returns-then-args-eq2 c =
@@ -13,9 +14,10 @@ returns-else-args-eq2 c =
     other_than_children _ _ _ c.record-r.ensures (search rules) (search rules)
     c.arg_bytes-args.ensures (search rules)
 
-pub returns-else-byte-o : goal.returns-else-byte-o
-returns-else-byte-o c =
-    no_operation-children _ _ _ c.record-r.ensures (λ k o. search rules)
-
 pub returns-else-byte-eq-OPERATION : goal.returns-else-byte-eq-OPERATION
-returns-else-byte-eq-OPERATION c = no_operation-children _ _ _ c.record-r.ensures (λ k o. search rules)
+returns-else-byte-eq-OPERATION c =
+    no_operation-children _ _ _ c.record-r.ensures
+    (λ k o. elim c.else-byte-eq-OPERATION.branch [
+      | else-byte-eq-OPERATION-via-then-byte-eq-OPERATION+else-byte-o w ↦ search rules
+      | else-byte-eq-OPERATION-via-else-byte-eq-OPERATION w ↦ search rules
+    ])

@@ -47,7 +47,7 @@ returns-then-is_number c =
     constant-found _ (field_back c.args.r.now 4 (search rules) c.signed_u64-n.ensures c.read_u64.ensures)
     (denominator_read c.before.before.before) (sym c.is_number.ensures ∙ c.if-is_number.true)
 
-pub returns : goal.returns
-returns c =
+pub returns-else-is_number : goal.returns-else-is_number
+returns-else-is_number c =
     no_constant _ (field_back c.args.r.now 4 (search rules) c.signed_u64-n.ensures c.read_u64.ensures)
     (denominator_read c.before.before.before) (sym c.is_number.ensures ∙ c.if-is_number.false)

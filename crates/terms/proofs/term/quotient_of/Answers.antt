@@ -2,9 +2,9 @@
 use Rattle.terms.proofs.Children.{whole-quotient, real-quotient}
 use Rattle.terms.proofs.term.quotient_of.Goals as goal
 
-pub returns-in-Both : goal.returns-in-Both
-returns-in-Both c = whole-quotient c.binary.ensures c.in-Both.is
+pub returns-in_default : goal.returns-in_default
+returns-in_default c = whole-quotient c.binary.ensures c.in_default.not-None
 
-pub returns-in-NotTwo : goal.returns-in-NotTwo
-returns-in-NotTwo c =
-    real-quotient c.binary.ensures c.in-NotTwo.is c.binary-in-NotTwo.ensures
+pub returns-in-None : goal.returns-in-None
+returns-in-None c =
+    real-quotient c.binary.ensures c.in-None.is c.binary-in-None.ensures

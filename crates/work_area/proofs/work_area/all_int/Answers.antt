@@ -1,26 +1,15 @@
-use Rattle.work_area.proofs.IntAtoms.{all_int_none, all_int-more, all_int-not, all_int-done}
+-- The closure's test at place k is `int_at` of IntAtoms.
+use borrow.Author.Rules.{rules}
+use borrow.Author.Tests.{tests}
+use native.Mathlib.Omega.{arith}
+use mathlib.Core.Path.{refl, ◌∙◌}
+use Rattle.std.proofs.lemmas.Iterator.{YieldsList-from_range}
+use Rattle.std.proofs.lemmas.Iterator.Search.{all_from_yields_List}
+use Rattle.work_area.proofs.IntAtoms.{int_at, int_all}
 use Rattle.work_area.proofs.work_area.all_int.Goals as goal
 
-pub returns-then-byte-ne-INT_SORT : goal.returns-then-byte-ne-INT_SORT
-returns-then-byte-ne-INT_SORT c =
-    all_int-not _ _ _ _ c.loop-k.invariant c.loop-k-test.true
-    _ c.area-entries.ensures _ c.key_at-key.ensures.0
-    _ c.byte.ensures c.if-byte-ne-INT_SORT.true
-
-pub loop-k-preserved : goal.loop-k-preserved
-loop-k-preserved c =
-    all_int-more _ _ _ _ c.loop-k.invariant c.loop-k-test.true
-    _ c.area-entries.ensures _ c.key_at-key.ensures.0
-    _ c.byte.ensures c.if-byte-ne-INT_SORT.false
-
-pub area-entries-requires : goal.area-entries-requires
-area-entries-requires c = c.requires.0
-
-pub loop-k-init : goal.loop-k-init
-loop-k-init c = all_int_none _ _ _
-
-pub byte-requires : goal.byte-requires
-byte-requires c = tt
-
 pub returns : goal.returns
-returns c = all_int-done _ _ _ _ c.loop-k.invariant c.loop-k-test.false
+returns c b sorts kept =
+    all_from_yields_List (int_at c.args.work.now c.area-entries.result.now) _ _ _ c.all.ensures.ran
+    (YieldsList-from_range 0 c.args.n c.args.n refl (omega arith)) (λ k t q called. search (rules, tests))
+    ∙ rw c.area-entries.ensures (int_all sorts kept)

@@ -12,17 +12,17 @@ returns c =
     let h = c.requires in
     gives_same (ap₂ lowest (back (left_cross h ⊞ right_cross h) tt) (back (dens h) tt)) c.reduced.ensures
 
-pub overflow_mul-an : goal.overflow_mul-an
-overflow_mul-an c = fits (left_cross c.requires) tt
-
-pub overflow_mul-bn : goal.overflow_mul-bn
-overflow_mul-bn c = fits (right_cross c.requires) tt
-
-pub overflow_add-an : goal.overflow_add-an
-overflow_add-an c = fits (left_cross c.requires ⊞ right_cross c.requires) tt
-
-pub overflow_mul-ad : goal.overflow_mul-ad
-overflow_mul-ad c = fits (dens c.requires) tt
-
 pub reduced-requires : goal.reduced-requires
 reduced-requires c = positive-dens c.requires
+
+pub overflow_add-self : goal.overflow_add-self
+overflow_add-self c = fits (left_cross c.requires ⊞ right_cross c.requires) tt
+
+pub overflow_mul-self-2 : goal.overflow_mul-self-2
+overflow_mul-self-2 c = fits (dens c.requires) tt
+
+pub overflow_mul-self : goal.overflow_mul-self
+overflow_mul-self c = fits (left_cross c.requires) tt
+
+pub overflow_mul-other : goal.overflow_mul-other
+overflow_mul-other c = fits (right_cross c.requires) tt

@@ -8,18 +8,12 @@ use borrow.Author.Tests.{eqb-false}
 use lib.IntN.{ℤ, pos, negsuc, nat_abs, neg_ℤ}
 use lib.Signed.{◌<ℤ◌}
 use Rattle.numbers.specs.Pair.{eq_z}
-use Rattle.numbers.specs.Rational.{lowest, upright, div_q, is_zero}
+use Rattle.numbers.specs.Rational.{Rational, Proper, Divisor, lowest, upright, div_q, is_zero}
 use Rattle.numbers.proofs.Integers.{nat_abs_*ℤ}
 use Rattle.numbers.proofs.Machine.{Code, ◌⊠◌, negated, exact, fits, back, back-negated, at_negative, at_natural}
 use Rattle.numbers.proofs.Order.{pos-positive, nat_abs-positive}
 use Rattle.numbers.proofs.Ranges.{num, den, gives_same}
 use Rattle.numbers.proofs.number.Number.div.Goals as goal
-
-abbrev n : goal.After-struct_told-4-1 → Code
-n c = num c.requires.0 ⊠ den c.requires.1.proper
-
-abbrev d : goal.After-struct_told-4-1 → Code
-d c = den c.requires.0 ⊠ num c.requires.1.proper
 
 -- ---- the second part is not 0, so it is positive once its sign is
 size_of_nonzero : (z : ℤ) → eq_z z (pos 0) ≡ false → 0 < nat_abs z
@@ -27,56 +21,60 @@ size_of_nonzero (pos zero) e = absurd (eqb-false 0 0 e refl)
 size_of_nonzero (pos (suc k)) e = zero-lt-suc k
 size_of_nonzero (negsuc k) e = zero-lt-suc k
 
-size_of_d : (c : goal.After-struct_told-4-1) → 0 < nat_abs (exact (d c))
-unfolding is_zero
-size_of_d c =
-    let s = c in
-    let x = s.args.self.den in
-    let y = s.args.other.num in
-    subst (λ (k : ℕ). 0 < k) (sym (nat_abs_*ℤ x y))
-    (mul-pos (nat_abs-positive s.requires.0.positive) (size_of_nonzero y s.requires.1.nonzero))
+module _ {a b : Rational} (h : Proper a × Divisor b) where
+  abbrev n : Code
+  n = num h.0 ⊠ den h.1.proper
+
+  abbrev d : Code
+  d = den h.0 ⊠ num h.1.proper
+
+  size_of_d : 0 < nat_abs (exact d)
+  unfolding is_zero
+  size_of_d =
+      subst (λ (k : ℕ). 0 < k) (sym (nat_abs_*ℤ a.den b.num))
+      (mul-pos (nat_abs-positive h.0.positive) (size_of_nonzero b.num h.1.nonzero))
 
 pub reduced-requires : goal.reduced-requires
 reduced-requires c =
-    let m = d c.before in
+    let m = d c.requires in
     subst (λ (z : ℤ). pos 0 <ℤ z) (sym (back-negated m tt))
     (at_negative (λ z. pos 0 <ℤ neg_ℤ z) (λ k. pos-positive (zero-lt-suc k)) (back m tt) c.if-d-lt0.true)
 
 pub reduced-requires-else-d-lt0 : goal.reduced-requires-else-d-lt0
 reduced-requires-else-d-lt0 c =
-    let m = d c.before in
+    let m = d c.requires in
     subst (λ (z : ℤ). pos 0 <ℤ z) (sym (back m tt))
-    (at_natural (λ z. 0 < nat_abs z → pos 0 <ℤ z) (λ k. pos-positive) (back m tt) c.if-d-lt0.false (size_of_d c.before))
+    (at_natural (λ z. 0 < nat_abs z → pos 0 <ℤ z) (λ k. pos-positive) (back m tt) c.if-d-lt0.false (size_of_d c.requires))
 
 -- ---- the answer
 pub returns-then-d-lt0 : goal.returns-then-d-lt0
 unfolding div_q
 returns-then-d-lt0 c =
-    let b = c.before.before in
-    let N = exact (n b) in
+    let h = c.requires in
+    let N = exact (n h) in
     gives_same
-    (ap₂ lowest (back-negated (n b) tt) (back-negated (d b) tt)
-    ∙ at_negative (λ z. lowest (neg_ℤ N) (neg_ℤ z) ≡ upright N z) (λ k. refl) (back (d b) tt) c.if-d-lt0.true)
+    (ap₂ lowest (back-negated (n h) tt) (back-negated (d h) tt)
+    ∙ at_negative (λ z. lowest (neg_ℤ N) (neg_ℤ z) ≡ upright N z) (λ k. refl) (back (d h) tt) c.if-d-lt0.true)
     c.reduced.ensures
 
 pub returns-else-d-lt0 : goal.returns-else-d-lt0
 unfolding div_q
 returns-else-d-lt0 c =
-    let b = c.before.before in
-    let N = exact (n b) in
+    let h = c.requires in
+    let N = exact (n h) in
     gives_same
-    (ap₂ lowest (back (n b) tt) (back (d b) tt)
-    ∙ at_natural (λ z. lowest N z ≡ upright N z) (λ k. refl) (back (d b) tt) c.if-d-lt0.false)
+    (ap₂ lowest (back (n h) tt) (back (d h) tt)
+    ∙ at_natural (λ z. lowest N z ≡ upright N z) (λ k. refl) (back (d h) tt) c.if-d-lt0.false)
     c.reduced-else-d-lt0.ensures
 
 pub overflow_mul-n : goal.overflow_mul-n
-overflow_mul-n c = fits (n c) tt
+overflow_mul-n c = fits (n c.requires) tt
 
 pub overflow_mul-d : goal.overflow_mul-d
-overflow_mul-d c = fits (d c) tt
+overflow_mul-d c = fits (d c.requires) tt
 
 pub overflow_sub-n : goal.overflow_sub-n
-overflow_sub-n c = fits (negated (n c.before)) tt
+overflow_sub-n c = fits (negated (n c.requires)) tt
 
 pub overflow_sub-d : goal.overflow_sub-d
-overflow_sub-d c = fits (negated (d c.before)) tt
+overflow_sub-d c = fits (negated (d c.requires)) tt

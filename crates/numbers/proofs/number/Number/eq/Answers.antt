@@ -1,29 +1,22 @@
--- Numbers in the machine are equal where their bits are, so the tests of the code are those of `eq_q`.
-use mathlib.Core.Path.{◌≡◌, ap₂}
-use mathlib.Core.Bool.{Bool, ◌&&◌}
-use borrow.Author.Rules.{rules}
-use borrow.Author.Tests.{eq-eqb, ne_eqb}
-use lib.Dec.{eqb}
-use mir.Syntax.{w64}
-use mir.Val.{of_z}
-use Rattle.numbers.specs.Rational.{Rational, eq_q}
-use Rattle.numbers.proofs.Machine.{eqb-of_z}
+-- The derived `==` compares the parts, as `eq_q` does.
+use mathlib.Core.Path.{◌≡◌, ◌∙◌, ap₂, subst}
+use mathlib.Core.Bool.{true, ◌&&◌}
+use lib.IntN.{ℤ}
+use Rattle.std.proofs.Common.{int_eq}
+use Rattle.std.proofs.lemmas.Bool.Decides.{Decides-int_eq, same_from_decides}
+use Rattle.numbers.specs.Pair.{eq_z}
+use Rattle.numbers.specs.Rational.{eq_q}
+use Rattle.numbers.proofs.Rationals.{eq_z-eq, eq_z-refl}
 use Rattle.numbers.proofs.number.Number.eq.Goals as goal
-use Rattle.numbers.proofs.number.Number.eq.Lts as lts
-use Rattle.numbers.proofs.number.Number.eq.Reads as reads
 
-abbrev same_bits : Rational → Rational → Bool
-same_bits a b = eqb (of_z w64 a.num) (of_z w64 b.num) && eqb (of_z w64 a.den) (of_z w64 b.den)
+int_eq-eq_z : (x y : ℤ) → int_eq x y ≡ eq_z x y
+int_eq-eq_z x y =
+    same_from_decides (int_eq x y) (eq_z x y) (Decides-int_eq x y)
+    (eq_z-eq x y, λ e. subst (λ (z : ℤ). eq_z x z ≡ true) e (eq_z-refl x))
 
-same_bits_is : (c : (lts.After-struct_told4 reads.Pre reads.Post)) → let s = c.args in same_bits s.self s.other ≡ eq_q s.self s.other
+pub returns : goal.returns
 unfolding eq_q
-same_bits_is c =
-    let s = c.args in
-    ap₂ ◌&&◌ (eqb-of_z s.self.num s.other.num (search rules) (search rules))
-    (eqb-of_z s.self.den s.other.den (search rules) (search rules))
-
-pub returns-then-an-bn : goal.returns-then-an-bn
-returns-then-an-bn c = rw (eq-eqb _ _ c.if-an-bn.true) at (same_bits_is c.before)
-
-pub returns-else-an-bn : goal.returns-else-an-bn
-returns-else-an-bn c = rw (ne_eqb _ _ c.if-an-bn.false) at (same_bits_is c.before)
+returns c =
+    let a = c.args.self in
+    let b = c.args.other in
+    c.eq.ensures ∙ ap₂ ◌&&◌ (int_eq-eq_z a.num b.num) (int_eq-eq_z a.den b.den)

@@ -34,8 +34,8 @@ returns c =
     (c.magnitude-2.ensures ∙ ap nat_abs (back (dens h) tt))
     ∙ lowest_is_integer (exact (nums h)) (exact (dens h)) (mul-pos h.0.positive h.1.positive)
 
-pub overflow_mul-an : goal.overflow_mul-an
-overflow_mul-an c = fits (nums c.requires) tt
+pub overflow_mul-self : goal.overflow_mul-self
+overflow_mul-self c = fits (nums c.requires) tt
 
-pub overflow_mul-ad : goal.overflow_mul-ad
-overflow_mul-ad c = fits (dens c.requires) tt
+pub overflow_mul-self-2 : goal.overflow_mul-self-2
+overflow_mul-self-2 c = fits (dens c.requires) tt

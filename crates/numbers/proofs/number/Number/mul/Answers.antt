@@ -11,11 +11,11 @@ returns c =
     let h = c.requires in
     gives_same (ap₂ lowest (back (nums h) tt) (back (dens h) tt)) c.reduced.ensures
 
-pub overflow_mul-an : goal.overflow_mul-an
-overflow_mul-an c = fits (nums c.requires) tt
-
-pub overflow_mul-ad : goal.overflow_mul-ad
-overflow_mul-ad c = fits (dens c.requires) tt
-
 pub reduced-requires : goal.reduced-requires
 reduced-requires c = positive-dens c.requires
+
+pub overflow_mul-self : goal.overflow_mul-self
+overflow_mul-self c = fits (nums c.requires) tt
+
+pub overflow_mul-self-2 : goal.overflow_mul-self-2
+overflow_mul-self-2 c = fits (dens c.requires) tt

@@ -1,7 +1,7 @@
 -- The numerator is below 2 ^ 31, so its negation fits.
 use mathlib.Core.Path.{ap₂}
 use Rattle.numbers.specs.Rational.{neg_q, frac}
-use Rattle.numbers.proofs.Machine.{negated, fits, back, back-negated}
+use Rattle.numbers.proofs.Machine.{back, back-negated}
 use Rattle.numbers.proofs.Ranges.{num, den, makes, proper-neg}
 use Rattle.numbers.proofs.number.Number.neg.Goals as goal
 
@@ -10,6 +10,3 @@ unfolding neg_q
 returns c =
     let p = c.requires in
     makes (ap₂ frac (back-negated (num p) tt) (back (den p) tt)) (proper-neg p)
-
-pub overflow_sub-result : goal.overflow_sub-result
-overflow_sub-result c = fits (negated (num c.requires)) tt
