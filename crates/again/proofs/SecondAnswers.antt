@@ -1,26 +1,31 @@
 -- `elaborate_and_mark`: what is elaborated is marked again over book and tail, and both answers are compared.
---     within_eight, above_eight, below_one       refusals 1 to 8
---     agree_early .. agree-tail, agree_all       the comparison by its tests
---     Calls, marked-agreed, marked_none       the second marking
+--     not_lent, accepts_by       the tests of the verdicts
+--     Calls, marked_both       the second marking
 --     agrees-again       both answers agree where no bounded_farkas step has surplus arguments and book and tail have room
 --     both_markings       the two markings together
+use Rattle.runs.specs.declared.verdict.Verdict.{Verdict}
+use Rattle.runs.specs.declared.verdict.Verdict.TheVariants.{AllAccepted, Lent, Stopped}
+use Rattle.runs.specs.declared.verdict.LentRefusal.{LentRefusal}
+use Rattle.runs.specs.declared.verdict.LentRefusal.TheVariants.{WorkAreaOrLimit, OfBook}
+use Rattle.terms.specs.declared.reading.BookRefusal.TheVariants.{BookSize}
+use Rattle.rules.specs.declared.refusal.Refusal.TheVariants.{VisitLimit}
+use Rattle.runs.specs.contracts.verdict.VerdictPartialEq.TheImpl.{ghosts}
 use mathlib.Core.Path.{◌≡◌, refl, sym, ap, ◌∙◌}
-use mathlib.Core.Bool.{Bool, true, false, ◌&&◌, not, and-false}
+use mathlib.Core.Bool.{Bool, true, false, ◌&&◌, not}
 use mathlib.Core.List.{[]}
-use Prim.Native.Nat.{ℕ, ◌+◌, ◌-◌, ◌≤◌, ◌<◌}
+use Prim.Native.Nat.{ℕ, ◌+◌, ◌-◌, ◌≤◌}
 use native.Mathlib.Nat.{sub-zero}
 use native.Mathlib.Omega.{arith}
-use borrow.Author.Tests.{le-leb, lt-leb, eq-eqb, ne_eqb}
+use borrow.Author.Tests.{le-leb, eq-eqb}
 use lib.Dec.{T, eqb, leb}
 use lib.ListN.{length, take, replicate, length-replicate}
 use lib.Seq.{take-append_seam}
-use Rattle.numbers.specs.Bytes.{Bytes, same_bytes}
+use Rattle.numbers.specs.Bytes.{Bytes}
 use Rattle.numbers.proofs.Truths.{T_true}
 use Rattle.numbers.proofs.SameBytes.{same_bytes-refl}
 use Rattle.rules.specs.Limits.{limited}
-use Rattle.runs.specs.Verdict.{Verdict, verdict_number, is_lent}
+use Rattle.runs.specs.Verdict.{verdict_number, is_lent}
 use Rattle.marking.specs.Check.{mark}
-use Rattle.marking.proofs.Verdicts.{between, lent-numbers}
 use Rattle.elaborate.specs.Elaborate.{Answer, answer, written_part}
 use Rattle.marking.specs.Answers.{area, zeros}
 use Rattle.elaborate.specs.Statements.{NoSurplus}
@@ -36,73 +41,25 @@ use Rattle.elaborate.proofs.ElaboratePromise.{WholeAnswer, whole-answer, promise
 
 -- ---- the comparison
 
--- refusals 1 to 8 by their numbers
-module _ (n : ℕ) where
-  abbrev Lent : Bool → Type 0
-  Lent r = (v : Verdict) → n ≡ verdict_number v → r ≡ is_lent v
+-- whether a verdict is not one of refusals 1 to 8, by the test of its variant
+pub not_lent : (v : Verdict) → ((r : LentRefusal) → v ≡ Lent r → ⊥) → is_lent v ≡ false
+not_lent AllAccepted h = refl
+not_lent (Lent r) h = absurd (h r refl)
+not_lent (Stopped r) h = refl
 
-  lent_by : {r : Bool} → r ≡ between 1 8 n → Lent r
-  lent_by e v n-is = e ∙ ap (between 1 8) n-is ∙ sym (lent-numbers v)
-
-  pub within_eight : 1 ≤ n → n ≤ 8 → Lent true
-  within_eight h k = lent_by (rw (le-leb 1 n h, le-leb n 8 k))
-
-  pub above_eight : 8 < n → Lent false
-  above_eight h = lent_by (rw (lt-leb n 8 h) (sym (and-false (leb 1 n))))
-
-  pub below_one : n < 1 → Lent false
-  below_one h = lent_by (rw (lt-leb 1 n h))
+-- whether it accepts, by the test of equality
+pub accepts_by : (v : Verdict) → ghosts.eq v AllAccepted ≡ eqb (verdict_number v) 0
+accepts_by AllAccepted = refl
+accepts_by (Lent WorkAreaOrLimit) = refl
+accepts_by (Lent (OfBook BookSize)) = refl
+accepts_by (Stopped VisitLimit) = refl
+accepts_by v = refl
 
 module _ (a c : Elaborated) (run again : Bytes) where
-  abbrev accepts : Bool
-  accepts = eqb c.verdict 0
-
-  abbrev same_steps : Bool
-  same_steps = eqb c.steps a.steps
-
-  abbrev same_visits : Bool
-  same_visits = eqb c.visits a.visits
-
-  abbrev compared : Bool → Bool
-  compared early = not early && (accepts && (same_steps && (same_visits && (eqb c.tail 0 && same_bytes again run))))
-
   -- what `agree` answers
-  abbrev Agrees : Bool → Type 0
+  abbrev pub Agrees : Bool → Type 0
   Agrees r =
       (x y : Answer) → a ≡ elaborated_of x → c ≡ elaborated_of y → run ≡ x.run → again ≡ y.run → r ≡ agree x y
-
-  -- early is whether the first verdict is one of refusals 1 to 8
-  module _ (early : Bool) (early-is : Lent a.verdict early) where
-    compared_is : {r : Bool} → r ≡ compared early → Agrees r
-    unfolding agree
-    compared_is e x y f g h k =
-        let numbered : early ≡ is_lent x.verdict = early-is x.verdict (ap (λ z. z.verdict) f) in
-        e ∙ ap compared numbered ∙ rw (f, g, h, k)
-
-    pub agree_early : early ≡ true → Agrees false
-    agree_early h = compared_is (rw h)
-
-    pub agree-refused : (c.verdict ≡ 0 → ⊥) → Agrees false
-    agree-refused h = compared_is (rw (ne_eqb c.verdict 0 h, and-false (not early)))
-
-    pub agree-steps : (c.steps ≡ a.steps → ⊥) → Agrees false
-    agree-steps h = compared_is (rw (ne_eqb c.steps a.steps h, and-false accepts, and-false (not early)))
-
-    pub agree-visits : (c.visits ≡ a.visits → ⊥) → Agrees false
-    agree-visits h =
-        compared_is
-        (rw (ne_eqb c.visits a.visits h, and-false same_steps, and-false accepts, and-false (not early)))
-
-    pub agree-tail : (c.tail ≡ 0 → ⊥) → Agrees false
-    agree-tail h =
-        compared_is
-        (rw (ne_eqb c.tail 0 h, and-false same_visits, and-false same_steps, and-false accepts, and-false (not early)))
-
-    pub agree_all :
-        early ≡ false → c.verdict ≡ 0 → c.steps ≡ a.steps → c.visits ≡ a.visits → c.tail ≡ 0 → {r : Bool} →
-        r ≡ same_bytes again run → Agrees r
-    agree_all late v s n t e =
-        compared_is (e ∙ rw (late, eq-eqb _ 0 v, eq-eqb _ _ s, eq-eqb _ _ n, eq-eqb _ 0 t))
 
 -- ---- the second marking
 
@@ -199,7 +156,7 @@ module _
   again-whole =
       calls.again_is ∙ rw (out_again, answer-again) (part-written (length s.out_run) y.run y-whole.run)
 
-  -- the answer r, where book and tail have room, and where they don't
+  -- the answer r
   marked : (r : Bool) → r ≡ agrees_again m limit s → MarkedAgain m limit s r w s'
   marked r e = record { answered = e; cleared = work-again; left = rw (joined_all, out_again, tail-again) }
 
@@ -209,23 +166,20 @@ module _
       ∙ ap (λ (z : Bytes). leb (length z + length calls.tail) (length s.joined)) (sym book-is)
       ∙ ap (λ (z : Bytes). leb (length m.book + length z) (length s.joined)) tail-whole
 
-  pub marked-agreed : calls.fit ≡ true → MarkedAgain m limit s calls.agreed w s'
+  pub marked_both : {r : Bool} → r ≡ (calls.fit && calls.agreed) → MarkedAgain m limit s r w s'
   unfolding agrees_again
-  marked-agreed e =
-      marked calls.agreed
-      (calls.agreed_is x y first_is_lem answer-again run-whole again-whole
-      ∙ ap (λ (z : Bool). z && agree x y) (sym e ∙ fit-again))
-
-  pub marked_none : calls.fit ≡ false → MarkedAgain m limit s false w s'
-  unfolding agrees_again
-  marked_none e = marked false (ap (λ (z : Bool). z && agree x y) (sym e ∙ fit-again))
+  marked_both {r} e =
+      marked r
+      (e ∙ ap (λ (z : Bool). z && calls.agreed) fit-again
+      ∙ ap (λ (z : Bool). leb (length m.book + length x.tail) (length s.joined) && z)
+      (calls.agreed_is x y first_is_lem answer-again run-whole again-whole))
 
 -- ---- demand 3
 
 -- an answer agrees with itself, with an empty tail
 agrees-same :
     (a : Answer) → T (not (is_lent a.verdict)) →
-    agree a (answer Verdict.accepted a.steps a.visits a.run []) ≡ true
+    agree a (answer AllAccepted a.steps a.visits a.run []) ≡ true
 unfolding agree
 agrees-same a free =
     rw (
@@ -249,7 +203,7 @@ module _ (m : Memory) (limit : ℕ) (s : Second) where
       let second =
       second_marking m.book m.run limit (length m.work) (length m.out_run) (length m.out_tail) free surplus
       in
-      let is : answer_again m limit s ≡ answer Verdict.accepted a.steps a.visits a.run [] =
+      let is : answer_again m limit s ≡ answer AllAccepted a.steps a.visits a.run [] =
       rw (joined_by_lem m.book a.tail s.joined fit, run, tail) second.again
       in
       rw (fit, is) (agrees-same a free)

@@ -1,12 +1,13 @@
 -- Demand 3 on running code: a run is elaborated, its elaboration is marked again over book and tail, and the two
 -- answers are compared. What the function `elaborate_and_mark` answers, and what it leaves.
+use Rattle.runs.specs.declared.verdict.Verdict.TheVariants.{AllAccepted}
 use Rattle.std.specs.Prelude.{◌≡◌, Bool, true, false, ◌&&◌, not, [], ◌++◌, ℕ, ◌+◌, eqb, leb, length}
 use Rattle.numbers.specs.Bytes.{Bytes}
 use Rattle.numbers.specs.Bytes.{same_bytes}
 use Rattle.elaborate.specs.Elaborate.{Answer, elaborate, written_part}
 use Rattle.marking.specs.Answers.{area, zeros}
 use Rattle.elaborate.specs.LentMemory.{Memory, answer_to, memory_after}
-use Rattle.runs.specs.Verdict.{Verdict, verdict_number, is_lent}
+use Rattle.runs.specs.Verdict.{verdict_number, is_lent}
 
 -- what is lent beside the memory of `elaborate`: room for book and tail, and the out areas of the second marking
 pub record Second : Type 0 where
@@ -37,7 +38,7 @@ answer_again m limit s =
 unfoldable pub agree : Answer → Answer → Bool
 agree a c =
     not (is_lent a.verdict)
-    && (eqb (verdict_number c.verdict) (verdict_number Verdict.accepted)
+    && (eqb (verdict_number c.verdict) (verdict_number AllAccepted)
     && (eqb c.steps a.steps
     && (eqb c.visits a.visits
     && (eqb (length c.tail) 0

@@ -1,7 +1,6 @@
 // Demand 3 on running code: a run is elaborated, its elaboration is marked again over book and tail, and both answers
 // are compared.
 ghost use Rattle.std.specs.Prelude.{◌≡◌, ◌+◌, leb, length};
-ghost use Rattle.runs.specs.Verdict.{Verdict, verdict_number, is_lent};
 ghost use Rattle.elaborate.specs.Elaborate.{Answer};
 ghost use Rattle.marking.specs.Answers.{area};
 ghost use Rattle.elaborate.specs.LentMemory.{Memory, answer_to, memory_after, lent};
@@ -11,10 +10,9 @@ ghost use Rattle.again.specs.AgainEntry.{AgainDone};
 
 use elaborate::elaborate::{Elaborated, elaborate, written};
 use numbers::bytes::{clear_from, paste, room, same_bytes};
-use steps::check_step::ACCEPTED;
-use terms::refusal::{NO_ROOM, WORK_AREA_OR_LIMIT};
+use runs::verdict::Verdict;
 
-#[derive(Clone, Copy)]
+#[derive(Clone, Copy, Debug, PartialEq, Eq)]
 pub struct Twice {
     // The answer to the elaboration.
     pub first: Elaborated,
@@ -41,16 +39,6 @@ fn join(book: &[u8], tail: &[u8], joined: &mut [u8]) -> bool
     false
 }
 
-// Refusals 1 to 8.
-fn is_lent(verdict: u8) -> bool
-    ensures { (v : Verdict) → verdict ≡ verdict_number v → result ≡ is_lent v }
-{
-    match verdict {
-        WORK_AREA_OR_LIMIT..=NO_ROOM => true,
-        _ => false,
-    }
-}
-
 // Whether the second marking accepts all, with the steps and visits of the first, and writes the same run and an empty
 // tail.
 fn agree(first: Elaborated, second: Elaborated, run: &[u8], again: &[u8]) -> bool
@@ -58,22 +46,12 @@ fn agree(first: Elaborated, second: Elaborated, run: &[u8], again: &[u8]) -> boo
         again.now ≡ c.run →
         result ≡ agree a c }
 {
-    if is_lent(first.verdict) {
-        return false;
-    }
-    if second.verdict != ACCEPTED {
-        return false;
-    }
-    if second.steps != first.steps {
-        return false;
-    }
-    if second.visits != first.visits {
-        return false;
-    }
-    if second.tail != 0 {
-        return false;
-    }
-    same_bytes(again, run)
+    !matches!(first.verdict, Verdict::Lent(_))
+        && second.verdict == Verdict::AllAccepted
+        && second.steps == first.steps
+        && second.visits == first.visits
+        && second.tail == 0
+        && same_bytes(again, run)
 }
 
 // Marks again what `elaborate` answered and wrote.
@@ -100,7 +78,7 @@ fn mark_again(
     let n = if fits { book.len() + tail.len() } else { 0 };
     let again = elaborate(&joined[0..n], run, limit, work, againrun, againtail);
     let agreed = agree(first, again, run, written(againrun, again.run));
-    if fits { agreed } else { false }
+    fits && agreed
 }
 
 // Elaborates a run as `elaborate` does, joins book and tail, elaborates the written run over them, and says whether

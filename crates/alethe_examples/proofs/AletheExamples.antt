@@ -12,7 +12,7 @@ use Rattle.terms.specs.Term.{Sort, Term}
 use Rattle.terms.specs.Term.Sort.{int, real}
 use Rattle.terms.specs.Term.Term.{integer}
 use Rattle.std.specs.Prelude.{Err}
-use Rattle.rules.specs.Refusal.Refusal.{disequality_is_not_contradiction, disequality_is_not_tautology}
+use Rattle.rules.specs.declared.refusal.Refusal.TheVariants.{DisequalityIsNotContradiction, DisequalityIsNotTautology}
 use Rattle.rules.specs.Limits.{the_rust}
 use Rattle.linear_arithmetic.specs.LinearArithmetic.{la_generic, la_tautology}
 use Rattle.alethe_examples.specs.Computes.{rules}
@@ -100,7 +100,7 @@ halves-accepted =
     Lines.end))
     refl Joins.as_worded refl
 
-halves-refused_by_the_Rust : la_generic the_rust Step.halves Step.twos 0 ≡ Err disequality_is_not_contradiction
+halves-refused_by_the_Rust : la_generic the_rust Step.halves Step.twos 0 ≡ Err DisequalityIsNotContradiction
 unfolding rules
 halves-refused_by_the_Rust = refl
 
@@ -156,7 +156,7 @@ five_is_not-zero =
     (cancels_by [] refl) refl
 
 five_is_not-zero-refused_by_the_Rust :
-    la_tautology the_rust (Step.five_is_not_zero ∷ []) 0 ≡ Err disequality_is_not_tautology
+    la_tautology the_rust (Step.five_is_not_zero ∷ []) 0 ≡ Err DisequalityIsNotTautology
 unfolding rules
 five_is_not-zero-refused_by_the_Rust = refl
 

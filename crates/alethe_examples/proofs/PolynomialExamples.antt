@@ -13,7 +13,7 @@ use Rattle.terms.specs.Operator.{LessEq, Mult}
 use Rattle.terms.specs.Term.{Sort, Term}
 use Rattle.terms.specs.Term.Sort.{int, bits}
 use Rattle.std.specs.Prelude.{Err}
-use Rattle.rules.specs.Refusal.Refusal.{polynomials_not_equal}
+use Rattle.rules.specs.declared.refusal.Refusal.TheVariants.{PolynomialsNotEqual}
 use Rattle.rules.specs.Limits.{the_rust}
 use Rattle.poly_simp.specs.PolySimp.{poly_simp}
 use Rattle.alethe_examples.specs.Computes.{rules}
@@ -105,7 +105,7 @@ vanishing-accepted =
       same = SamePolynomial.vectors 8 refl refl sum-vanishes;
     }
 
-vanishing-refused_by_the_Rust : poly_simp the_rust (Step.vanishing ∷ []) 0 ≡ Err polynomials_not_equal
+vanishing-refused_by_the_Rust : poly_simp the_rust (Step.vanishing ∷ []) 0 ≡ Err PolynomialsNotEqual
 unfolding rules
 vanishing-refused_by_the_Rust = refl
 

@@ -5,7 +5,6 @@ use Rattle.terms.specs.BookExamples.{reads}
 use Rattle.rules.specs.Refusal.{◌>>=◌, assert, or_else}
 use Rattle.rules.specs.Limits.{ranged, times, plus, over, fraction_of, fraction_err, signed_number_err, bitvector_err}
 use Rattle.rules.specs.Limits.{op_err}
-use Rattle.index_map.specs.IndexMap
 use Rattle.index_map.specs.IndexMap.{last_first, swap_remove, neg_all, scale_all, get, enter, insert, insert_all, add}
 use Rattle.index_map.specs.IndexMap.{neg}
 use Rattle.index_map.specs.IndexMap.{sub, visit, add_entry, add_constant}

@@ -1,6 +1,6 @@
 -- A book that is read without a refusal: each of its records was read (`accepted-count`), so each passed the three tests
--- of a record: its layout, its sort, and that it stands nowhere before (`accepted-layout`, `accepted-sort`,
--- `accepted-new`).
+-- of a record: its layout, its sort, and that it stands nowhere before (`accepted`, and of the first two alone
+-- `accepted-layout` and `accepted-sort`).
 use mathlib.Core.Path.{◌≡◌, refl, subst}
 use mathlib.Core.Bool.{Bool, true, false}
 use mathlib.Core.Logic.{⊎_elim}
@@ -89,6 +89,3 @@ module _ (b : Bytes) (n : ℕ) (e : read_book b ≡ Ok n) where
 
   pub accepted-sort : (i : ℕ) → i < n → sort_ok (tree b i) ≡ true
   accepted-sort i h = (accepted i h).sorted
-
-  pub accepted-new : (i : ℕ) → i < n → stands i b (record_of b i) ≡ false
-  accepted-new i h = (accepted i h).new

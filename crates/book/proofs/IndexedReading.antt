@@ -12,7 +12,7 @@ use lib.Dec.{eqb, ltb}
 use lib.ListN.{length, get_or, set, length-set}
 use lib.Seq.{ext_get_or, get_or-set_same, get_or-set_other}
 use Rattle.numbers.specs.Bytes.{Bytes}
-use Rattle.terms.specs.Book.{refused_at, record_read, read_book, records_read, put_sorts, SortsBelow, BookDone}
+use Rattle.terms.specs.Book.{refused_at, record_read, read_book, records_read, put_sorts, BookDone}
 use Rattle.book.specs.Memory.RecordIndex.{Indexed, Unused, Beside, BookLeft}
 use Rattle.terms.specs.declared.reading.BookRefusal.{BookRefusal}
 use Rattle.terms.specs.declared.reading.BookRefusal.TheVariants.{BookSize}
@@ -42,16 +42,6 @@ indexing_none b w n room unused =
 module _ (b w₀ : Bytes) (n : ℕ) (w : Bytes) (i : ℕ) (indexing : Indexing b w₀ n w i) where
   pub indexing_length : length w ≡ length w₀
   indexing_length = indexing.beside.long ∙ length-put_sorts i b w₀
-
-  pub indexing_below : SortsBelow i b w
-  indexing_below =
-      record {
-        laid = indexing.reading.below.laid;
-        held =
-            λ j h.
-            indexing.beside.same j (inl (omega (arith, indexing.indexed.few)))
-            ∙ indexing.reading.below.held j h;
-      }
 
   -- a sort lies beside the index
   pub indexed-sorted : (s : ℕ) → i < 2048 → Indexed i b (set w i s)

@@ -29,6 +29,7 @@ pub(crate) fn found(book: &[u8], work: &[u8], id: usize) -> bool
 {
     let r = record(book, id);
     let mut k = read_u16(work, HEADS_AT + 2 * chain(r)) as usize;
+    // A while, since each link says which record is looked at next.
     while 0 < k {
         if same_bytes(record(book, k - 1), r) {
             return true;

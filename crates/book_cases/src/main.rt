@@ -25,7 +25,8 @@ const MOST_BYTES: usize = RECORD_BYTES * MOST;
 
 // ---- an answer
 
-// Document 01's number of the refusal and the record that is refused; or 0 and the number of records.
+// Document 01's number of the refusal and the record that is refused; or 0 and the number of records: as in
+// the file.
 #[derive(Clone, Copy, PartialEq, Eq)]
 struct Answer {
     refusal: u8,

@@ -1,9 +1,10 @@
 -- A relation whose right side is a number: the walk of that side makes one visit and no entry, and subtracting it
 -- changes the constant alone.
 --     constant-walk       the walk of a number
---     product_out, sum_out, sum-value       what `constant_side` answers
+--     no_walk, constant-walks       what `constant_side` answers
 --     none_held, none_comb       a sum of no entries
 --     bounded_out, bounded-left       what `bounded` leaves in areas 1 and 2
+use Rattle.std.specs.Prelude.{Err}
 use mathlib.Core.Path.{◌≡◌, refl, sym, ap, subst, ◌∙◌}
 use mathlib.Core.Bool.{true}
 use mathlib.Core.List.{[]}
@@ -11,17 +12,17 @@ use Prim.Native.Nat.{ℕ, suc, ◌+◌, ◌<◌}
 use native.Mathlib.Numerals.{add-one}
 use native.Mathlib.Omega.{arith}
 use borrow.Author.Tests.{le-leb}
-use lib.Dec.{lit≤}
 use lib.IntN.{pos}
-use Rattle.numbers.specs.Rational.{Rational, Proper, Makes, Gives, whole, add_q, mul_q, neg_q, checked}
+use Rattle.numbers.specs.Rational.{Rational, Proper, Makes, Gives, whole, add_q, neg_q, checked}
 use Rattle.numbers.specs.Bytes.{Bytes}
 use Rattle.terms.specs.Term.{Term, unary, binary}
 use Rattle.terms.specs.Term.Term.{integer, rational, bitvector, atom, op}
 use Rattle.terms.specs.Readers.{as_number, quotient_of, as_unsigned_fraction, as_fraction}
 use Rattle.index_map.specs.Memory.StoredMaps as maps
-use Rattle.rules.specs.Refusal.{number, Result, ◌>>=◌, assert}
+use Rattle.rules.specs.Refusal.{Result, ◌>>=◌, assert}
 use Rattle.std.specs.Prelude.{Ok}
-use Rattle.rules.specs.Refusal.Refusal.{number_range}
+use Rattle.rules.specs.declared.refusal.Refusal.{Refusal}
+use Rattle.rules.specs.declared.refusal.Refusal.TheVariants.{NumberRange}
 use Rattle.rules.specs.Limits.{Limits, limited, times, fraction_of}
 use Rattle.index_map.specs.IndexMap.{combination, new, Walked, walked, visit, add_constant, sub}
 use Rattle.linear_walk.specs.LinearTerms.{add_term, add_leaf, from_term}
@@ -30,19 +31,12 @@ use Rattle.linear_walk.specs.Memory.Walks.{Walks}
 use Rattle.linear_comb.specs.Memory.WorkArea.{Sum, comb_of, KeptSum, Apart, area_of, with_area, OnlyArea}
 use Rattle.index_map.specs.Memory.Entries.{entries_of, blanked, Held}
 use Rattle.disequality.specs.Memory.DisequalitySteps.{constant_side, subtracted, SubtractedLeft, LiteralLeft}
-use Rattle.index_map.specs.declared.index_map.Inserted.TheVariants.{Length}
-use Rattle.linear_comb.specs.declared.linear_comb.Combined.TheVariants as combined
-use Rattle.linear_walk.specs.declared.linear_walk.Walk.TheVariants.{Done, Refused}
 use Rattle.disequality.specs.declared.disequality.Disequality as by_value
-use Rattle.disequality.specs.declared.disequality.Literal.TheVariants as literal
-use Rattle.rules.proofs.Results.{refuses}
-use Rattle.index_map.proofs.CheckedNumbers.{whole-proper, times-value, times_out}
 use Rattle.index_map.proofs.StoredEntries.{kept-entries, kept_small}
 use Rattle.linear_comb.proofs.Areas.{only_none}
 use Rattle.linear_comb.proofs.AreaSteps.{in_first, both-apart}
 use Rattle.work_area.proofs.InsertLoops.{InsertedAll, inserting_none, inserting_done}
 use Rattle.work_area.proofs.AreaSums.{Added, added-sum, added_out}
-use Rattle.linear_walk.proofs.WalkSteps.{constant_out, constant-added}
 use Rattle.disequality.proofs.SubtractedSides.{out_of_range, subtracted-left}
 use Rattle.numbers.specs.Rational.{Checked}
 use Rattle.std.specs.Prelude.{None, Some}
@@ -75,45 +69,19 @@ constant-walk t e limit v h =
     let yes = le-leb (suc v) limit (omega arith) in
     number-walk t e (limited limit) (whole (pos 1)) (walked new v) ∙ rw (yes, add-one)
 
--- ---- constant_side
+-- ---- an area without entries
 
 module _ {b w : Bytes} (held : Held b w []) where
   plain : {d : Rational} → Proper d → KeptSum b w (record { len = 0; constant = d })
   plain p = record { kept = record { map = []; held = held; size = refl }; proper = p }
 
-  -- r is what the code finds for the product
-  module _
-      (l v : ℕ) (q : Rational) {one : Rational} (one-is : one ≡ whole (pos 1)) {r : Checked}
-      (product : Gives r (checked (mul_q q one))) where
-    product_is : r ≡ checked (mul_q q (whole (pos 1)))
-    product_is = product.is ∙ ap (λ (x : Rational). checked (mul_q q x)) one-is
+  pub no_walk : {r : Refusal} {d : Result (Walked Term)} → Err r ≡ d → Walks b w (Err r) d
+  no_walk e = record { map = []; held = held; is = (sym e, refl) }
 
-    pub product_out : r ≡ None → Walks b w (Refused (number number_range)) (constant_side (limited l) q v)
-    unfolding constant_side ◌>>=◌
-    product_out e =
-        let no = times_out l q (whole (pos 1)) (sym product_is ∙ e) in
-        record { map = []; held = held; is = (refuses number_range (rw (constant_side, no)), refl) }
-
-    -- and s for the sum
-    module _
-        {c : Rational} (e : r ≡ Some c) {zero : Rational} (zero_is : zero ≡ whole (pos 0)) {s : Checked}
-        (sum : Gives s (checked (add_q zero c))) where
-      then : constant_side (limited l) q v ≡ add_constant (limited l) c (walked new v)
-      unfolding constant_side ◌>>=◌
-      then = rw (constant_side, times-value l q (whole (pos 1)) c (sym product_is ∙ e))
-
-      start : KeptSum b w (record { len = 0; constant = whole (pos 0) })
-      start = plain (whole-proper (pos 0) (lit≤ tt))
-
-      pub sum_out : s ≡ None → Walks b w (Refused (number number_range)) (constant_side (limited l) q v)
-      unfolding entries_of maps.blanked
-      sum_out out = rw then (constant_out start l v c s (rw zero_is at sum) out refl)
-
-      pub sum-value :
-          {k : Rational} → s ≡ Some k →
-          Walks b w (Done (record { len = 0; constant = k }) v) (constant_side (limited l) q v)
-      unfolding entries_of
-      sum-value value = rw then (constant-added start l v c s (rw zero_is at sum) value)
+  pub constant-walks :
+      {k : Rational} {v : ℕ} {d : Result (Walked Term)} → Proper k → Ok (walked (combination [] k) v) ≡ d →
+      Walks b w (Ok (record { sum = record { len = 0; constant = k }; visits = v })) d
+  constant-walks p e = record { map = []; held = held; is = (sym e, record { size = refl; proper = p }) }
 
 -- ---- bounded
 
@@ -137,7 +105,7 @@ module _
   right_kept : KeptSum b (area_of 2 w) right
   right_kept = plain held proper
 
-  none_inserted : InsertedAll w 1 s.len 2 0 true w (Length s.len)
+  none_inserted : InsertedAll w 1 s.len 2 0 true w (Ok s.len)
   none_inserted =
       inserting_done {turned = true} (inserting_none apart (kept_small left.kept) (omega arith)) (omega arith)
 
@@ -148,12 +116,12 @@ module _
 
   pub bounded_out :
       {w' : Bytes} → r ≡ None → w' ≡ with_area 1 (blanked s.len (area_of 1 w)) w →
-      SubtractedLeft b w w' (literal.Refused (number number_range))
+      SubtractedLeft b w w' (Err NumberRange)
       (subtracted (limited l) o (comb_of b (area_of 1 w) s) (combination [] d) n)
   unfolding entries_of sub
   bounded_out {w'} e clear =
-      let added : Added w 1 s 2 right true w' combined.OutOfRange =
-      added_out w 1 s 2 right true w _ none_inserted _ refl v v-is r sum apart.first refl e w' clear in
+      let added : Added w 1 s 2 right true w' (Err NumberRange) =
+      added_out w 1 s 2 right true w none_inserted v v-is r sum apart.first refl e w' clear in
       out_of_range apart left right_kept added.0 (stays added.0) o n (limited l)
       (added.1 b left right_kept l)
 
@@ -161,14 +129,14 @@ module _
   pub bounded-left :
       {c q : Rational} {w' : Bytes} {e : by_value.Disequality} → r ≡ Some c → Makes q (neg_q c) →
       (KeptSum b (area_of 1 w) (record { len = s.len; constant = q }) →
-      LiteralLeft b w w' (literal.Is e)
+      LiteralLeft b w w' (Ok e)
       (Ok (turned o (comb_of b (area_of 1 w) (record { len = s.len; constant = q })) n))) →
-      SubtractedLeft b w w' (literal.Is e)
+      SubtractedLeft b w w' (Ok e)
       (subtracted (limited l) o (comb_of b (area_of 1 w) s) (combination [] d) n)
   unfolding entries_of sub
   bounded-left {c} value turn turning =
       let same = only_none apart.first in
-      let added : Added w 1 s 2 right true w (combined.Is (record { len = s.len; constant = c })) =
-      added-sum w 1 s 2 right true w _ none_inserted _ refl v v-is r sum c value in
+      let added : Added w 1 s 2 right true w (Ok (record { len = s.len; constant = c })) =
+      added-sum w 1 s 2 right true w none_inserted v v-is r sum c value in
       subtracted-left apart left right_kept same (stays same) o n (limited l) (added.1 b left right_kept l) turn
       turning

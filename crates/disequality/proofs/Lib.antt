@@ -4,6 +4,5 @@ pub mod WholeProducts
 pub mod ConstantSides
 -- steps of the rules in memory
 pub mod Relations
-pub mod StrengthenAnswers
 pub mod SubtractedSides
 pub mod SidesAreas

@@ -2,39 +2,38 @@
 -- callees have promised. Under a negation the operation itself is looked at, and elsewhere its operator is negated. The
 -- records that are found are arguments, which lie below their record where it is laid out as a term.
 use mathlib.Core.Path.{◌≡◌, refl, sym, ◌∙◌, ap, subst}
-use mathlib.Core.Bool.{Bool, true, false}
+use mathlib.Core.Bool.{true, false}
 use mathlib.Core.List.{List, [], ◌∷◌}
 use Rattle.std.specs.Prelude.{Option, Some, None}
 use Prim.Native.Nat.{ℕ, ◌/◌, ◌≤◌, ◌<◌}
 use native.Mathlib.Omega.{arith}
 use borrow.Author.Tests.{le-leb, lt-leb, ltb-true}
-use lib.Dec.{eqb, ltb}
+use lib.Dec.{ltb}
 use lib.ListN.{length}
 use Rattle.numbers.specs.Bytes.{Bytes}
-use Rattle.terms.specs.Operator.{Not, Equals, LessThan, LessEq, GreaterThan, GreaterEq}
+use Rattle.terms.specs.Operator.{Not, Equals, GreaterEq}
 use Rattle.terms.specs.Term.{Term, Terms, record_number, unary}
 use Rattle.numbers.specs.Choice.{when◌then◌else◌}
 use Rattle.terms.specs.Term.Term.{op}
 use Rattle.terms.specs.Term.Terms.{nil, ◌▹◌}
-use Rattle.terms.specs.Book.{count, record_of, arg_bytes, tree, numbers, arguments, argument_at, earlier, forest, all_below}
+use Rattle.terms.specs.Book.{count, record_of, arg_bytes, tree, numbers, arguments, argument_at, earlier, forest}
+use Rattle.terms.specs.Book.{all_below}
 use Rattle.terms.specs.Readers.{Child, found, as_op, operator_of, arguments_of, remove_negation}
 use Rattle.numbers.proofs.Truths.{both}
 use Rattle.terms.proofs.RecordBytes.{earlier-before, forest_of_two}
 use Rattle.terms.proofs.Readings.{unary-shape}
 use Rattle.terms.proofs.NumberedNodes.{record_number-tree}
 use Rattle.terms.proofs.RecordReadings.{arguments_of_record}
-use Rattle.rules.specs.Refusal.{number, Result, ◌>>=◌, or_else}
+use Rattle.rules.specs.Refusal.{Result, ◌>>=◌, or_else}
 use Rattle.std.specs.Prelude.{Ok, Err}
-use Rattle.rules.specs.Refusal.Refusal.{invalid_disequality_op, too_many_args_in_disequality}
+use Rattle.std.specs.Option.{ok_or}
+use Rattle.rules.specs.declared.refusal.Refusal.{Refusal}
+use Rattle.rules.specs.declared.refusal.Refusal.TheVariants.{InvalidDisequalityOp, TooManyArgsInDisequality}
 use Rattle.rules.specs.Shapes.{size, is_relation}
 use Rattle.disequality.specs.Disequality.{negate_operator, inner, two_sides}
-use Rattle.rules.specs.Memory.Parts.{Refuses, Laid}
-use Rattle.disequality.specs.Memory.DisequalitySteps.{or_zero, InnerIs, relation_of, RelationIs}
-use Rattle.disequality.specs.declared.disequality.Operation.{Operation}
-use Rattle.disequality.specs.declared.disequality.Operation.TheVariants as operation
-use Rattle.disequality.specs.declared.disequality.Relation.TheVariants as relation
+use Rattle.rules.specs.Memory.Parts.{Laid}
+use Rattle.disequality.specs.Memory.DisequalitySteps.{InnerIs, relation_of, RelationIs}
 use Rattle.rules.proofs.ArgumentsLeft.{counted, next-below}
-use Rattle.rules.proofs.Results.{refuses}
 use Rattle.book.proofs.ArgumentsBelow.{args-below}
 
 -- ---- inner
@@ -75,41 +74,15 @@ unfolding inner
 plain-inner t e = rw (e, inner)
 
 is_negated :
-    (m : Option (ℕ × Terms)) (o : ℕ) → o ≡ or_zero (negate_operator (operator_in m)) → (o ≡ 0 → ⊥) →
+    (m : Option (ℕ × Terms)) {o : ℕ} → Some o ≡ negate_operator (operator_in m) →
     negated_in m ≡ Some (o, arguments_in m)
 unfolding negate_operator when◌then◌else◌
-is_negated None o e h = absurd (h e)
-is_negated (Some p) o e h = go (negate_operator p.0) e
-  where
-    go :
-        (q : Option ℕ) → o ≡ or_zero q →
-        ◌≡◌ {A = Option (ℕ × Terms)} (elim q [ Some o ↦ Some (o, p.1) | None ↦ None ]) (Some (o, p.1))
-    go (Some k) e = rw e
-    go None e = absurd (h e)
+is_negated None e = cc
+is_negated (Some p) e = rw (← e, negated_in)
 
--- no operator's negation is 0
-abbrev by_tests : Bool → Bool → Bool → Bool → Option ℕ
-by_tests s t u v =
-    when s then Some GreaterEq else
-    when t then Some LessEq else
-    when u then Some GreaterThan else
-    when v then Some LessThan else
-    None
-
-negated-nonzero : (o : ℕ) → or_zero (negate_operator o) ≡ 0 → negate_operator o ≡ None
-unfolding negate_operator when◌then◌else◌
-negated-nonzero o = go (eqb o LessThan) (eqb o GreaterThan) (eqb o LessEq) (eqb o GreaterEq)
-  where
-    go : (s t u v : Bool) → or_zero (by_tests s t u v) ≡ 0 → by_tests s t u v ≡ None
-    go true t u v e = absurd (omega arith)
-    go false true u v e = absurd (omega arith)
-    go false false true v e = absurd (omega arith)
-    go false false false true e = absurd (omega arith)
-    go false false false false e = refl
-
-no_negated : (m : Option (ℕ × Terms)) → or_zero (negate_operator (operator_in m)) ≡ 0 → negated_in m ≡ None
+no_negated : (m : Option (ℕ × Terms)) → None ≡ negate_operator (operator_in m) → negated_in m ≡ None
 no_negated None e = refl
-no_negated (Some p) e = rw (negated-nonzero p.0 e, negated_in)
+no_negated (Some p) e = rw (← e, negated_in)
 
 -- the argument of a record that is laid out as a term
 only_below :
@@ -119,7 +92,8 @@ only_below b i x [] h e = let z : ◌≡◌ {A = ℕ} 0 1 = cc in absurd (omega 
 only_below b i x (a ∷ l) h e =
     let lower = (both (ltb a i) (all_below i l) h).0 in
     let same : tree b (earlier i a) ≡ tree b x = cc in
-    let is : earlier i a ≡ x = sym (record_number-tree b (earlier i a)) ∙ ap record_number same ∙ record_number-tree b x in
+    let is : earlier i a ≡ x =
+    sym (record_number-tree b (earlier i a)) ∙ ap record_number same ∙ record_number-tree b x in
     let first : a < i = ltb-true a i lower in
     subst (λ (z : ℕ). z < i) (sym (earlier-before i a first) ∙ is) first
 
@@ -143,7 +117,7 @@ module _ (b : Bytes) (i : ℕ) {r : Option ℕ} (n : Child b i r (remove_negatio
 
     pub negated-relation :
         {o : ℕ} → Laid b × (i < count b) → o ≡ operator_of (tree b x) → Equals ≤ o → o ≤ GreaterEq →
-        InnerIs b (operation.Of o x) (inner (tree b i))
+        InnerIs b (Some (o, x)) (inner (tree b i))
     negated-relation {o} (laid, inside) o_is h k =
         (inner_is ∙ is_relation_lem (as_op (tree b x)) o o_is h k, negated-below laid inside)
 
@@ -156,24 +130,20 @@ module _ (b : Bytes) (i : ℕ) {r : Option ℕ} (n : Child b i r (remove_negatio
     pub negated-high : {o : ℕ} → o ≡ operator_of (tree b x) → Equals ≤ o → GreaterEq < o → inner (tree b i) ≡ None
     negated-high {o} o_is h k = negated-other (rw (← o_is, le-leb Equals o h, lt-leb o GreaterEq k))
 
-  module _ (e : r ≡ None) {o p : ℕ} (o_is : o ≡ operator_of (tree b i))
-      (p_is : p ≡ or_zero (negate_operator o)) where
+  module _ (e : r ≡ None) {o : ℕ} (o_is : o ≡ operator_of (tree b i)) where
     plain : inner (tree b i) ≡ negated_in (as_op (tree b i))
     plain = plain-inner (tree b i) (sym n.is ∙ ap (found b) e)
 
-    operator_is : p ≡ or_zero (negate_operator (operator_of (tree b i)))
-    operator_is = p_is ∙ ap (λ (k : ℕ). or_zero (negate_operator k)) o_is
-
     pub plain-relation :
-        Laid b × (i < count b) → (p ≡ 0 → ⊥) → InnerIs b (operation.Of p i) (inner (tree b i))
-    plain-relation (laid, inside) h = (plain ∙ is_negated (as_op (tree b i)) p operator_is h, inside)
+        {p : ℕ} → Some p ≡ negate_operator o → Laid b × (i < count b) → InnerIs b (Some (p, i)) (inner (tree b i))
+    plain-relation p_is (laid, inside) = (plain ∙ is_negated (as_op (tree b i)) (rw o_is at p_is), inside)
 
-    pub plain_other : p ≡ 0 → inner (tree b i) ≡ None
-    plain_other h = plain ∙ no_negated (as_op (tree b i)) (sym operator_is ∙ h)
+    pub plain_other : None ≡ negate_operator o → inner (tree b i) ≡ None
+    plain_other none = plain ∙ no_negated (as_op (tree b i)) (rw o_is at none)
 
 -- ---- relation_of
 
-not-two-sides : (ts : Terms) → (size ts ≡ 2 → ⊥) → two_sides ts ≡ Err too_many_args_in_disequality
+not-two-sides : (ts : Terms) → (size ts ≡ 2 → ⊥) → two_sides ts ≡ Err TooManyArgsInDisequality
 not-two-sides nil h = refl
 not-two-sides (a ▹ nil) h = refl
 not-two-sides (a ▹ c ▹ nil) h = absurd (h refl)
@@ -183,41 +153,39 @@ not-two-sides (a ▹ c ▹ d ▹ ts) h = refl
 abbrev with_sides : ℕ → Result (Term × Term) → Result (ℕ × Term × Term)
 with_sides o m = m >>= λ p. Ok (o, p.0, p.1)
 
-module _ (b : Bytes) (i : ℕ) {r : Operation} (n : InnerIs b r (inner (tree b i))) where
-  pub no_relation_of : r ≡ operation.NoRelation → Refuses (number invalid_disequality_op) (relation_of (tree b i))
+pub no_relation_of :
+    (b : Bytes) (t : Term) (r : Option (ℕ × ℕ)) → InnerIs b r (inner t) → {e : Refusal} →
+    Err e ≡ ok_or r InvalidDisequalityOp → relation_of t ≡ Err e
+unfolding relation_of or_else ◌>>=◌
+no_relation_of b t (Some p) n h = cc
+no_relation_of b t None n {e} h = let is : InvalidDisequalityOp ≡ e = cc in rw (n, relation_of, is)
+
+module _
+    (b : Bytes) (i : ℕ) {o x : ℕ} (n : InnerIs b (Some (o, x)) (inner (tree b i))) (args : Bytes)
+    (args-is : forest (tree b) (arguments x (numbers args)) ≡ arguments_of (tree b x)) where
+  relation_is : relation_of (tree b i) ≡ with_sides o (two_sides (arguments_of (tree b x)))
   unfolding relation_of or_else ◌>>=◌
-  no_relation_of e =
-      let is : inner (tree b i) ≡ None = subst (λ (r : Operation). InnerIs b r (inner (tree b i))) e n in
-      refuses invalid_disequality_op (rw (is, relation_of))
+  relation_is = rw (n.0, relation_of)
 
-  module _ {o x : ℕ} (e : r ≡ operation.Of o x) (args : Bytes)
-      (args-is : forest (tree b) (arguments x (numbers args)) ≡ arguments_of (tree b x)) where
-    operation_is : InnerIs b (operation.Of o x) (inner (tree b i))
-    operation_is = subst (λ (r : Operation). InnerIs b r (inner (tree b i))) e n
+  pub other-sides : (length args / 2 ≡ 2 → ⊥) → relation_of (tree b i) ≡ Err TooManyArgsInDisequality
+  unfolding ◌>>=◌
+  other-sides h =
+      let many = not-two-sides (arguments_of (tree b x)) (λ k. h (counted (tree b x) b x args args-is ∙ k)) in
+      relation_is ∙ ap (with_sides o) many
 
-    relation_is : relation_of (tree b i) ≡ with_sides o (two_sides (arguments_of (tree b x)))
-    unfolding relation_of or_else ◌>>=◌
-    relation_is = rw (operation_is.0, relation_of)
+  side-below : Laid b → (k : ℕ) → k < length args / 2 → argument_at args k x < count b
+  side-below laid k h =
+      let inside = n.1 in
+      let all = args-below b x inside (laid x inside) args args-is in
+      omega (arith, next-below args x {k = k} h refl all)
 
-    pub other-sides : (length args / 2 ≡ 2 → ⊥) → Refuses (number too_many_args_in_disequality) (relation_of (tree b i))
-    unfolding ◌>>=◌
-    other-sides h =
-        let many = not-two-sides (arguments_of (tree b x)) (λ k. h (counted (tree b x) b x args args-is ∙ k)) in
-        refuses too_many_args_in_disequality (relation_is ∙ ap (with_sides o) many)
-
-    side-below : Laid b → (k : ℕ) → k < length args / 2 → argument_at args k x < count b
-    side-below laid k h =
-        let inside = operation_is.1 in
-        let all = args-below b x inside (laid x inside) args args-is in
-        omega (arith, next-below args x {k = k} h refl all)
-
-    pub two-sides :
-        {y z : ℕ} → Laid b → length args / 2 ≡ 2 → y ≡ argument_at args 0 x → z ≡ argument_at args 1 x →
-        RelationIs b (relation.Is o y z) (relation_of (tree b i))
-    unfolding ◌>>=◌
-    two-sides laid two y-is z-is =
-        let are = sym args-is ∙ forest_of_two (tree b) x args two in
-        rw (y-is, z-is) (
-          relation_is ∙ ap (λ (ts : Terms). with_sides o (two_sides ts)) are,
-          (side-below laid 0 (omega arith), side-below laid 1 (omega arith)),
-        )
+  pub two-sides :
+      {y z : ℕ} → Laid b → length args / 2 ≡ 2 → y ≡ argument_at args 0 x → z ≡ argument_at args 1 x →
+      RelationIs b (Ok (o, y, z)) (relation_of (tree b i))
+  unfolding ◌>>=◌
+  two-sides laid two y-is z-is =
+      let are = sym args-is ∙ forest_of_two (tree b) x args two in
+      rw (y-is, z-is) (
+        relation_is ∙ ap (λ (ts : Terms). with_sides o (two_sides ts)) are,
+        (side-below laid 0 (omega arith), side-below laid 1 (omega arith)),
+      )

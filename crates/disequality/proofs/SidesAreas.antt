@@ -1,6 +1,7 @@
 -- A literal's two sides in their areas: what `negate_disequality` and `disequality_of` leave there. Each call changes
 -- one of the two areas, so both are followed together. Each way of returning has its lemma, from what the calls before
 -- it have promised.
+use Rattle.std.specs.Prelude.{Err}
 use mathlib.Core.Path.{◌≡◌, refl, sym, subst, ◌∙◌}
 use mathlib.Core.List.{[]}
 use Prim.Native.Nat.{ℕ}
@@ -12,26 +13,23 @@ use Rattle.terms.specs.Book.{tree}
 use Rattle.terms.specs.Format.{work_bytes}
 use Rattle.rules.specs.Refusal.{Result, ◌>>=◌, or_else}
 use Rattle.std.specs.Prelude.{Ok}
-use Rattle.rules.specs.Refusal.Refusal.{invalid_disequality_op}
+use Rattle.rules.specs.declared.refusal.Refusal.{Refusal}
+use Rattle.rules.specs.declared.refusal.Refusal.TheVariants.{InvalidDisequalityOp}
 use Rattle.rules.specs.Limits.{Limits}
 use Rattle.linear_walk.specs.LinearTerms.{from_term}
 use Rattle.index_map.specs.Memory.Entries.{slots, stored, blanked, Held, Kept}
-use Rattle.disequality.specs.Disequality.{inner, two_sides, negate_disequality, disequality_of}
+use Rattle.disequality.specs.Disequality.{inner, two_sides, Disequality, negate_disequality, disequality_of}
 use Rattle.linear_walk.specs.Memory.Walks.{Walks}
-use Rattle.linear_comb.specs.Memory.WorkArea.{Sum, comb_of, KeptSum, Apart, area_of, with_area, OnlyArea}
-use Rattle.rules.specs.Memory.Parts.{Refuses}
+use Rattle.linear_comb.specs.Memory.WorkArea.{comb_of, KeptSum, Apart, area_of, with_area, OnlyArea}
 use Rattle.disequality.specs.Memory.DisequalitySteps.{Between, relation_of, RelationIs, SidesLeft}
 use Rattle.disequality.specs.Memory.DisequalitySteps.{LiteralIs, LiteralLeft, subtracted, SubtractedLeft}
-use Rattle.linear_walk.specs.declared.linear_walk.Walk.TheVariants.{Done, Refused}
-use Rattle.disequality.specs.declared.disequality.Relation.TheVariants as relation
+use Rattle.index_map.specs.declared.combination.Walked.{Walked}
 use Rattle.disequality.specs.declared.disequality.Sides.{Sides}
-use Rattle.disequality.specs.declared.disequality.Sides.TheVariants as sides
-use Rattle.disequality.specs.declared.disequality.Literal.{Literal}
-use Rattle.disequality.specs.declared.disequality.Literal.TheVariants as literal
-use Rattle.rules.proofs.Results.{bind-same, bind_assoc, refuses-as}
+use Rattle.disequality.specs.declared.disequality.Disequality as by_value
+use Rattle.rules.proofs.Results.{bind-same, bind_assoc}
 use Rattle.index_map.proofs.StoredEntries.{held-length}
 use Rattle.linear_comb.proofs.Areas.{empty-length, empty-held}
-use Rattle.linear_comb.proofs.AreaSteps.{kept-sum, sum_comb, answer-has, emptied-held, emptied-only, two-areas, Both}
+use Rattle.linear_comb.proofs.AreaSteps.{kept-sum, sum_comb, emptied-held, emptied-only, two-areas, Both}
 use Rattle.linear_comb.proofs.AreaSteps.{both-then, both_none, both-apart, then_first, then_second}
 use Rattle.linear_comb.proofs.AreaSteps.{in_first, both_read, both_first, both-only}
 
@@ -51,7 +49,7 @@ sides_of : (l : Limits) (phi : Term) (n : ℕ) →
       Ok (o, s1.sum, s2.sum, s2.visits))
 unfolding negate_disequality relation_of ◌>>=◌
 sides_of l phi n =
-    let args : Result (ℕ × Terms) = or_else (inner phi) invalid_disequality_op in
+    let args : Result (ℕ × Terms) = or_else (inner phi) InvalidDisequalityOp in
     bind-same args (λ x. sym (bind_assoc (two_sides x.1) _ _)) ∙ sym (bind_assoc args _ _)
 
 -- the areas are empty before
@@ -63,8 +61,7 @@ module _ {b w : Bytes} (between : Between b w) where
   right-empty only₁ = empty-held ((in_first between-both only₁).second ∙ between.right)
 
   module _ (l : Limits) (phi : Term) (n : ℕ) where
-    pub no_relation :
-        {c : ℕ} → Refuses c (relation_of phi) → SidesLeft b w w (sides.Refused c) (negate_disequality l phi n)
+    pub no_relation : {r : Refusal} → relation_of phi ≡ Err r → SidesLeft b w w (Err r) (negate_disequality l phi n)
     unfolding ◌>>=◌
     no_relation why =
         record {
@@ -73,18 +70,17 @@ module _ {b w : Bytes} (between : Between b w) where
           held-left = empty-held between.left;
           held-right = empty-held between.right;
           only = both-only between-both (both_none between-both);
-          is = (refuses-as why (λ r e. rw (sides_of, e)), (refl, refl));
+          is = (rw (sides_of, why), (refl, refl));
         }
 
     module _
-        {o x y : ℕ} {w₁ : Bytes} (found : RelationIs b (relation.Is o x y) (relation_of phi))
-        (only₁ : OnlyArea 1 w w₁) where
+        {o x y : ℕ} {w₁ : Bytes} (found : RelationIs b (Ok (o, x, y)) (relation_of phi)) (only₁ : OnlyArea 1 w w₁) where
       one : Both 1 2 w (area_of 1 w₁) (area_of 2 w) w₁
       one = in_first between-both only₁
 
       pub left-refused :
-          {c : ℕ} → Walks b (area_of 1 w₁) (Refused c) (from_term l (tree b x) n) →
-          SidesLeft b w w₁ (sides.Refused c) (negate_disequality l phi n)
+          {r : Refusal} → Walks b (area_of 1 w₁) (Err r) (from_term l (tree b x) n) →
+          SidesLeft b w w₁ (Err r) (negate_disequality l phi n)
       unfolding ◌>>=◌
       left-refused why =
           record {
@@ -93,11 +89,11 @@ module _ {b w : Bytes} (between : Between b w) where
             held-left = why.held;
             held-right = right-empty only₁;
             only = both-only between-both one;
-            is = (refuses-as why.is.0 (λ r e. rw (sides_of, found.0, e)), (why.is.1, refl));
+            is = (rw (sides_of, found.0, why.is.0), (why.is.1, refl));
           }
 
       module _
-          {s : Sum} {v : ℕ} {w₂ : Bytes} (left : Walks b (area_of 1 w₁) (Done s v) (from_term l (tree b x) n))
+          {u : Walked} {w₂ : Bytes} (left : Walks b (area_of 1 w₁) (Ok u) (from_term l (tree b x) n))
           (only₂ : OnlyArea 2 w₁ w₂) where
         two : Both 1 2 w (area_of 1 w₁) (area_of 2 w₂) w₂
         two = then_second between-both one only₂
@@ -105,13 +101,13 @@ module _ {b w : Bytes} (between : Between b w) where
         left-still : Held b (area_of 1 w₂) left.map
         left-still = rw two.first left.held
 
-        left-kept : Kept b (area_of 1 w₂) s.len
-        left-kept = record { map = left.map; held = left-still; size = left.is.1.0 }
+        left-kept : Kept b (area_of 1 w₂) u.sum.len
+        left-kept = (kept-sum left-still left.is.1).kept
 
         pub right-refused :
-            {c : ℕ} {w₃ : Bytes} → Walks b (area_of 2 w₂) (Refused c) (from_term l (tree b y) v) →
-            w₃ ≡ with_area 1 (blanked s.len (area_of 1 w₂)) w₂ →
-            SidesLeft b w w₃ (sides.Refused c) (negate_disequality l phi n)
+            {r : Refusal} {w₃ : Bytes} → Walks b (area_of 2 w₂) (Err r) (from_term l (tree b y) u.visits) →
+            w₃ ≡ with_area 1 (blanked u.sum.len (area_of 1 w₂)) w₂ →
+            SidesLeft b w w₃ (Err r) (negate_disequality l phi n)
         unfolding ◌>>=◌
         right-refused why clear =
             let now = (both-apart between-both two).first in
@@ -122,12 +118,13 @@ module _ {b w : Bytes} (between : Between b w) where
               held-left = emptied-held now left-kept clear;
               held-right = rw last.second why.held;
               only = both-only between-both last;
-              is = (refuses-as why.is.0 (λ r e. rw (sides_of, found.0, left.is.0, e)), (refl, why.is.1));
+              is = (rw (sides_of, found.0, left.is.0, why.is.0), (refl, why.is.1));
             }
 
         pub both-sides :
-            {t : Sum} {u : ℕ} → Walks b (area_of 2 w₂) (Done t u) (from_term l (tree b y) v) →
-            SidesLeft b w w₂ (sides.Both o s t u) (negate_disequality l phi n)
+            {v : Walked} → Walks b (area_of 2 w₂) (Ok v) (from_term l (tree b y) u.visits) →
+            SidesLeft b w w₂ (Ok (record { operator = o; left = u.sum; right = v.sum; visits = v.visits }))
+            (negate_disequality l phi n)
         unfolding ◌>>=◌
         both-sides right =
             record {
@@ -136,10 +133,7 @@ module _ {b w : Bytes} (between : Between b w) where
               held-left = left-still;
               held-right = right.held;
               only = both-only between-both two;
-              is = (
-                rw (sides_of, found.0, left.is.0, right.is.0),
-                (answer-has left.is.1, answer-has right.is.1),
-              );
+              is = (rw (sides_of, found.0, left.is.0, right.is.0), (left.is.1, right.is.1));
             }
 
 -- ---- disequality_of
@@ -153,13 +147,14 @@ difference_of_lem l phi n = refl
 
 module _ {b w w₁ : Bytes} (between : Between b w) (l : Limits) (phi : Term) (n : ℕ) where
   filled :
-      {r : Sides} → SidesLeft b w w₁ r (negate_disequality l phi n) → Both 1 2 w (area_of 1 w₁) (area_of 2 w₁) w₁
+      {r : Result Sides} → SidesLeft b w w₁ r (negate_disequality l phi n) →
+      Both 1 2 w (area_of 1 w₁) (area_of 2 w₁) w₁
   filled found =
       both_read (between-both between) (held-length found.held-left) (held-length found.held-right) found.only
 
   pub sides-refused :
-      {c : ℕ} → SidesLeft b w w₁ (sides.Refused c) (negate_disequality l phi n) →
-      LiteralLeft b w w₁ (literal.Refused c) (disequality_of l phi n)
+      {r : Refusal} → SidesLeft b w w₁ (Err r) (negate_disequality l phi n) →
+      LiteralLeft b w w₁ (Err r) (disequality_of l phi n)
   unfolding ◌>>=◌
   sides-refused why =
       let gone : area_of 2 w₁ ≡ stored slots [] = rw (← why.is.1.1) why.held-right.bytes in
@@ -167,20 +162,24 @@ module _ {b w w₁ : Bytes} (between : Between b w) (l : Limits) (phi : Term) (n
         map = why.left;
         held = why.held-left;
         only = both_first (between-both between) (filled why) (gone ∙ sym between.right);
-        is = (refuses-as why.is.0 (λ r e. rw (difference_of_lem, e)), why.is.1.0);
+        is = (rw (difference_of_lem, why.is.0), why.is.1.0);
       }
 
-  module _ {o v : ℕ} {s t : Sum} (found : SidesLeft b w w₁ (sides.Both o s t v) (negate_disequality l phi n)) where
+  module _ {s : Sides} (found : SidesLeft b w w₁ (Ok s) (negate_disequality l phi n)) where
     pub sides_apart : Apart 1 2 w₁
     sides_apart = both-apart (between-both between) (filled found)
 
-    pub left-side : KeptSum b (area_of 1 w₁) s
+    pub left-side : KeptSum b (area_of 1 w₁) s.left
     left-side = kept-sum found.held-left found.is.1.0
 
-    pub right_side : KeptSum b (area_of 2 w₁) t
+    pub right_side : KeptSum b (area_of 2 w₁) s.right
     right_side = kept-sum found.held-right found.is.1.1
 
-    difference_is : disequality_of l phi n ≡ subtracted l o (comb_of b (area_of 1 w₁) s) (comb_of b (area_of 2 w₁) t) v
+    abbrev difference : Result Disequality
+    difference =
+        subtracted l s.operator (comb_of b (area_of 1 w₁) s.left) (comb_of b (area_of 2 w₁) s.right) s.visits
+
+    difference_is : disequality_of l phi n ≡ difference
     unfolding ◌>>=◌
     difference_is =
         rw (
@@ -191,8 +190,7 @@ module _ {b w w₁ : Bytes} (between : Between b w) (l : Limits) (phi : Term) (n
         )
 
     pub literal-left :
-        {w₂ : Bytes} {e : Literal} →
-        SubtractedLeft b w₁ w₂ e (subtracted l o (comb_of b (area_of 1 w₁) s) (comb_of b (area_of 2 w₁) t) v) →
+        {w₂ : Bytes} {e : Result by_value.Disequality} → SubtractedLeft b w₁ w₂ e difference →
         LiteralLeft b w w₂ e (disequality_of l phi n)
     literal-left {e = e} last =
         let emptied = both_read sides_apart (held-length last.held) empty-length last.only in

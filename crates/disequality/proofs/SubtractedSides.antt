@@ -1,5 +1,7 @@
 -- The difference of a literal's two sides: what `turned` and `subtracted` leave in the area of the left side, and that
 -- the other is emptied. Each way of returning has its lemma, from what the calls before it have promised.
+use Rattle.std.specs.Prelude.{Err}
+use Rattle.index_map.specs.Memory.Answers.{Has}
 use mathlib.Core.Path.{◌≡◌, refl, sym, ap, ◌∙◌}
 use mathlib.Core.Logic.{◌≢◌}
 use mathlib.Core.List.{[], ◌∷◌}
@@ -12,22 +14,18 @@ use Rattle.terms.specs.Operator.{LessThan, LessEq, GreaterThan, GreaterEq}
 use Rattle.terms.specs.Term.{Term}
 use Rattle.numbers.specs.Choice.{when◌then◌else◌}
 use Rattle.numbers.proofs.Ranges.{proper-neg}
-use Rattle.rules.specs.Refusal.{number, Result, ◌>>=◌}
+use Rattle.rules.specs.Refusal.{Result, ◌>>=◌}
 use Rattle.std.specs.Prelude.{Ok}
-use Rattle.rules.specs.Refusal.Refusal.{number_range}
+use Rattle.rules.specs.declared.refusal.Refusal.{Refusal}
 use Rattle.rules.specs.Limits.{Limits}
 use Rattle.index_map.specs.IndexMap.{Map, combination, neg_all, neg, sub}
 use Rattle.linear_comb.specs.LinearComb.{LinearComb}
 use Rattle.index_map.specs.Memory.Entries.{terms, slots, stored, entries_of, blanked, Held}
 use Rattle.disequality.specs.Disequality.{turned, Disequality}
 use Rattle.linear_comb.specs.Memory.WorkArea.{Sum, comb_of, KeptSum, negated, Combines, Area, Apart, area_of, with_area}
-use Rattle.linear_comb.specs.Memory.WorkArea.{OnlyArea, SumHas}
+use Rattle.linear_comb.specs.Memory.WorkArea.{OnlyArea}
 use Rattle.disequality.specs.Memory.DisequalitySteps.{LiteralLeft, subtracted, SubtractedLeft}
-use Rattle.linear_comb.specs.declared.linear_comb.Combined.TheVariants as combined
 use Rattle.disequality.specs.declared.disequality.Disequality as by_value
-use Rattle.disequality.specs.declared.disequality.Literal.{Literal}
-use Rattle.disequality.specs.declared.disequality.Literal.TheVariants as literal
-use Rattle.rules.proofs.Results.{refuses}
 use Rattle.index_map.proofs.StoredEntries.{kept-entries}
 use Rattle.linear_comb.proofs.Areas.{only_none}
 use Rattle.linear_comb.proofs.AreaSteps.{kept-sum, sum_comb, Both, then_first, second_emptied, in_first, both-written}
@@ -40,8 +38,8 @@ neg-length [] = refl
 neg-length (e ∷ m) = ap suc (neg-length m)
 
 -- an operator and a combination by value, and the visits
-abbrev is_now : ℕ → Sum → ℕ → Literal
-is_now o s n = literal.Is (record { operator = o; sum = s; visits = n })
+abbrev is_now : ℕ → Sum → ℕ → Result by_value.Disequality
+is_now o s n = Ok (record { operator = o; sum = s; visits = n })
 
 module _ {b w : Bytes} {s : Sum} (a : Area 1 w) (kept : KeptSum b (area_of 1 w) s) (o n : ℕ) where
   pub as_it_is :
@@ -62,7 +60,7 @@ module _ {b w : Bytes} {s : Sum} (a : Area 1 w) (kept : KeptSum b (area_of 1 w) 
   module _
       {w' : Bytes} {r : Sum} (is : r ≡ negated s) (only : OnlyArea 1 w w')
       (held : Held b (area_of 1 w') (neg_all (entries_of b (area_of 1 w) s.len))) where
-    has : SumHas r (neg_all (entries_of b (area_of 1 w) s.len))
+    has : Has r (neg_all (entries_of b (area_of 1 w) s.len))
     has =
         rw is
         record {
@@ -97,20 +95,19 @@ module _
     result = subtracted l o (comb_of b (area_of 1 w) s) (comb_of b (area_of 2 w) t) n
 
     pub out_of_range :
-        Combines b (area_of 1 w₁) combined.OutOfRange difference →
-        SubtractedLeft b w w₂ (literal.Refused (number number_range)) result
+        {r : Refusal} → Combines b (area_of 1 w₁) (Err r) difference → SubtractedLeft b w w₂ (Err r) result
     unfolding subtracted ◌>>=◌
     out_of_range out =
         record {
           map = out.map;
           held = rw so_far.first out.held;
           only = both-written a so_far;
-          is = (refuses number_range (rw (subtracted, out.is.0)), out.is.1);
+          is = (rw (subtracted, out.is.0), out.is.1);
         }
 
     -- the constant on the right
     module _
-        {d : Sum} (sum : Combines b (area_of 1 w₁) (combined.Is d) difference) {q : Rational}
+        {d : Sum} (sum : Combines b (area_of 1 w₁) (Ok d) difference) {q : Rational}
         (turn : Makes q (neg_q d.constant)) where
       abbrev over : Sum
       over = record { len = d.len; constant = q }
@@ -118,8 +115,8 @@ module _
       over-held : Held b (area_of 1 w₂) sum.map
       over-held = rw so_far.first sum.held
 
-      over-has : SumHas over sum.map
-      over-has = record { size = sum.is.1.0; proper = turn.proper }
+      over-has : Has over sum.map
+      over-has = record { size = sum.is.1.size; proper = turn.proper }
 
       over_is : combination sum.map (neg_q d.constant) ≡ comb_of b (area_of 1 w₂) over
       over_is = ap (combination sum.map) (sym turn.is) ∙ sym (sum_comb over-held over-has)
@@ -127,8 +124,8 @@ module _
       pub subtracted-left :
           {w₃ : Bytes} {e : by_value.Disequality} →
           (KeptSum b (area_of 1 w₂) over →
-          LiteralLeft b w₂ w₃ (literal.Is e) (Ok (turned o (comb_of b (area_of 1 w₂) over) n))) →
-          SubtractedLeft b w w₃ (literal.Is e) result
+          LiteralLeft b w₂ w₃ (Ok e) (Ok (turned o (comb_of b (area_of 1 w₂) over) n))) →
+          SubtractedLeft b w w₃ (Ok e) result
       unfolding subtracted ◌>>=◌
       subtracted-left turning =
           let last = turning (kept-sum over-held over-has) in

@@ -10,7 +10,7 @@ use Rattle.terms.specs.Term.Terms.{nil, ◌▹◌}
 use Rattle.terms.specs.Readers.{as_op, remove_negation}
 use Rattle.rules.specs.Refusal.{Result, or_else, ◌>>=◌}
 use Rattle.std.specs.Prelude.{Ok, Err}
-use Rattle.rules.specs.Refusal.Refusal.{invalid_disequality_op, too_many_args_in_disequality}
+use Rattle.rules.specs.declared.refusal.Refusal.TheVariants.{InvalidDisequalityOp, TooManyArgsInDisequality}
 use Rattle.rules.specs.Limits.{Limits, plus}
 use Rattle.index_map.specs.IndexMap.{combination, neg, sub}
 use Rattle.linear_walk.specs.LinearTerms.{from_term}
@@ -41,10 +41,10 @@ inner t = elim (negated_op t) [
 ]
 
 abbrev pub two_sides : Terms → Result (Term × Term)
-two_sides nil = Err too_many_args_in_disequality
-two_sides (a ▹ nil) = Err too_many_args_in_disequality
+two_sides nil = Err TooManyArgsInDisequality
+two_sides (a ▹ nil) = Err TooManyArgsInDisequality
 two_sides (a ▹ b ▹ nil) = Ok (a, b)
-two_sides (a ▹ b ▹ c ▹ ts) = Err too_many_args_in_disequality
+two_sides (a ▹ b ▹ c ▹ ts) = Err TooManyArgsInDisequality
 
 -- an operator and a combination, whose constant stands on the right; and the visits made so far
 pub record Disequality : Type 0 where
@@ -58,7 +58,7 @@ disequality o s n = record { operator = o; sum = s; visits = n }
 -- the operator and the two sides
 unfoldable pub negate_disequality : Limits → Term → ℕ → Result (ℕ × LinearComb × LinearComb × ℕ)
 negate_disequality l phi n = do
-  (o, args) ← or_else (inner phi) invalid_disequality_op
+  (o, args) ← or_else (inner phi) InvalidDisequalityOp
   (a, b) ← two_sides args
   s1 ← from_term l a n
   s2 ← from_term l b s1.visits

@@ -16,163 +16,130 @@ ghost use Rattle.linear_walk.specs.Memory.Walks.{Walks};
 ghost use Rattle.linear_comb.specs.Memory.WorkArea.{comb_of, KeptSum, SumFits, SumScales};
 ghost use Rattle.index_map.specs.Memory.Entries.{Held, Kept};
 ghost use Rattle.rules.specs.Memory.Parts.{Laid};
-ghost use Rattle.disequality.specs.Memory.DisequalitySteps.{relation_refusal, sides_refusal, literal_refusal};
-ghost use Rattle.disequality.specs.Memory.DisequalitySteps.{Between, or_zero, InnerIs, relation_of, RelationIs};
+ghost use Rattle.disequality.specs.Memory.DisequalitySteps.{Between, InnerIs, relation_of, RelationIs};
 ghost use Rattle.disequality.specs.Memory.DisequalitySteps.{SidesLeft, LiteralLeft, constant_side};
 ghost use Rattle.disequality.specs.Memory.DisequalitySteps.{subtracted, SubtractedLeft, StrengthenedIs};
-ghost use Rattle.disequality.specs.declared.disequality.Literal.TheVariants as literal;
 
-use linear_comb::linear_comb::{Combined, LinearComb, coefficients_gcd};
+use index_map::combination::Walked;
+use linear_comb::linear_comb::{LinearComb, coefficients_gcd};
 use linear_walk::from_term::from_term;
-use linear_walk::linear_walk::{Walk, walk_refusal};
 use numbers::number::Number;
-use terms::operator::{EQUALS, GREATER_EQ, GREATER_THAN, LESS_EQ, LESS_THAN, NO_OPERATOR};
+use rules::counter::Counter;
+use rules::refusal::Refusal;
+use terms::operator::{EQUALS, GREATER_EQ, GREATER_THAN, LESS_EQ, LESS_THAN};
 use terms::records::argument;
-use terms::refusal::{INVALID_DISEQUALITY_OP, NUMBER_RANGE, TOO_MANY_ARGS_IN_DISEQUALITY};
 use terms::term::{args, as_number, operator, remove_negation};
 use work_area::work_area::{LEFT, RIGHT, clear_in, neg_in, sub};
 
 // ---- negate_disequality
 
-// An operator, and the record whose arguments it stands between.
-#[derive(Clone, Copy)]
-pub enum Operation {
-    Of(u8, usize),
-    NoRelation,
-}
-
-// The relation that a literal's negation is, and the records of its two sides.
-#[derive(Clone, Copy)]
-pub enum Relation {
-    Is(u8, usize, usize),
-    // Document 01's number of the refusal.
-    Refused(u8),
-}
-
-// The number of a relation's refusal; 0 where there is none.
-fn relation_refusal(r: Relation) -> u8
-    ensures { result ≡ relation_refusal r }
-{
-    match r {
-        Relation::Is(_, _, _) => 0,
-        Relation::Refused(code) => code,
-    }
-}
-
-// The operator, the two sides, and the visits made so far.
-#[derive(Clone, Copy)]
-pub enum Sides {
-    Both(u8, LinearComb, LinearComb, u32),
-    // Document 01's number of the refusal.
-    Refused(u8),
-}
-
-// The number of the sides' refusal; 0 where there is none.
-fn sides_refusal(r: Sides) -> u8
-    ensures { result ≡ sides_refusal r }
-{
-    match r {
-        Sides::Both(_, _, _, _) => 0,
-        Sides::Refused(code) => code,
-    }
-}
-
-// The operator that holds where o does not; `NO_OPERATOR` where there is none.
-fn negate_operator(o: u8) -> u8
-    ensures { result ≡ or_zero (negate_operator o) }
+// The operator that holds where o does not.
+fn negate_operator(o: u8) -> Option<u8>
+    ensures { result ≡ negate_operator o }
 {
     match o {
-        LESS_THAN => GREATER_EQ,
-        LESS_EQ => GREATER_THAN,
-        GREATER_THAN => LESS_EQ,
-        GREATER_EQ => LESS_THAN,
-        _ => NO_OPERATOR,
+        LESS_THAN => Some(GREATER_EQ),
+        LESS_EQ => Some(GREATER_THAN),
+        GREATER_THAN => Some(LESS_EQ),
+        GREATER_EQ => Some(LESS_THAN),
+        _ => None,
     }
 }
 
-// Of a negated relation the relation itself; of any other operation its negated operator.
-fn inner(book: &[u8], phi: usize) -> Operation
+// Of a negated relation the relation itself; of any other operation its negated operator. With the record whose
+// arguments the operator stands between.
+fn inner(book: &[u8], phi: usize) -> Option<(u8, usize)>
     requires { Laid book.now × (phi < count book.now) }
     ensures { InnerIs book.now result (inner (tree book.now phi)) }
 {
     if let Some(x) = remove_negation(book, phi) {
         let o = operator(book, x);
         return match o {
-            EQUALS..=GREATER_EQ => Operation::Of(o, x),
-            _ => Operation::NoRelation,
+            EQUALS..=GREATER_EQ => Some((o, x)),
+            _ => None,
         };
     }
-    let p = negate_operator(operator(book, phi));
-    if p == NO_OPERATOR {
-        return Operation::NoRelation;
-    }
-    Operation::Of(p, phi)
+    Some((negate_operator(operator(book, phi))?, phi))
 }
 
-fn relation_of(book: &[u8], phi: usize) -> Relation
+// The relation that a literal's negation is, and the records of its two sides.
+fn relation_of(book: &[u8], phi: usize) -> Result<(u8, usize, usize), Refusal>
     requires { Laid book.now × (phi < count book.now) }
     ensures { RelationIs book.now result (relation_of (tree book.now phi)) }
 {
-    let Operation::Of(o, x) = inner(book, phi) else {
-        return Relation::Refused(INVALID_DISEQUALITY_OP);
-    };
+    let (o, x) = inner(book, phi).ok_or(Refusal::InvalidDisequalityOp)?;
     let sides = args(book, x);
     if sides.len() / 2 != 2 {
-        return Relation::Refused(TOO_MANY_ARGS_IN_DISEQUALITY);
+        return Err(Refusal::TooManyArgsInDisequality);
     }
-    Relation::Is(o, argument(sides, 0, x), argument(sides, 1, x))
+    Ok((o, argument(sides, 0, x), argument(sides, 1, x)))
 }
 
 // The combination that a constant is; `visits` are made with it.
-fn constant_side(q: Number, visits: u32) -> Walk
+fn constant_side(q: Number, visits: u32) -> Result<Walked, Refusal>
     requires { Proper q }
     ensures { (b w : Bytes) → Held b w [] → (l : ℕ) → Walks b w result (constant_side (limited l) q visits) }
 {
-    let Some(c) = q.mul(Number::whole(1)) else {
-        return Walk::Refused(NUMBER_RANGE);
-    };
-    let Some(constant) = Number::whole(0).add(c) else {
-        return Walk::Refused(NUMBER_RANGE);
-    };
-    Walk::Done(LinearComb { len: 0, constant }, visits)
+    let c = q.mul(Number::whole(1)).ok_or(Refusal::NumberRange)?;
+    let constant = Number::whole(0).add(c).ok_or(Refusal::NumberRange)?;
+    let sum = LinearComb { len: 0, constant };
+    Ok(Walked { sum, visits })
 }
 
 // The right side, in its area, which is empty before. It is a constant as a rule, and then nothing is walked.
-fn right_side(book: &[u8], work: &mut [u8], id: usize, visits: u32, limit: u32) -> Walk
+fn right_side(book: &[u8], work: &mut [u8], id: usize, counter: Counter) -> Result<Walked, Refusal>
     requires { Area right_side work.old × (Laid book.now ×
         ((id < count book.now) × Held book.now (area_of right_side work.old) [])) }
     ensures only_area { OnlyArea right_side work.old work.new }
     ensures walks { Walks book.now (area_of right_side work.new) result
-        (from_term (limited limit) (tree book.now id) visits) }
+        (from_term (limited counter.limit) (tree book.now id) counter.visits) }
 {
-    if visits < limit {
+    if counter.visits < counter.limit {
         if let Ok(q) = as_number(book, id) {
-            return constant_side(q, visits + 1);
+            return constant_side(q, counter.visits + 1);
         }
     }
-    from_term(book, work, RIGHT, id, visits, limit)
+    from_term(book, work, RIGHT, id, counter)
+}
+
+// An operator, the combinations of its two sides, and the visits made so far.
+#[derive(Clone, Copy)]
+pub(crate) struct Sides {
+    pub operator: u8,
+    pub left: LinearComb,
+    pub right: LinearComb,
+    pub visits: u32,
 }
 
 // Fills the areas of both sides, which are empty before; a refusal leaves both empty.
-fn negate_disequality(book: &[u8], work: &mut [u8], phi: usize, visits: u32, limit: u32) -> Sides
+fn negate_disequality(
+    book: &[u8],
+    work: &mut [u8],
+    phi: usize,
+    counter: Counter,
+) -> Result<Sides, Refusal>
     requires { Between book.now work.old × (phi < count book.now) }
     ensures { SidesLeft book.now work.old work.new result
-        (negate_disequality (limited limit) (tree book.now phi) visits) }
+        (negate_disequality (limited counter.limit) (tree book.now phi) counter.visits) }
 {
-    let relation = relation_of(book, phi);
-    let Relation::Is(o, x, y) = relation else {
-        return Sides::Refused(relation_refusal(relation));
+    let (operator, x, y) = relation_of(book, phi)?;
+    let left = from_term(book, work, LEFT, x, counter)?;
+    let seen = Counter {
+        visits: left.visits,
+        ..counter
     };
-    let first = from_term(book, work, LEFT, x, visits, limit);
-    let Walk::Done(s, seen) = first else {
-        return Sides::Refused(walk_refusal(first));
-    };
-    let second = right_side(book, work, y, seen, limit);
-    let Walk::Done(t, total) = second else {
-        clear_in(work, LEFT, s.len);
-        return Sides::Refused(walk_refusal(second));
-    };
-    Sides::Both(o, s, t, total)
+    match right_side(book, work, y, seen) {
+        Ok(right) => Ok(Sides {
+            operator,
+            left: left.sum,
+            right: right.sum,
+            visits: right.visits,
+        }),
+        Err(r) => {
+            clear_in(work, LEFT, left.sum.len);
+            Err(r)
+        }
+    }
 }
 
 // ---- steps 1 to 3
@@ -185,28 +152,11 @@ pub struct Disequality {
     pub visits: u32,
 }
 
-#[derive(Clone, Copy)]
-pub enum Literal {
-    Is(Disequality),
-    // Document 01's number of the refusal.
-    Refused(u8),
-}
-
-// The number of a literal's refusal; 0 where there is none.
-pub fn literal_refusal(l: Literal) -> u8
-    ensures { result ≡ literal_refusal l }
-{
-    match l {
-        Literal::Is(_) => 0,
-        Literal::Refused(code) => code,
-    }
-}
-
 // < and <= are turned to > and >=.
 fn turned(work: &mut [u8], o: u8, s: LinearComb, visits: u32) -> Disequality
     requires { Area left_side work.old × SumFits s }
     ensures { (b : Bytes) → KeptSum b (area_of left_side work.old) s →
-        LiteralLeft b work.old work.new (literal.Is result)
+        LiteralLeft b work.old work.new (Ok result)
         (Ok (turned o (comb_of b (area_of left_side work.old) s) visits)) }
 {
     match o {
@@ -228,74 +178,69 @@ fn turned(work: &mut [u8], o: u8, s: LinearComb, visits: u32) -> Disequality
     }
 }
 
-// Both sides subtracted where the right one has no atoms: d is its constant, and its area is not touched.
-fn bounded(work: &mut [u8], o: u8, s: LinearComb, d: Number, visits: u32) -> Literal
+// Both sides subtracted where the right one has no atoms: its area is not touched.
+fn bounded(work: &mut [u8], s: Sides) -> Result<Disequality, Refusal>
     requires { Apart left_side right_side work.old ×
-        (((b : Bytes) × KeptSum b (area_of left_side work.old) s) × Proper d) }
-    ensures { (b : Bytes) → KeptSum b (area_of left_side work.old) s →
+        (((b : Bytes) × KeptSum b (area_of left_side work.old) s.left) × Proper s.right.constant) }
+    ensures { (b : Bytes) → KeptSum b (area_of left_side work.old) s.left →
         Held b (area_of right_side work.old) [] → (l : ℕ) →
         SubtractedLeft b work.old work.new result
-        (subtracted (limited l) o (comb_of b (area_of left_side work.old) s) (combination [] d) visits) }
+        (subtracted (limited l) s.operator (comb_of b (area_of left_side work.old) s.left)
+        (combination [] s.right.constant) s.visits) }
 {
-    let Some(difference) = s.constant.add(d.neg()) else {
-        clear_in(work, LEFT, s.len);
-        return Literal::Refused(NUMBER_RANGE);
+    let Some(difference) = s.left.constant.add(s.right.constant.neg()) else {
+        clear_in(work, LEFT, s.left.len);
+        return Err(Refusal::NumberRange);
     };
     let right = LinearComb {
-        len: s.len,
+        len: s.left.len,
         constant: difference.neg(),
     };
-    Literal::Is(turned(work, o, right, visits))
+    Ok(turned(work, s.operator, right, s.visits))
 }
 
 // Both sides subtracted: all atoms on the left, the constant on the right. The area of the right side is empty
 // afterwards.
-fn subtracted(work: &mut [u8], o: u8, s: LinearComb, t: LinearComb, visits: u32) -> Literal
+fn subtracted(work: &mut [u8], s: Sides) -> Result<Disequality, Refusal>
     requires { Apart left_side right_side work.old ×
-        ((b : Bytes) × (KeptSum b (area_of left_side work.old) s × KeptSum b (area_of right_side work.old) t)) }
-    ensures { (b : Bytes) → KeptSum b (area_of left_side work.old) s →
-        KeptSum b (area_of right_side work.old) t → (l : ℕ) →
+        ((b : Bytes) × (KeptSum b (area_of left_side work.old) s.left ×
+        KeptSum b (area_of right_side work.old) s.right)) }
+    ensures { (b : Bytes) → KeptSum b (area_of left_side work.old) s.left →
+        KeptSum b (area_of right_side work.old) s.right → (l : ℕ) →
         SubtractedLeft b work.old work.new result
-        (subtracted (limited l) o (comb_of b (area_of left_side work.old) s)
-        (comb_of b (area_of right_side work.old) t) visits) }
+        (subtracted (limited l) s.operator (comb_of b (area_of left_side work.old) s.left)
+        (comb_of b (area_of right_side work.old) s.right) s.visits) }
 {
-    if t.len == 0 {
-        return bounded(work, o, s, t.constant, visits);
+    if s.right.len == 0 {
+        return bounded(work, s);
     }
-    let answer = sub(work, LEFT, s, RIGHT, t);
-    clear_in(work, RIGHT, t.len);
-    let Combined::Is(difference) = answer else {
-        return Literal::Refused(NUMBER_RANGE);
-    };
+    let answer = sub(work, LEFT, s.left, RIGHT, s.right);
+    clear_in(work, RIGHT, s.right.len);
+    let difference = answer?;
     let right = LinearComb {
         len: difference.len,
         constant: difference.constant.neg(),
     };
-    Literal::Is(turned(work, o, right, visits))
+    Ok(turned(work, s.operator, right, s.visits))
 }
 
 // The literal negated, as a disequality with > or >= or =, in the area of the left side; a refusal leaves the areas of
 // both sides empty.
-pub fn disequality_of(book: &[u8], work: &mut [u8], phi: usize, visits: u32, limit: u32) -> Literal
+pub fn disequality_of(
+    book: &[u8],
+    work: &mut [u8],
+    phi: usize,
+    counter: Counter,
+) -> Result<Disequality, Refusal>
     requires { Between book.now work.old × (phi < count book.now) }
     ensures { LiteralLeft book.now work.old work.new result
-        (disequality_of (limited limit) (tree book.now phi) visits) }
+        (disequality_of (limited counter.limit) (tree book.now phi) counter.visits) }
 {
-    let sides = negate_disequality(book, work, phi, visits, limit);
-    let Sides::Both(o, s, t, seen) = sides else {
-        return Literal::Refused(sides_refusal(sides));
-    };
-    subtracted(work, o, s, t, seen)
+    let sides = negate_disequality(book, work, phi, counter)?;
+    subtracted(work, sides)
 }
 
 // ---- strengthen
-
-#[derive(Clone, Copy)]
-pub enum Strengthened {
-    Is(u8, LinearComb),
-    // Refusal 11.
-    OutOfRange,
-}
 
 // Whether the constant times the argument is whole; the product itself is not tested for its range.
 fn is_integer_times(d: Number, a: Number) -> bool
@@ -315,19 +260,22 @@ fn is_integer_times(d: Number, a: Number) -> bool
 }
 
 // The constant is rounded down, and then raised.
-fn raised(len: usize, floor: Number, step: i64) -> Strengthened
+fn raised(len: usize, floor: Number, step: i64) -> Result<(u8, LinearComb), Refusal>
     requires { Proper floor × Proper (whole step) }
     ensures { (m : Map Term) → len ≡ length m → (l : ℕ) →
         StrengthenedIs m result (raised (limited l) (combination m floor) step) }
 {
-    let Some(constant) = floor.add(Number::whole(step)) else {
-        return Strengthened::OutOfRange;
-    };
-    Strengthened::Is(GREATER_EQ, LinearComb { len, constant })
+    let constant = floor.add(Number::whole(step)).ok_or(Refusal::NumberRange)?;
+    Ok((GREATER_EQ, LinearComb { len, constant }))
 }
 
 // A disequality over integers; `entries` are its own.
-pub fn strengthen(entries: &[u8], o: u8, s: LinearComb, a: Number) -> Strengthened
+pub fn strengthen(
+    entries: &[u8],
+    o: u8,
+    s: LinearComb,
+    a: Number,
+) -> Result<(u8, LinearComb), Refusal>
     requires { SumScales s a }
     ensures { (b : Bytes) (k : Kept b entries.now s.len) (l : ℕ) →
         StrengthenedIs k.map result (strengthen (limited l) o (comb_of b entries.now s) a) }
@@ -345,10 +293,10 @@ pub fn strengthen(entries: &[u8], o: u8, s: LinearComb, a: Number) -> Strengthen
             raised(s.len, floor, 1)
         },
         GREATER_EQ => if whole {
-            Strengthened::Is(o, s)
+            Ok((o, s))
         } else {
             raised(s.len, floor, 1)
         },
-        _ => Strengthened::Is(o, s),
+        _ => Ok((o, s)),
     }
 }

@@ -8,7 +8,10 @@ use Prim.Native.Nat.{ℕ, ◌+◌, ◌≤◌, ◌<◌}
 use lib.ListN.{length}
 use Rattle.numbers.specs.Rational.{Rational}
 use Rattle.numbers.specs.Bytes.{Bytes}
-use Rattle.std.specs.Prelude.{Ok}
+use Rattle.std.specs.Prelude.{Some, Ok, Err, is_some}
+use Rattle.rules.specs.Refusal.{Result}
+use Rattle.rules.specs.declared.refusal.Refusal.{Refusal}
+use Rattle.runs.specs.declared.verdict.Verdict.TheVariants.{AllAccepted, Stopped}
 use Rattle.rules.specs.Limits.{limited}
 use Rattle.rules.specs.Memory.Parts.{Ready}
 use Rattle.runs.specs.Run.{Step, read_run, steps_of}
@@ -21,15 +24,13 @@ use Rattle.marking.specs.declared.check.Marked.{Marked}
 use Rattle.runs.proofs.RunRecords.{part_from}
 use Rattle.marking.proofs.CheckLoops.{Shows, answer_to, ended_as, placed, turn-same, turn-stays, turn-over, turn-done}
 use Rattle.marking.proofs.CheckLoops.{turn-answered, turn-refused, turn-accepted, first, OnTheWay, way-begins, way-goes}
-use Rattle.marking.proofs.CheckLoops.{turns_in, way-less, way-marking, way-ends}
+use Rattle.marking.proofs.CheckLoops.{ended_by, turns_in, way-less, way-marking, way-ends}
 use Rattle.elaborate.specs.Elaborate.{add_steps}
 use Rattle.out_areas.specs.Farkas.{Written, written, add_reals}
-use Rattle.farkas.specs.Memory.FarkasSteps.{more_step, stepped_refusal, SteppedIs, SteppedLeft}
+use Rattle.farkas.specs.Memory.FarkasSteps.{more_step, SteppedLeft}
 use Rattle.out_areas.specs.Memory.OutAreas.{Holds, with_step}
 use Rattle.elaborate.specs.Memory.OutMemory.{ElaboratesTo, TurnsWritten, Elaborates}
 use Rattle.out_areas.specs.declared.out_areas.Out.{Out}
-use Rattle.farkas.specs.declared.farkas.Stepped.{Stepped}
-use Rattle.farkas.specs.declared.farkas.Stepped.TheVariants as stepped
 use Rattle.elaborate.specs.declared.elaborate.Elaborating.{Elaborating}
 use Rattle.out_areas.proofs.OutAreas.{holds-back, holds_none}
 
@@ -77,22 +78,22 @@ module _ {b run o t : Bytes} {e : Elaborating} {σ : State} (under : Under b run
   abbrev step : Step
   step = step_in b (part_from run e.state.at)
 
-  abbrev Left : Bytes → Bytes → Stepped → Type 0
+  abbrev Left : Bytes → Bytes → Result (ℕ × Out) → Type 0
   Left o' t' r =
       SteppedLeft b o t e.out o' t' r (with_step step)
       (more_step b (length o) (length t) step e.state.counter.limit e.state.counter.visits)
       (answer_to b run e.state)
 
-  pub written-stays : e.state.ended ≡ true → Next o t e
+  pub written-stays : is_some e.state.verdict ≡ true → Next o t e
   written-stays h =
       record {
         state = turn-stays under.shows h;
         holds = as-next o t e.out (turn-same under.shows h) under.holds;
       }
 
-  module _ (going : e.state.ended ≡ false) where
+  module _ (going : is_some e.state.verdict ≡ false) where
     pub written_over :
-        length run ≤ e.state.at → {s : by_value.State} → s ≡ ended_as e.state 0 →
+        length run ≤ e.state.at → {s : by_value.State} → s ≡ ended_as e.state AllAccepted →
         Next o t (record { state = s; out = e.out })
     written_over h is =
         record {
@@ -101,34 +102,26 @@ module _ {b run o t : Bytes} {e : Elaborating} {σ : State} (under : Under b run
         }
 
     -- a step is there, which is checked and written
-    module _ (h : e.state.at < length run) {o' t' : Bytes} {r : Stepped} (left : Left o' t' r) where
-      said : (s : Stepped) → r ≡ s → SteppedIs b o' t' s (with_step step (steps_written b σ)) (answer_to b run e.state)
-      said s f =
-          subst (λ z. SteppedIs b o' t' z (with_step step (steps_written b σ)) (answer_to b run e.state)) f
-          (left.is (steps_written b σ) under.holds)
-
+    module _ (h : e.state.at < length run) {o' t' : Bytes} where
       pub written-refused :
-          length o' ≡ length o → length t' ≡ length t → {c : ℕ} → r ≡ stepped.Refused c → {n : ℕ} →
-          n ≡ stepped_refusal r → {s : by_value.State} → s ≡ ended_as e.state n →
-          Next o' t' (record { state = s; out = e.out })
-      written-refused size size' {c} f number_is is =
-          let refuses = said (stepped.Refused c) f in
+          (r : Refusal) → Left o' t' (Err r) → length o' ≡ length o → length t' ≡ length t → {s : by_value.State} →
+          s ≡ ended_as e.state (Stopped r) → Next o' t' (record { state = s; out = e.out })
+      written-refused r left size size' is =
+          let refused = left.is (steps_written b σ) under.holds in
           record {
-            state =
-                is ∙ ap (ended_as e.state) (number_is ∙ ap stepped_refusal f)
-                ∙ turn-refused under.shows going h refuses;
+            state = is ∙ turn-refused under.shows going h r refused;
             holds =
-                as-next o' t' e.out (turn-answered under.shows going h ∙ ap (answered σ step) refuses.is)
+                as-next o' t' e.out (turn-answered under.shows going h ∙ ap (answered σ step) refused)
                 (holds-back b e.out (steps_written b σ) left.fronts size size' under.holds);
           }
 
       pub written-accepted :
-          (n : ℕ) (longer : Out) → r ≡ stepped.Accepted n longer → {m : ℕ} →
+          (n : ℕ) (longer : Out) → Left o' t' (Ok (n, longer)) → {m : ℕ} →
           m ≡ bytes_in (part_from run e.state.at) → {s : by_value.State} →
           s ≡ placed (e.state.at + m) (e.state.steps + 1) n e.state.counter.limit →
           Next o' t' (record { state = s; out = longer })
-      written-accepted n longer f size is =
-          let accepts = said (stepped.Accepted n longer) f in
+      written-accepted n longer left size is =
+          let accepts = left.is (steps_written b σ) under.holds in
           let a : Accepted = accepts.0 in
           record {
             state = is ∙ turn-accepted under.shows going h a accepts.1.0 accepts.1.1.0 size;
@@ -197,19 +190,20 @@ module _ {g : Given} {work o t : Bytes} {e : Elaborating} (going : Going g work 
         }
 
     pub going_less :
-        e.state.ended ≡ false → turns_in g.book g.run r.state < turns_in g.book g.run e.state
+        is_some e.state.verdict ≡ false → turns_in g.book g.run r.state < turns_in g.book g.run e.state
     going_less h = way-less going.way h next.state
 
   pub going_end :
-      e.state.ended ≡ true →
+      is_some e.state.verdict ≡ true →
       Elaborates g.book o t e (check_steps (limited g.limit) (steps_of g.book g.run))
   going_end h =
-      let is = way-ends going.way h in
+      let found = ended_by e.state.verdict h in
+      let is = way-ends going.way found.1 in
       record {
-        verdict = ap (λ (m : Marked). m.verdict) is;
+        verdict = found.1 ∙ ap (λ (m : Marked). Some m.verdict) is;
         steps = ap (λ (m : Marked). m.steps) is;
         visits = ap (λ (m : Marked). m.visits) is;
         holds =
             subst (λ (m : Marking). Holds g.book o t e.out (add_steps g.book (written [] []) m.steps))
-            (way-marking going.way h) going.holds;
+            (way-marking going.way found.1) going.holds;
       }

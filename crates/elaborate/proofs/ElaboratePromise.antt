@@ -2,6 +2,9 @@
 --     whole-answer       what is written has whole records, so the written part of an out area is all of it
 --     promised       demand 1's known state, the room of book and tail, and demand 3 of what is answered and written
 --     elaborates_left       the calls of `elaborate` together
+use Rattle.runs.specs.declared.verdict.Verdict.{Verdict}
+use Rattle.runs.specs.declared.verdict.Verdict.TheVariants.{Lent}
+use Rattle.runs.specs.declared.verdict.LentRefusal.TheVariants.{NoRoom}
 use mathlib.Core.Path.{◌≡◌, refl, sym, ap, ap₂, subst, ◌∙◌}
 use mathlib.Core.Bool.{Bool, true, false}
 use mathlib.Core.List.{[]}
@@ -11,8 +14,6 @@ use lib.ListN.{length}
 use Rattle.numbers.specs.Bytes.{Bytes}
 use Rattle.book.proofs.Accepted.{accepted-count}
 use Rattle.rules.specs.Limits.{limited}
-use Rattle.runs.specs.Verdict.{Verdict, lent}
-use Rattle.runs.specs.Verdict.LentRefusal.{no_room}
 use Rattle.marking.specs.Check.{Marking, check}
 use Rattle.elaborate.specs.Elaborate.{add_steps, Answer, answer, elaborated, elaborate}
 use Rattle.out_areas.specs.Farkas.{Written, written, fits}
@@ -51,7 +52,7 @@ whole-elaborated book r t m = go (fits book r t (add_steps book (written [] []) 
           run = rw ((steps_grow book m.steps (written [] [])).run []) (whole_run _);
           tail = omega (arith, tail_bytes-length (add_steps book (written [] []) m.steps).tail);
         }
-    go false = nothing-whole (lent no_room) _ _
+    go false = nothing-whole (Lent NoRoom) _ _
 
 pub whole-answer : (book run : Bytes) (limit work r t : ℕ) → WholeAnswer (elaborate book run limit work r t)
 whole-answer book run limit work r t =

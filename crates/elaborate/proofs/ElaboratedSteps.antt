@@ -2,6 +2,7 @@
 -- that a step infers is found in the book or has a place in the tail (`steps-placed`), so its constant is a term of
 -- the longer book (`real_in_book`). The accepted steps are the first of the run, and the terms of the book are terms
 -- of the longer book.
+use Rattle.runs.specs.declared.rule.Rule.TheVariants.{Assume}
 use mathlib.Core.Path.{◌≡◌, refl, sym, ◌∙◌, ap, subst}
 use mathlib.Core.Bool.{Bool, true, false}
 use mathlib.Core.List.{List, [], ◌∷◌, ◌++◌}
@@ -19,7 +20,6 @@ use Rattle.numbers.proofs.Rationals.{eq_q-eq}
 use Rattle.book.proofs.Accepted.{accepted-count}
 use Rattle.terms.proofs.NumberedNodes.{record_number-tree}
 use Rattle.rules.specs.Limits.{Limits}
-use Rattle.runs.specs.Rule.Rule.{assume}
 use Rattle.runs.specs.Run.{Step, Every, end, also}
 use Rattle.marking.specs.Check.{Marking}
 use Rattle.elaborate.specs.Elaborate.{add_steps}
@@ -154,7 +154,7 @@ module _ (b : Bytes) (n : ℕ) (read : read_book b ≡ Ok n) (T : List Rational)
   -- ---- the steps
 
   step_in_book :
-      (k : ℕ) (s : Step) (qs : List Rational) → Writable b k s → Every (Placed b T) qs → (s.rule ≡ assume → qs ≡ []) →
+      (k : ℕ) (s : Step) (qs : List Rational) → Writable b k s → Every (Placed b T) qs → (s.rule ≡ Assume → qs ≡ []) →
       Writable longer k (elaborated_step b T s qs)
   step_in_book k s qs w p alone =
       record {
@@ -169,7 +169,7 @@ module _ (b : Bytes) (n : ℕ) (read : read_book b ≡ Ok n) (T : List Rational)
 
   pub elaborated-writable :
       {l : Limits} {run ss : List Step} {n k : ℕ} {m : Marking} → Marks l run ss n m → AllWritable b k ss →
-      Every (λ x. Every (Placed b T) x.1) m.steps → Every (λ x. x.0.rule ≡ assume → x.1 ≡ []) m.steps →
+      Every (λ x. Every (Placed b T) x.1) m.steps → Every (λ x. x.0.rule ≡ Assume → x.1 ≡ []) m.steps →
       AllWritable longer k (elaborated_steps b T m.steps)
   unfolding elaborated_steps
   elaborated-writable ends w p alone = no_step

@@ -2,6 +2,9 @@
 -- marked again, infers nothing and is its own elaboration, where no bounded_farkas step has surplus arguments
 -- (`second_marking`). And every clause in it is true where the assumed ones are, under the premises on meaning
 -- (`clauses-true`).
+use Rattle.runs.specs.declared.rule.Rule.{Rule}
+use Rattle.runs.specs.declared.verdict.Verdict.TheVariants.{AllAccepted}
+use Rattle.runs.specs.declared.rule.Rule.TheVariants.{BoundedFarkas, Assume}
 use mathlib.Core.Path.{◌≡◌, refl, sym, ◌∙◌, ap, subst}
 use mathlib.Core.Bool.{Bool, true, false, ◌&&◌}
 use mathlib.Core.List.{List, [], ◌∷◌, ◌++◌, append_assoc, append-nil}
@@ -21,9 +24,7 @@ use Rattle.terms.specs.Format.{max_run_records}
 use Rattle.std.specs.Prelude.{Ok}
 use Rattle.rules.specs.Limits.{Limits, limited}
 use Rattle.rules.proofs.Yields.{at_ok}
-use Rattle.runs.specs.Verdict.{Verdict}
-use Rattle.runs.specs.Rule.{Rule, is_rule}
-use Rattle.runs.specs.Rule.Rule.{assume, bounded_farkas}
+use Rattle.runs.specs.Rule.{is_rule}
 use Rattle.runs.specs.Run.{Step, read_run, Every, end, also}
 use Rattle.marking.specs.Check.{Marking, marking, mark}
 use Rattle.elaborate.specs.Elaborate.{Answer, answer, add_steps, elaborate, written_part}
@@ -68,8 +69,8 @@ module _ (b : Bytes) (t : List Rational) where
 
   assumed-back :
       (ρ : Assignment) (xs : List (Step × List Rational)) →
-      Every (λ s. s.rule ≡ assume → T (holds ρ s.clause)) (elaborated_steps b t xs) →
-      Every (λ x. x.0.rule ≡ assume → T (holds ρ x.0.clause)) xs
+      Every (λ s. s.rule ≡ Assume → T (holds ρ s.clause)) (elaborated_steps b t xs) →
+      Every (λ x. x.0.rule ≡ Assume → T (holds ρ x.0.clause)) xs
   unfolding elaborated_steps
   assumed-back ρ [] h = end
   assumed-back ρ ((s, qs) ∷ xs) (also h hs) = also (λ e. h (ap elaborated_rule e)) (assumed-back ρ xs hs)
@@ -181,7 +182,7 @@ module _ (book run : Bytes) (limit work out_run out_tail : ℕ) (m : Marked book
     no_surplus_lem : Every (λ x. NoSurplus x.0) c.steps
     no_surplus_lem = subst (λ (y : Marking). Every (λ z. NoSurplus z.0) y.steps) (mark_is x l) g
 
-    remarked : mark_steps l es ≡ marking Verdict.accepted (untraced es) c.visits
+    remarked : mark_steps l es ≡ marking AllAccepted (untraced es) c.visits
     remarked = marked-again book w.tail l x.steps (ran_ordered x) no_surplus_lem
 
     fits-again : fits b' out_run out_tail (written (run_bytes es) []) ≡ true
@@ -219,7 +220,7 @@ module _ (book run : Bytes) (limit work out_run out_tail : ℕ) (m : Marked book
 
     again :
         elaborate b' (run_bytes es) limit work out_run out_tail
-        ≡ answer Verdict.accepted (length c.steps) c.visits (run_bytes es) []
+        ≡ answer AllAccepted (length c.steps) c.visits (run_bytes es) []
     unfolding tail_bytes second
     again =
         answer_is second
@@ -238,12 +239,12 @@ module _ (book run : Bytes) (limit work out_run out_tail : ℕ) (m : Marked book
           again =
               ap (λ r. elaborate b' r limit work out_run out_tail) shown
               ∙ again
-              ∙ ap (λ r. answer Verdict.accepted (length c.steps) c.visits r []) (sym run_is);
+              ∙ ap (λ r. answer AllAccepted (length c.steps) c.visits r []) (sym run_is);
           steps = es;
           read = read-written;
           count = elaborated-count book w.tail c.steps;
-          no_rule6 = every-elaborated book w.tail (λ r. r ≡ bounded_farkas → ⊥)
-              (λ r e. never (sym (laws r [] [] []).infers.not_farkas ∙ ap (is_rule bounded_farkas) e)) c.steps;
+          no_rule6 = every-elaborated book w.tail (λ r. r ≡ BoundedFarkas → ⊥)
+              (λ r e. never (sym (laws r [] [] []).infers.not_farkas ∙ ap (is_rule BoundedFarkas) e)) c.steps;
         }
 
   -- ---- truth

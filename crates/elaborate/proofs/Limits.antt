@@ -3,6 +3,8 @@
 -- step answers as in the Rust, or ends the marking by a limit; any other marking is the Rust's (`mark-limits`),
 -- and so is its elaboration. Then the same of the entry points, which is demand 2's first half, with the trace
 -- on (`the_rusts_answers`) and off (`the_rusts_marking`).
+use Rattle.runs.specs.declared.verdict.Verdict.{Verdict}
+use Rattle.runs.specs.declared.verdict.Verdict.TheVariants.{Stopped, Lent, AllAccepted}
 use mathlib.Core.Path.{◌≡◌, refl, sym, ap, ◌∙◌}
 use mathlib.Core.Bool.{Bool, true, false, not}
 use mathlib.Core.List.{List, [], ◌∷◌}
@@ -10,13 +12,14 @@ use Prim.Native.Nat.{ℕ}
 use lib.Dec.{T}
 use Rattle.numbers.specs.Rational.{Rational}
 use Rattle.numbers.specs.Bytes.{Bytes}
-use Rattle.rules.specs.Refusal.{Refusal, Result}
+use Rattle.rules.specs.Refusal.{Result}
+use Rattle.rules.specs.declared.refusal.Refusal.{Refusal}
 use Rattle.std.specs.Prelude.{Ok, Err}
 use Rattle.rules.specs.Limits.{Limits, the_rust, limited}
 use Rattle.rules_theory.proofs.Limited.{IsLimit, ◌≼◌}
 use Rattle.rules_theory.proofs.Limited.IsLimit.{ten, eleven, twelve}
 use Rattle.rules_theory.proofs.Limited.◌≼◌.{equal, stopped}
-use Rattle.runs.specs.Verdict.{Verdict, is_of_limit, is_lent_or_limit}
+use Rattle.runs.specs.Verdict.{is_of_limit, is_lent_or_limit}
 use Rattle.runs.specs.Run.{Step}
 use Rattle.steps.specs.CheckStep.{Accepted, check_step}
 use Rattle.marking.specs.Check.{Marking, mark, lent_ok, check}
@@ -44,7 +47,7 @@ before-limited : {m m' : Marking} (s : Step × List Rational) → Limited m m' �
 before-limited s (agrees e) = agrees (ap (before s) e)
 before-limited s (ended h) = ended h
 
-of_limit : {r : Refusal} → IsLimit r → T (is_of_limit (Verdict.stopped r))
+of_limit : {r : Refusal} → IsLimit r → T (is_of_limit (Stopped r))
 of_limit ten = tt
 of_limit eleven = tt
 of_limit twelve = tt
@@ -76,9 +79,9 @@ abbrev Unstopped : Verdict → Type 0
 Unstopped v = T (not (is_lent_or_limit v))
 
 limit-stops : {X : Type 0} (v : Verdict) → T (is_of_limit v) → Unstopped v → X
-limit-stops Verdict.accepted h g = absurd h
-limit-stops (Verdict.lent r) h g = absurd h
-limit-stops (Verdict.stopped r) h g = both_ways (is_of_limit (Verdict.stopped r)) h g
+limit-stops AllAccepted h g = absurd h
+limit-stops (Lent r) h g = absurd h
+limit-stops (Stopped r) h g = both_ways (is_of_limit (Stopped r)) h g
   where
     both_ways : {X : Type 0} (b : Bool) → T b → T (not b) → X
     both_ways true h g = absurd g

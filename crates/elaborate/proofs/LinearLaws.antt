@@ -1,5 +1,6 @@
 -- The laws of `la_tautology`, `la_generic` and `bounded_farkas`. The last has no words in the Alethe specification; it
 -- infers numbers, and its elaboration is `la_generic` with these as arguments.
+use Rattle.runs.specs.declared.rule.Rule.TheVariants.{BoundedFarkas, LaGeneric, LaTautology}
 use mathlib.Core.Path.{◌≡◌, refl, sym, ap, subst}
 use mathlib.Core.Bool.{true}
 use mathlib.Core.List.{List, [], ◌∷◌}
@@ -29,7 +30,6 @@ use Rattle.linear_theory.proofs.GenericConverse.{generic_not-refused}
 use Rattle.linear_theory.proofs.Inferred.{la_generic-again}
 use Rattle.linear_theory.proofs.InferredNumbers.{AllInRange, partial_in_range}
 use Rattle.runs.specs.Rule.{rule_number}
-use Rattle.runs.specs.Rule.Rule.{la_tautology, la_generic, bounded_farkas}
 use Rattle.runs.specs.Run.{Step, Every, end, also}
 use Rattle.steps.specs.CheckStep.{accepted, traced, check_rule}
 use Rattle.elaborate.specs.Statements.{MeaningPremises}
@@ -50,9 +50,9 @@ tautology =
 
 tautology-differs :
     (by : Alethe.Departures) (c : Clause) (phi : Term) → c ≡ phi ∷ [] → NegativeEquality by phi ⊎ QuotientBound phi →
-    Differs by la_tautology c
+    Differs by LaTautology c
 tautology-differs by c phi e d =
-    subst (Differs by la_tautology) (sym e) (⊎_elim (negative_equality phi) (quotient_bound phi) d)
+    subst (Differs by LaTautology) (sym e) (⊎_elim (negative_equality phi) (quotient_bound phi) d)
 
 even : (s : Step) {inferred : List Rational} → MeaningPremises s inferred → all_even s.clause ≡ true
 even s g = (both (all_even s.clause) (all_even s.args) (T_true _ g.even_divs)).0
@@ -68,7 +68,7 @@ storable (q ∷ qs) (l, ls) (r, rs) =
     (storable qs ls rs)
 
 module _ (ps : List Clause) (c : Clause) (args : List Term) where
-  pub tautology-laws : RuleLaws la_tautology ps c args
+  pub tautology-laws : RuleLaws LaTautology ps c args
   unfolding check_rule
   tautology-laws =
       record {
@@ -81,7 +81,7 @@ module _ (ps : List Clause) (c : Clause) (args : List Term) where
         infers = infers-nothing refl refl;
       }
 
-  pub generic_laws : RuleLaws la_generic ps c args
+  pub generic_laws : RuleLaws LaGeneric ps c args
   unfolding check_rule
   generic_laws =
       record {
@@ -100,7 +100,7 @@ module _ (ps : List Clause) (c : Clause) (args : List Term) where
         infers = infers-nothing refl refl;
       }
 
-  farkas_inference : Inference bounded_farkas ps c args
+  farkas_inference : Inference BoundedFarkas ps c args
   unfolding check_rule ◌>>=◌
   farkas_inference =
       record {
@@ -117,7 +117,7 @@ module _ (ps : List Clause) (c : Clause) (args : List Term) where
             gives {a = accepted p.visits p.trace} λ ts r. ap traced (again ts r);
       }
 
-  pub farkas_laws : RuleLaws bounded_farkas ps c args
+  pub farkas_laws : RuleLaws BoundedFarkas ps c args
   unfolding check_rule
   farkas_laws =
       record {

@@ -3,6 +3,9 @@
 -- written fits into its area, for the elaboration is tested (`fits`). On a verdict from 1 to 8 nothing is written: 8
 -- writes nothing by definition, a book or run that is refused has no steps, and a marking that has begun never ends by
 -- such a verdict, since no rule gives one.
+use Rattle.runs.specs.declared.verdict.Verdict.{Verdict}
+use Rattle.runs.specs.declared.verdict.Verdict.TheVariants.{Lent}
+use Rattle.runs.specs.declared.verdict.LentRefusal.TheVariants.{NoRoom}
 use mathlib.Core.Path.{◌≡◌, refl, sym, ap, ◌∙◌}
 use mathlib.Core.Bool.{Bool, true, false}
 use mathlib.Core.List.{List, [], ◌++◌}
@@ -14,8 +17,7 @@ use lib.ListN.{length, replicate, length-append, length-replicate}
 use Rattle.numbers.proofs.Truths.{never}
 use Rattle.numbers.specs.Bytes.{Bytes}
 use Rattle.rules.specs.Limits.{Limits, limited}
-use Rattle.runs.specs.Verdict.{Verdict, lent, is_lent}
-use Rattle.runs.specs.Verdict.LentRefusal.{no_room}
+use Rattle.runs.specs.Verdict.{is_lent}
 use Rattle.runs.specs.Run.{Step}
 use Rattle.marking.specs.Check.{Marking, mark, lent_ok, check}
 use Rattle.marking.proofs.Turns.{Marks, ends, stops, goes_on}
@@ -69,13 +71,13 @@ record Answers (out_run out_tail : ℕ) (m : Marking) (a : Answer) : Type 0 wher
   tail_fits : length a.tail ≤ out_tail
   no_run : T (is_lent a.verdict) → a.run ≡ []
   no_tail : T (is_lent a.verdict) → a.tail ≡ []
-  same_verdict : (a.verdict ≡ lent no_room → ⊥) → a.verdict ≡ m.verdict
+  same_verdict : (a.verdict ≡ Lent NoRoom → ⊥) → a.verdict ≡ m.verdict
   nothing_fits : m.steps ≡ [] → a.verdict ≡ m.verdict
   same_steps : a.steps ≡ length m.steps
   same_visits : a.visits ≡ m.visits
 
 module _ (out_run out_tail : ℕ) where
-  nothing-answers : (m : Marking) (v : Verdict) → ((v ≡ lent no_room → ⊥) → v ≡ m.verdict) →
+  nothing-answers : (m : Marking) (v : Verdict) → ((v ≡ Lent NoRoom → ⊥) → v ≡ m.verdict) →
       (m.steps ≡ [] → v ≡ m.verdict) → Answers out_run out_tail m (answer v (length m.steps) m.visits [] [])
   nothing-answers m v h k =
       record {
@@ -115,7 +117,7 @@ module _ (out_run out_tail : ℕ) where
             Answers out_run out_tail m
             (elim b [
               | true ↦ says m.verdict (writes m).run (tail_bytes (writes m).tail)
-              | false ↦ says (lent no_room) [] []
+              | false ↦ says (Lent NoRoom) [] []
             ])
         at true e =
             record {
@@ -129,7 +131,7 @@ module _ (out_run out_tail : ℕ) where
               same_visits = refl;
             }
         at false e =
-            nothing-answers m (lent no_room) (λ n. absurd (n refl)) λ n.
+            nothing-answers m (Lent NoRoom) (λ n. absurd (n refl)) λ n.
             never (sym e ∙ ap (fits book out_run out_tail) (no_steps-write m n) ∙ none_fits book out_run out_tail)
 
   elaborate-answers : (book run : Bytes) (limit work : ℕ) →

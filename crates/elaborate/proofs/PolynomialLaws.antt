@@ -1,4 +1,5 @@
 -- The laws of `poly_simp` and `poly_simp_rel`.
+use Rattle.runs.specs.declared.rule.Rule.TheVariants.{PolySimpRel, PolySimp}
 use mathlib.Core.Path.{◌≡◌, refl, sym, ◌∙◌, ap₂, subst}
 use mathlib.Core.Bool.{true, or-false}
 use mathlib.Core.List.{List, [], ◌∷◌}
@@ -23,7 +24,6 @@ use Rattle.polynomial_theory.proofs.PolynomialConverse.{poly-simp-refused}
 use Rattle.polynomial_theory.proofs.RelationRule.{poly-simp_rel_literals, poly-simp_rel_form}
 use Rattle.polynomial_theory.proofs.RelationConverse.{poly-simp_rel_limited}
 use Rattle.polynomial_theory.proofs.RelationSound.{poly-simp_rel_sound}
-use Rattle.runs.specs.Rule.Rule.{poly_simp, poly_simp_rel}
 use Rattle.steps.specs.CheckStep.{check_rule}
 use Rattle.elaborate.specs.Demands.{Differs}
 use Rattle.elaborate.specs.Demands.Differs.{vanishing_monomial}
@@ -51,21 +51,21 @@ module _ (ρ : Assignment) (phi : Term) where
   to_literal e = rw e tt
 
 module _ (ps : List Clause) (c : Clause) (args : List Term) where
-  pub poly-simp-laws : RuleLaws poly_simp ps c args
+  pub poly-simp-laws : RuleLaws PolySimp ps c args
   unfolding check_rule
   poly-simp-laws =
       record {
         limits = λ l n. bind (poly_simp-limited l c n) λ m. equal _;
         meets = λ k l n. one_meets simp k (λ m. m) l n;
         words = λ k by m w l n r e.
-            ⊎_elim inl (λ d. inr (subst (Differs by poly_simp) (sym m.alone) (vanishing_monomial m.literal d)))
+            ⊎_elim inl (λ d. inr (subst (Differs by PolySimp) (sym m.alone) (vanishing_monomial m.literal d)))
             (one_words simp k (λ m. m) by m l n r e);
         sound = λ k qs h g m ρ a t. one_valid simp k m ρ;
         infers = infers-nothing refl refl;
       }
 
   -- the premise is a literal of an earlier step
-  pub poly-simp_rel_laws : RuleLaws poly_simp_rel ps c args
+  pub poly-simp_rel_laws : RuleLaws PolySimpRel ps c args
   unfolding check_rule
   poly-simp_rel_laws =
       record {

@@ -2,6 +2,8 @@
 -- and its arguments. Each rule has one such record (ShapeLaws, LinearLaws, PolynomialLaws), and `laws` (EachRule) gives
 -- a theorem that of a step's rule. What the records share: rules that infer nothing (`infers-nothing`), and rules on a
 -- clause of one literal (`OnLiteral`).
+use Rattle.runs.specs.declared.rule.Rule.{Rule}
+use Rattle.runs.specs.declared.rule.Rule.TheVariants.{BoundedFarkas, Assume}
 use mathlib.Core.Path.{◌≡◌, refl, sym, ◌∙◌, ap, subst}
 use mathlib.Core.Bool.{false}
 use mathlib.Core.List.{List, [], ◌∷◌, ◌++◌, append-nil}
@@ -13,7 +15,8 @@ use Rattle.numbers.specs.Rational.{Rational}
 use Rattle.terms.specs.Term.{Term}
 use Rattle.terms.specs.Smtlib.{Assignment, holds}
 use Rattle.book.proofs.BookTerms.{Closed}
-use Rattle.rules.specs.Refusal.{Refusal, Result, ◌>>=◌}
+use Rattle.rules.specs.Refusal.{Result, ◌>>=◌}
+use Rattle.rules.specs.declared.refusal.Refusal.{Refusal}
 use Rattle.std.specs.Prelude.{Ok, Err}
 use Rattle.rules.specs.Limits.{Limits, the_rust, limited}
 use Rattle.rules.specs.Shapes.{Clause}
@@ -24,8 +27,7 @@ use Rattle.rules_theory.proofs.Limited.{IsLimit, ◌≼◌}
 use Rattle.linear_theory.proofs.Arguments.{EachOf, EachLowest}
 use Rattle.linear_theory.proofs.Inferred.{Reals}
 use Rattle.linear_theory.proofs.Inferred.Reals.{end as no_more}
-use Rattle.runs.specs.Rule.{Rule, is_rule}
-use Rattle.runs.specs.Rule.Rule.{assume, bounded_farkas}
+use Rattle.runs.specs.Rule.{is_rule}
 use Rattle.runs.specs.Run.{step, Every, end, also}
 use Rattle.steps.specs.CheckStep.{Accepted, accepted, check_rule}
 use Rattle.out_areas.specs.Farkas.{elaborated_rule}
@@ -59,9 +61,9 @@ module _ {ps : List Clause} {c : Clause} {args : List Term} (k : Known ps c args
 -- what an accepted step inferred, and its elaboration
 pub record Inference (r : Rule) (ps : List Clause) (c : Clause) (args : List Term) : Type 1 where
   -- the rule of the elaborated step is not rule 6, stays when it is elaborated, and is `assume` only if it was
-  pub not_farkas : is_rule bounded_farkas (elaborated_rule r) ≡ false
+  pub not_farkas : is_rule BoundedFarkas (elaborated_rule r) ≡ false
   pub stays : elaborated_rule (elaborated_rule r) ≡ elaborated_rule r
-  pub assumed : elaborated_rule r ≡ assume → r ≡ assume
+  pub assumed : elaborated_rule r ≡ Assume → r ≡ Assume
   -- numbers that can be stored as constants
   pub stored :
       Known ps c args → (limit n : ℕ) →
@@ -89,7 +91,7 @@ pub record RuleLaws (r : Rule) (ps : List Clause) (c : Clause) (args : List Term
   -- a step that meets its rule is true where the clauses that it names are
   pub sound :
       Known ps c args → (qs : List Rational) → EachLowest qs → MeaningPremises (step r [] c args) qs →
-      MeetsRule r carcara ps c args qs → (ρ : Assignment) → (r ≡ assume → T (holds ρ c)) →
+      MeetsRule r carcara ps c args qs → (ρ : Assignment) → (r ≡ Assume → T (holds ρ c)) →
       Every (λ p. T (holds ρ p)) ps → T (holds ρ c)
   pub infers : Inference r ps c args
 
@@ -99,7 +101,7 @@ no_reals : {ts : List Term} → Reals ts [] → ts ≡ []
 no_reals no_more = refl
 
 module _ {r : Rule} {ps : List Clause} {c : Clause} {args : List Term} where
-  pub infers-nothing : elaborated_rule r ≡ r → is_rule bounded_farkas r ≡ false → Inference r ps c args
+  pub infers-nothing : elaborated_rule r ≡ r → is_rule BoundedFarkas r ≡ false → Inference r ps c args
   infers-nothing same other =
       record {
         not_farkas = rw same other;

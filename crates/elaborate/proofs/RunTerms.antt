@@ -1,6 +1,7 @@
 -- The steps of a run that is read without a refusal, for they are writable (WrittenRuns): their literals and arguments
 -- are terms of the book (`run_of_book`), and so are the literals of the steps that they name (`known_step`). And each
 -- step names earlier ones alone (`run_ordered`).
+use Rattle.runs.specs.declared.rule.Rule.TheVariants.{Assume}
 use mathlib.Core.Path.{◌≡◌}
 use mathlib.Core.List.{List, [], ◌∷◌}
 use Prim.Native.Nat.{ℕ, suc, ◌<◌}
@@ -10,7 +11,6 @@ use Rattle.terms.specs.Book.{count}
 use Rattle.book.proofs.BookTerms.{Closed, OfBook}
 use Rattle.rules.proofs.Yields.{Yields, weaker}
 use Rattle.linear_theory.proofs.Arguments.{EachOf}
-use Rattle.runs.specs.Rule.Rule.{assume}
 use Rattle.runs.specs.Run.{Step, step, read_run, Every, end, also}
 use Rattle.steps.specs.CheckStep.{clauses_of}
 use Rattle.runs.proofs.RowRecords.{InBook}
@@ -32,7 +32,7 @@ pub record StepOf (Q : Term → Type 0) (s : Step) : Type 0 where
 
 -- the step that stands for one that is not there
 abbrev pub no_such_step : Step
-no_such_step = step assume [] [] []
+no_such_step = step Assume [] [] []
 
 pub none_of : {Q : Term → Type 0} → StepOf Q no_such_step
 none_of = record { clause = tt; args = tt }

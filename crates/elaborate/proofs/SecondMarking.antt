@@ -1,6 +1,7 @@
 -- Marking the elaborated steps accepts them all, infers nothing and makes the same visits (`marked-again`): a step that
 -- is elaborated is accepted again, as its rule's laws say. Of other steps a step sees only the clauses of earlier ones,
 -- and elaboration keeps every clause (`clauses-kept`).
+use Rattle.runs.specs.declared.verdict.Verdict.TheVariants.{AllAccepted}
 use mathlib.Core.Path.{◌≡◌, refl, ◌∙◌, ap, ap₂}
 use mathlib.Core.List.{List, [], ◌∷◌}
 use Prim.Native.Nat.{ℕ, zero, suc, ◌+◌, ◌<◌, ◌≤◌}
@@ -12,7 +13,6 @@ use Rattle.std.specs.Prelude.{Ok}
 use Rattle.rules.specs.Limits.{Limits}
 use Rattle.rules.proofs.Yields.{at_ok}
 use Rattle.linear_theory.proofs.Inferred.{Reals}
-use Rattle.runs.specs.Verdict.{Verdict}
 use Rattle.runs.specs.Run.{Step, Every, end, also}
 use Rattle.steps.specs.CheckStep.{Accepted, accepted, clauses_of, check_step}
 use Rattle.marking.specs.Check.{Marking, marking}
@@ -73,7 +73,7 @@ module _ (book : Bytes) (t : List Rational) where
     steps-again :
         {ss : List Step} {n : ℕ} {m : Marking} → Marks l run ss n m → (k : ℕ) → Ordered k ss →
         k + length (E m) ≤ length es → Every (λ x. NoSurplus x.0) m.steps →
-        mark_from l es (E m) n ≡ marking Verdict.accepted (untraced (E m)) m.visits
+        mark_from l es (E m) n ≡ marking AllAccepted (untraced (E m)) m.visits
     unfolding mark_from elaborated_steps
     steps-again ends k o h g = refl
     steps-again (stops y) k o h g = refl
@@ -87,7 +87,7 @@ module _ (book : Bytes) (t : List Rational) where
   pub marked-again :
       (l : Limits) (run : List Step) → Ordered 0 run → Every (λ x. NoSurplus x.0) (mark_steps l run).steps →
       mark_steps l (E (mark_steps l run)) ≡
-      marking Verdict.accepted (untraced (E (mark_steps l run))) (mark_steps l run).visits
+      marking AllAccepted (untraced (E (mark_steps l run))) (mark_steps l run).visits
   marked-again l run o g =
       let ms = steps-marked l run in
       steps-again l run (E (mark_steps l run)) (clauses-kept ms) ms 0 o (omega arith) g

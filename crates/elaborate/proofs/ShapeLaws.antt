@@ -1,4 +1,5 @@
 -- The laws of the rules that look at shapes alone: `assume`, and rules 1 to 3.
+use Rattle.runs.specs.declared.rule.Rule.TheVariants.{LaTotality, LaDisequality, LaRwEq, Assume}
 use mathlib.Core.Path.{◌≡◌, refl, sym, ◌∙◌}
 use mathlib.Core.List.{List, [], ◌∷◌}
 use mathlib.Core.Logic.{inl, ⊎_elim}
@@ -15,7 +16,6 @@ use Rattle.linear_theory.proofs.ShapeRules.{rw_eq-literal, rw_eq-shape, rw_eq-va
 use Rattle.linear_theory.proofs.ShapeRules.{disequality-shape, disequality-valid, totality-literal, totality-shape}
 use Rattle.linear_theory.proofs.ShapeRules.{totality-valid}
 use Rattle.linear_theory.proofs.ShapeConverse.{rw_eq-accepted, disequality-accepted, totality-accepted}
-use Rattle.runs.specs.Rule.Rule.{assume, la_rw_eq, la_disequality, la_totality}
 use Rattle.steps.specs.CheckStep.{check_rule}
 use Rattle.elaborate.proofs.RuleLaws.{RuleLaws, infers-nothing, not-refused, OnLiteral, one_meets, one_words}
 use Rattle.elaborate.proofs.RuleLaws.{one_valid}
@@ -49,7 +49,7 @@ totality : OnShape rule.la_totality Alethe.LaTotality
 totality = on_shape totality-literal (λ Q. totality-shape) totality-accepted (λ phi. totality-valid)
 
 module _ (ps : List Clause) (c : Clause) (args : List Term) where
-  pub assume-laws : RuleLaws assume ps c args
+  pub assume-laws : RuleLaws Assume ps c args
   unfolding check_rule
   assume-laws =
       record {
@@ -60,7 +60,7 @@ module _ (ps : List Clause) (c : Clause) (args : List Term) where
         infers = infers-nothing refl refl;
       }
 
-  pub rw_eq-laws : RuleLaws la_rw_eq ps c args
+  pub rw_eq-laws : RuleLaws LaRwEq ps c args
   unfolding check_rule
   rw_eq-laws =
       record {
@@ -71,7 +71,7 @@ module _ (ps : List Clause) (c : Clause) (args : List Term) where
         infers = infers-nothing refl refl;
       }
 
-  pub disequality-laws : RuleLaws la_disequality ps c args
+  pub disequality-laws : RuleLaws LaDisequality ps c args
   unfolding check_rule
   disequality-laws =
       record {
@@ -82,7 +82,7 @@ module _ (ps : List Clause) (c : Clause) (args : List Term) where
         infers = infers-nothing refl refl;
       }
 
-  pub totality-laws : RuleLaws la_totality ps c args
+  pub totality-laws : RuleLaws LaTotality ps c args
   unfolding check_rule
   totality-laws =
       record {

@@ -28,7 +28,7 @@ use Rattle.out_areas.specs.Farkas.{real_record, tail_bytes, is_real}
 use Rattle.runs.specs.Run.{end, also, Every}
 use Rattle.out_areas.proofs.Everywhere.{every-both}
 use Rattle.out_areas.proofs.RealRecord.{Storable, Lacks, length-real, real-tree, real-new, real-layout}
-use Rattle.std.specs.Prelude.{Ok, Err}
+use Rattle.std.specs.Prelude.{Ok}
 
 -- ---- a book that is read
 

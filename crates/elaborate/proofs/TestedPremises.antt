@@ -1,5 +1,6 @@
 -- The tests of specs/PremiseTests are demand 3's premises: a step passes all three exactly where the premises hold of
 -- it (`tested-premises`, `premises-tested`), so the table in specs/MarkedPremises speaks of the premises themselves.
+use Rattle.runs.specs.declared.rule.Rule.TheVariants.{BoundedFarkas, LaGeneric}
 use mathlib.Core.Path.{◌≡◌, refl, sym, ap}
 use mathlib.Core.Bool.{Bool, true, false, ◌||◌, not}
 use mathlib.Core.List.{List}
@@ -9,7 +10,6 @@ use lib.ListN.{length}
 use Rattle.numbers.specs.Rational.{Rational}
 use Rattle.numbers.proofs.Truths.{T_true, true-T}
 use Rattle.runs.specs.Rule.{is_rule}
-use Rattle.runs.specs.Rule.Rule.{la_generic, bounded_farkas}
 use Rattle.runs.specs.Run.{Step}
 use Rattle.runs.proofs.Rules.{same-rule}
 use Rattle.elaborate.specs.Statements.{Premises}
@@ -39,12 +39,12 @@ module _ (s : Step) (inferred : List Rational) where
         meaning =
             record {
               even_divs = true-T h.even;
-              whole = implied (is_rule la_generic s.rule || is_rule bounded_farkas s.rule) _ h.whole;
+              whole = implied (is_rule LaGeneric s.rule || is_rule BoundedFarkas s.rule) _ h.whole;
             };
         no_surplus = λ six.
             leb-true (length s.args) (length s.clause)
             (T_true _
-            (implied (is_rule bounded_farkas s.rule) _ h.no_surplus (true-T (ap (is_rule bounded_farkas) six))));
+            (implied (is_rule BoundedFarkas s.rule) _ h.no_surplus (true-T (ap (is_rule BoundedFarkas) six))));
       }
 
   pub premises-tested : Premises s inferred → Met
@@ -52,9 +52,9 @@ module _ (s : Step) (inferred : List Rational) where
   premises-tested h =
       record {
         even = T_true _ h.meaning.even_divs;
-        whole = implies (is_rule la_generic s.rule || is_rule bounded_farkas s.rule) _ h.meaning.whole;
+        whole = implies (is_rule LaGeneric s.rule || is_rule BoundedFarkas s.rule) _ h.meaning.whole;
         no_surplus =
-            implies (is_rule bounded_farkas s.rule) _ λ six.
+            implies (is_rule BoundedFarkas s.rule) _ λ six.
             true-T (le-leb (length s.args) (length s.clause)
-            (h.no_surplus (sym (same-rule bounded_farkas s.rule (T_true _ six)))));
+            (h.no_surplus (sym (same-rule BoundedFarkas s.rule (T_true _ six)))));
       }

@@ -1,6 +1,7 @@
 -- Under every assignment that makes the assumed clauses true, the clause of every accepted step has a true literal,
 -- where demand 3's premises on meaning hold (`accepted-true`). A step that meets its rule is true where the clauses
 -- that it names are, as its rule's laws say, and it names earlier steps alone, since refusal 7 tests that.
+use Rattle.runs.specs.declared.rule.Rule.TheVariants.{Assume}
 use mathlib.Core.Path.{◌≡◌, refl, sym, ◌∙◌, ap, subst}
 use mathlib.Core.List.{List, [], ◌∷◌, ◌++◌, append_assoc}
 use Prim.Native.Nat.{ℕ, suc, ◌<◌}
@@ -15,7 +16,6 @@ use Rattle.rules.specs.Limits.{Limits, limited}
 use Rattle.rules.specs.Shapes.{Clause}
 use Rattle.alethe.specs.Alethe.{carcara}
 use Rattle.linear_theory.proofs.Arguments.{EachLowest}
-use Rattle.runs.specs.Rule.Rule.{assume}
 use Rattle.runs.specs.Run.{Step, Every, steps_of, end, also}
 use Rattle.steps.specs.CheckStep.{clauses_of}
 use Rattle.marking.specs.Check.{Marking, mark}
@@ -34,7 +34,7 @@ use Rattle.elaborate.proofs.Unrefused.Reads.{not-read, is_read}
 
 -- the clauses of the accepted steps, under an assignment
 abbrev pub AssumedTrue : Assignment → List (Step × List Rational) → Type 0
-AssumedTrue ρ = Every (λ x. x.0.rule ≡ assume → T (holds ρ x.0.clause))
+AssumedTrue ρ = Every (λ x. x.0.rule ≡ Assume → T (holds ρ x.0.clause))
 
 abbrev pub AllTrue : Assignment → List (Step × List Rational) → Type 0
 AllTrue ρ = Every (λ x. T (holds ρ x.0.clause))
@@ -63,7 +63,7 @@ module _ {book run : Bytes} (x : Ran book run) (ρ : Assignment) where
 
   step-true :
       (s : Step) (inferred : List Rational) → Known s → Sound x.steps s inferred →
-      (s.rule ≡ assume → True s.clause) → Every True (clauses_of x.steps s.premises) → True s.clause
+      (s.rule ≡ Assume → True s.clause) → Every True (clauses_of x.steps s.premises) → True s.clause
   step-true s inferred h g a ps =
       (laws s.rule _ s.clause s.args).sound (known_in x s h) inferred (lowest_of inferred g.stored)
       record { even_divs = g.meaning.even_divs; whole = g.meaning.whole } g.meets ρ a ps

@@ -1,6 +1,10 @@
 -- A marking is that of the run's steps, where the book and the run are read, and else marks nothing (`reads`). Where
 -- refusals 1 to 8 do not arise they are read, and what was written fits (`unrefused`). The marking and the answer are
 -- then the steps' own.
+use Rattle.runs.specs.declared.verdict.LentRefusal.{LentRefusal}
+use Rattle.runs.specs.declared.verdict.Verdict.{Verdict}
+use Rattle.runs.specs.declared.verdict.Verdict.TheVariants.{Lent}
+use Rattle.runs.specs.declared.verdict.LentRefusal.TheVariants.{NoRoom, OfBook, WorkAreaOrLimit}
 use mathlib.Core.Path.{◌≡◌, refl, sym, subst, ap, ◌∙◌}
 use mathlib.Core.Bool.{Bool, true, false, not}
 use mathlib.Core.List.{List, []}
@@ -10,12 +14,11 @@ use lib.ListN.{length}
 use Rattle.numbers.specs.Bytes.{Bytes}
 use Rattle.terms.specs.Book.{read_book}
 use Rattle.book.proofs.Accepted.{accepted-count}
-use Rattle.book.proofs.BookTerms.{OfBook, book-closed}
+use Rattle.book.proofs.BookTerms.{OfBook as InBook, book-closed}
 use Rattle.std.specs.Prelude.{Result, Ok, Err}
 use Rattle.rules.specs.Limits.{Limits, limited}
 use Rattle.rules.proofs.Yields.{at_ok}
-use Rattle.runs.specs.Verdict.{LentRefusal, Verdict, lent, is_lent}
-use Rattle.runs.specs.Verdict.LentRefusal.{work_area_or_limit, of_book, no_room}
+use Rattle.runs.specs.Verdict.{is_lent}
 use Rattle.runs.specs.Run.{Step, read_run, steps_of, Every}
 use Rattle.steps.specs.CheckStep.{clauses_of}
 use Rattle.marking.specs.Check.{Marking, nothing_marked, mark_run, mark, lent_ok, check}
@@ -64,7 +67,7 @@ reads book run = by_book (read_book book) refl (read_run book run) refl
         Reads book run
     by_book (Ok n) e (Ok ss) f = is_read record { records = n; steps = ss; read = e; ran = f }
     by_book (Ok n) e (Err r) f = not-read r λ l. ap (mark_book l book run) e ∙ ap (mark_run l) f
-    by_book (Err d) e r f = not-read (of_book d.refusal) λ l. ap (mark_book l book run) e
+    by_book (Err d) e r f = not-read (OfBook d.refusal) λ l. ap (mark_book l book run) e
 
 -- what is known of the steps
 module _ {book run : Bytes} (x : Ran book run) where
@@ -72,11 +75,11 @@ module _ {book run : Bytes} (x : Ran book run) where
   listed =
       ap (λ (r : Result (List Step) LentRefusal). elim r as (λ y. List Step) [ Ok ss ↦ ss | Err r ↦ [] ]) x.ran
 
-  pub ran_of_book : Every (StepOf (OfBook book x.records)) x.steps
+  pub ran_of_book : Every (StepOf (InBook book x.records)) x.steps
   ran_of_book = at_ok (run_of_book book x.records (accepted-count book x.records x.read) run) x.ran
 
   pub known_in :
-      (s : Step) → StepOf (OfBook book x.records) s →
+      (s : Step) → StepOf (InBook book x.records) s →
       Known (clauses_of x.steps s.premises) s.clause s.args
   known_in = known_step x.steps ran_of_book (book-closed book x.records x.read)
 
@@ -104,7 +107,7 @@ module _ (book : Bytes) (out_run out_tail : ℕ) where
 
   -- the answer by the test of refusal 8
   abbrev pub chosen : Marking → Bool → Answer
-  chosen m b = elim b [ true ↦ answered m | false ↦ answer (lent no_room) (length m.steps) m.visits [] [] ]
+  chosen m b = elim b [ true ↦ answered m | false ↦ answer (Lent NoRoom) (length m.steps) m.visits [] [] ]
 
   free-fits : (m : Marking) → Free (elaborated book out_run out_tail m).verdict → Fits m × Free m.verdict
   unfolding elaborated
@@ -126,7 +129,7 @@ module _ (book : Bytes) (out_run out_tail : ℕ) where
 module _ (book run : Bytes) (limit work : ℕ) where
   -- a marking by the test of refusal 1
   abbrev pub checked : Bool → Marking
-  checked b = elim b [ true ↦ mark (limited limit) book run | false ↦ nothing_marked work_area_or_limit ]
+  checked b = elim b [ true ↦ mark (limited limit) book run | false ↦ nothing_marked WorkAreaOrLimit ]
 
   -- `elaborate` answers to the marking of `check`: where refusal 1 ends it nothing is written, and that fits
   pub elaborate_is :
@@ -139,11 +142,11 @@ module _ (book run : Bytes) (limit work : ℕ) where
           (b : Bool) →
           (elim b [
             | true ↦ elaborated book out_run out_tail (mark (limited limit) book run)
-            | false ↦ answer (lent work_area_or_limit) 0 0 [] []
+            | false ↦ answer (Lent WorkAreaOrLimit) 0 0 [] []
           ])
           ≡ elaborated book out_run out_tail (checked b)
       go true = refl
-      go false = sym (answer_by book out_run out_tail (nothing_marked work_area_or_limit) (none_fits book out_run out_tail))
+      go false = sym (answer_by book out_run out_tail (nothing_marked WorkAreaOrLimit) (none_fits book out_run out_tail))
 
   check_is : lent_ok work limit ≡ true → check book run limit work ≡ mark (limited limit) book run
   unfolding check

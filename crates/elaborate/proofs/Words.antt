@@ -1,6 +1,8 @@
 -- A step that meets its rule, by the Alethe specification's words or whatever departures are granted, is not refused
 -- 20 to 42, but for the differences that have a name (`words-accepted`), since its rule's laws say so. Where a marking
 -- stops, the step there is the one that was refused (`stopped`).
+use Rattle.runs.specs.declared.verdict.Verdict.{Verdict}
+use Rattle.runs.specs.declared.verdict.Verdict.TheVariants.{Stopped, Lent, AllAccepted}
 use mathlib.Core.Path.{◌≡◌, refl, sym, subst}
 use mathlib.Core.List.{List, []}
 use mathlib.Core.Logic.{⊎_elim}
@@ -8,12 +10,12 @@ use Prim.Native.Nat.{ℕ}
 use lib.Dec.{T}
 use lib.ListN.{length, get_or}
 use Rattle.numbers.specs.Bytes.{Bytes}
-use Rattle.rules.specs.Refusal.{Refusal}
+use Rattle.rules.specs.declared.refusal.Refusal.{Refusal}
 use Rattle.std.specs.Prelude.{Err}
 use Rattle.rules.specs.Limits.{Limits, limited}
 use Rattle.alethe.specs.Alethe.{Departures}
 use Rattle.rules_theory.proofs.Limited.{IsLimit, ten, eleven, twelve}
-use Rattle.runs.specs.Verdict.{Verdict, is_of_rule}
+use Rattle.runs.specs.Verdict.{is_of_rule}
 use Rattle.runs.specs.Run.{Step, steps_of}
 use Rattle.steps.specs.CheckStep.{check_step}
 use Rattle.marking.specs.Check.{Marking, mark}
@@ -27,22 +29,22 @@ use Rattle.elaborate.proofs.Unrefused.{ran_of_book, known_in}
 
 -- ---- where a marking stops
 
-limit-outside : {r : Refusal} → IsLimit r → T (is_of_rule (Verdict.stopped r)) → ⊥
+limit-outside : {r : Refusal} → IsLimit r → T (is_of_rule (Stopped r)) → ⊥
 limit-outside ten t = t
 limit-outside eleven t = t
 limit-outside twelve t = t
 
 module _ (l : Limits) (run : List Step) where
   -- the step there is refused with the verdict
-  record Stopped (s : Step) (v : Verdict) : Type 0 where
+  record StopsAt (s : Step) (v : Verdict) : Type 0 where
     visits : ℕ
     refusal : Refusal
     stops : check_step l run s visits ≡ Err refusal
-    verdict : v ≡ Verdict.stopped refusal
+    verdict : v ≡ Stopped refusal
 
   stopped :
       {ss : List Step} {n : ℕ} {m : Marking} → Marks l run ss n m → T (is_of_rule m.verdict) →
-      Stopped (get_or ss (length m.steps) no_such_step) m.verdict
+      StopsAt (get_or ss (length m.steps) no_such_step) m.verdict
   stopped ends t = absurd t
   stopped (stops {n = n} {r = r} e) t = record { visits = n; refusal = r; stops = e; verdict = refl }
   stopped (goes_on e ms) t = stopped ms t
@@ -68,9 +70,9 @@ module _ (by : Departures) where
       ((laws s.rule _ s.clause s.args).words known by m c l y.visits y.refusal y.stops)
 
 rule-free : (v : Verdict) → T (is_of_rule v) → Free v
-rule-free (Verdict.stopped r) t = tt
-rule-free (Verdict.lent r) t = absurd t
-rule-free Verdict.accepted t = absurd t
+rule-free (Stopped r) t = tt
+rule-free (Lent r) t = absurd t
+rule-free AllAccepted t = absurd t
 
 pub words-accepted : WordsAccepted
 words-accepted by book run limit t =

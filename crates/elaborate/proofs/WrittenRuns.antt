@@ -3,6 +3,8 @@
 -- records; the marks differ and the next step opens with S, so the rows are parted again. Every number goes
 -- into two bytes: a book has 2048 records at most, and a premise is below the number of steps. What is written
 -- has whole records (`whole_run`).
+use Rattle.runs.specs.declared.rule.Rule.{Rule}
+use Rattle.runs.specs.declared.rule.Rule.TheVariants.{Assume}
 use mathlib.Core.Path.{◌≡◌, refl, sym, ◌∙◌, ap, subst}
 use mathlib.Core.Bool.{Bool, true, false, not, ◌&&◌, ◌||◌}
 use mathlib.Core.List.{List, [], ◌∷◌, ◌++◌, append_assoc}
@@ -20,8 +22,7 @@ use Rattle.rules.specs.Refusal.{◌>>=◌, assert, or_else}
 use Rattle.std.specs.Prelude.{Ok}
 use Rattle.rules.proofs.Yields.{Yields, and_then, past, guarded}
 use Rattle.rules.proofs.Yields.Yields.{gives, refuses}
-use Rattle.runs.specs.Rule.{Rule, rule_number, is_rule}
-use Rattle.runs.specs.Rule.Rule.{assume}
+use Rattle.runs.specs.Rule.{rule_number, is_rule}
 use Rattle.runs.specs.Run.{Step, Rec, S, P, C, A, rec, recs, all_right, is_empty, shape_ok, numbers_of, terms_of}
 use Rattle.runs.specs.Run.{head_rule, read_step, read_steps, read_run, Every, record_bytes, premise_bytes, term_bytes}
 use Rattle.runs.proofs.Rules.{rule-back, same-rule}
@@ -51,7 +52,7 @@ pub record Writable (b : Bytes) (k : ℕ) (s : Step) : Type 0 where
   pub clause : Every (Literal b) s.clause
   pub args : Every (InBook b) s.args
   -- an assume has one literal and nothing else
-  pub assumed : s.rule ≡ assume → (s.premises ≡ []) × (length s.clause ≡ 1) × (s.args ≡ [])
+  pub assumed : s.rule ≡ Assume → (s.premises ≡ []) × (length s.clause ≡ 1) × (s.args ≡ [])
 
 -- step k, step k + 1 and so on
 pub data AllWritable (b : Bytes) : ℕ → List Step → Type 0 where
@@ -111,14 +112,14 @@ module _ (b : Bytes) (k : ℕ) (s : Step) (w : Writable b k s) where
 
   shape-right : shape_ok s.rule ps cs as' ≡ true
   unfolding marked record_numbers
-  shape-right = go (is_rule assume s.rule) refl
+  shape-right = go (is_rule Assume s.rule) refl
     where
       go :
-          (t : Bool) → is_rule assume s.rule ≡ t →
+          (t : Bool) → is_rule Assume s.rule ≡ t →
           (not t || (is_empty ps && (eqb (length cs) 1 && is_empty as'))) ≡ true
       go false e = refl
       go true e =
-          let h = w.assumed (sym (same-rule assume s.rule e)) in
+          let h = w.assumed (sym (same-rule Assume s.rule e)) in
           rw (length_marked C s.clause, h.0, h.1, h.2)
 
   literals : Every (InBook b) s.clause
@@ -230,7 +231,7 @@ empty_list (x ∷ xs) e = never e
 
 module _ (b : Bytes) where
   assumed-alone :
-      (rule : Rule) (ps cs as' : List Rec) → shape_ok rule ps cs as' ≡ true → rule ≡ assume →
+      (rule : Rule) (ps cs as' : List Rec) → shape_ok rule ps cs as' ≡ true → rule ≡ Assume →
       (numbers_of ps ≡ []) × (length (terms_of b cs) ≡ 1) × (terms_of b as' ≡ [])
   unfolding numbers_of terms_of
   assumed-alone rule ps cs as' e z =

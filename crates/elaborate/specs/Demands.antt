@@ -2,6 +2,11 @@
 -- commented with the sentence that it renders; what they say of one call is in Statements. Nothing is proved here:
 -- proofs/Memory proves demand 1 and that the trace makes no difference, proofs/Meeting demand 2, proofs/Elaboration
 -- demand 3 and its two halves, the second marking and the truth of the clauses. Only proofs import this module.
+use Rattle.runs.specs.declared.rule.Rule.{Rule}
+use Rattle.runs.specs.declared.verdict.Verdict.TheVariants.{Lent}
+use Rattle.runs.specs.declared.verdict.LentRefusal.TheVariants.{NoRoom}
+use Rattle.runs.specs.declared.rule.Rule.TheVariants.{PolySimpRel, PolySimp, BoundedFarkas, LaGeneric, LaTautology}
+use Rattle.runs.specs.declared.rule.Rule.TheVariants.{LaTotality, LaDisequality, LaRwEq, Assume}
 use Rattle.std.specs.Prelude.{◌≡◌, not, List, [], ◌∷◌, ◌⊎◌, ℕ, T, length, get_or}
 use Rattle.numbers.specs.Rational.{Rational}
 use Rattle.numbers.specs.Bytes.{Bytes}
@@ -12,12 +17,7 @@ use Rattle.rules.specs.Shapes.{Clause}
 use Rattle.alethe.specs.Alethe as Alethe
 use Rattle.alethe.specs.AletheDifferences.{NegativeEquality, QuotientBound, VanishingMonomial, WholeBounds}
 use Rattle.alethe.specs.AletheDifferences.{NoZeroArgument}
-use Rattle.runs.specs.Verdict.{lent, is_lent, is_of_rule, is_lent_or_limit}
-use Rattle.runs.specs.Verdict.LentRefusal.{no_room}
-use Rattle.runs.specs.Rule.{Rule}
-use Rattle.runs.specs.Rule.Rule.{assume, la_rw_eq, la_disequality, la_totality, la_tautology, la_generic}
-use Rattle.runs.specs.Rule.Rule.{bounded_farkas}
-use Rattle.runs.specs.Rule.Rule.{poly_simp, poly_simp_rel}
+use Rattle.runs.specs.Verdict.{is_lent, is_of_rule, is_lent_or_limit}
 use Rattle.runs.specs.Run.{Step, step, steps_of, Every}
 use Rattle.steps.specs.CheckStep.{clauses_of}
 use Rattle.marking.specs.Check.{Marking, mark, check}
@@ -45,7 +45,7 @@ check_of m limit = check m.book m.run limit (length m.work)
 pub record TraceOnAndOff (m : Memory) (limit : ℕ) : Type 0 where
   -- one verdict, but that '8 is tested after the marking and replaces the run's verdict'
   pub verdict :
-      ((answer_to m limit).verdict ≡ lent no_room → ⊥) → (answer_to m limit).verdict ≡ (check_of m limit).verdict
+      ((answer_to m limit).verdict ≡ Lent NoRoom → ⊥) → (answer_to m limit).verdict ≡ (check_of m limit).verdict
   -- 'accepted steps and visits stay in the answer', under refusal 8 too
   pub steps : (answer_to m limit).steps ≡ length (check_of m limit).steps
   pub visits : (answer_to m limit).visits ≡ (check_of m limit).visits
@@ -67,16 +67,16 @@ pub record OneLiteral (P : Term → Type 0) (c : Clause) : Type 0 where
 -- what a rule asks, as the Alethe specification words it or by one of the departures that are granted: of the clauses
 -- of the steps that it names, its clause, its arguments, and the numbers that were inferred
 abbrev pub MeetsRule : Rule → Alethe.Departures → List Clause → Clause → List Term → List Rational → Type 0
-MeetsRule assume by premises c args inferred = Unit {0}
-MeetsRule la_rw_eq by premises c args inferred = OneLiteral Alethe.LaRwEq c
-MeetsRule la_disequality by premises c args inferred = OneLiteral Alethe.LaDisequality c
-MeetsRule la_totality by premises c args inferred = OneLiteral Alethe.LaTotality c
-MeetsRule la_tautology by premises c args inferred = OneLiteral (Alethe.LaTautology by) c
-MeetsRule la_generic by premises c args inferred =
+MeetsRule Assume by premises c args inferred = Unit {0}
+MeetsRule LaRwEq by premises c args inferred = OneLiteral Alethe.LaRwEq c
+MeetsRule LaDisequality by premises c args inferred = OneLiteral Alethe.LaDisequality c
+MeetsRule LaTotality by premises c args inferred = OneLiteral Alethe.LaTotality c
+MeetsRule LaTautology by premises c args inferred = OneLiteral (Alethe.LaTautology by) c
+MeetsRule LaGeneric by premises c args inferred =
     (qs : List Rational) × (Alethe.Arguments args qs × Alethe.LaGeneric by c qs)
-MeetsRule bounded_farkas by premises c args inferred = Alethe.BoundedFarkas by c args inferred
-MeetsRule poly_simp by premises c args inferred = OneLiteral (Alethe.PolySimp by) c
-MeetsRule poly_simp_rel by premises c args inferred =
+MeetsRule BoundedFarkas by premises c args inferred = Alethe.BoundedFarkas by c args inferred
+MeetsRule PolySimp by premises c args inferred = OneLiteral (Alethe.PolySimp by) c
+MeetsRule PolySimpRel by premises c args inferred =
     (premise : Term) × ((premises ≡ (premise ∷ []) ∷ []) × OneLiteral (Alethe.PolySimpRel by premise) c)
 
 -- a step meets its rule; run has the clauses of the steps before it
@@ -109,23 +109,23 @@ MeetsAlethe =
 -- the step at which a run stops
 abbrev pub stops_at : Bytes → Bytes → ℕ → Step
 stops_at book run limit =
-    get_or (steps_of book run) (length (mark (limited limit) book run).steps) (step assume [] [] [])
+    get_or (steps_of book run) (length (mark (limited limit) book run).steps) (step Assume [] [] [])
 
 -- where Carcara refuses what the words accept, by the rule and the clause
 pub data Differs (by : Alethe.Departures) : Rule → Clause → Type 0 where
-  negative_equality : (phi : Term) → NegativeEquality by phi → Differs by la_tautology (phi ∷ [])
-  quotient_bound : (phi : Term) → QuotientBound phi → Differs by la_tautology (phi ∷ [])
-  vanishing_monomial : (phi : Term) → VanishingMonomial by phi → Differs by poly_simp (phi ∷ [])
+  negative_equality : (phi : Term) → NegativeEquality by phi → Differs by LaTautology (phi ∷ [])
+  quotient_bound : (phi : Term) → QuotientBound phi → Differs by LaTautology (phi ∷ [])
+  vanishing_monomial : (phi : Term) → VanishingMonomial by phi → Differs by PolySimp (phi ∷ [])
 
 -- where Carcara can be held against the words
 pub record Comparable (by : Alethe.Departures) (r : Rule) (c : Clause) (args : List Term) : Type 0 where
   -- rule 6 is not in the specification
-  pub specified : r ≡ bounded_farkas → ⊥
+  pub specified : r ≡ BoundedFarkas → ⊥
   -- of rule 5 every bound after step 3 is whole and no > literal has argument 0, unless Carcara's own reading of these
   -- is granted
-  pub whole : r ≡ la_generic → by Alethe.Departure.whole_product ⊎ WholeBounds by c
+  pub whole : r ≡ LaGeneric → by Alethe.Departure.whole_product ⊎ WholeBounds by c
   pub nonzero :
-      r ≡ la_generic → (qs : List Rational) → Alethe.Arguments args qs →
+      r ≡ LaGeneric → (qs : List Rational) → Alethe.Arguments args qs →
       by Alethe.Departure.argument_zero ⊎ NoZeroArgument by c qs
 
 -- a step that meets its rule, by the words or whatever departures are granted, is not refused 20 to 42, but for the

@@ -1,11 +1,12 @@
 -- The elaboration of a run: the accepted steps, each elaborated. And what the entry points answer.
+use Rattle.runs.specs.declared.verdict.Verdict.{Verdict}
+use Rattle.runs.specs.declared.verdict.Verdict.TheVariants.{Lent}
+use Rattle.runs.specs.declared.verdict.LentRefusal.TheVariants.{NoRoom, WorkAreaOrLimit}
 use Rattle.std.specs.Prelude.{true, false, ◌&&◌, List, [], ◌∷◌, ◌++◌, ℕ, ◌%◌, eqb, leb, length, take}
 use Rattle.numbers.specs.Rational.{Rational}
 use Rattle.numbers.specs.Bytes.{Bytes}
 use Rattle.terms.specs.Format.{run_record_bytes}
 use Rattle.rules.specs.Limits.{Limits, limited}
-use Rattle.runs.specs.Verdict.{Verdict, lent}
-use Rattle.runs.specs.Verdict.LentRefusal.{work_area_or_limit, no_room}
 use Rattle.runs.specs.Run.{Step}
 use Rattle.marking.specs.Check.{Marking, mark, lent_ok}
 use Rattle.out_areas.specs.Farkas.{Written, written, add_reals, step_bytes, tail_bytes, fits}
@@ -33,7 +34,7 @@ elaborated book out_run out_tail m =
     let w : Written = add_steps book (written [] []) m.steps in
     elim (fits book out_run out_tail w) [
       | true ↦ answer m.verdict (length m.steps) m.visits w.run (tail_bytes w.tail)
-      | false ↦ answer (lent no_room) (length m.steps) m.visits [] []
+      | false ↦ answer (Lent NoRoom) (length m.steps) m.visits [] []
     ]
 
 unfoldable pub elaborate_under : Limits → Bytes → Bytes → ℕ → ℕ → Answer
@@ -43,7 +44,7 @@ elaborate_under l book run out_run out_tail = elaborated book out_run out_tail (
 unfoldable pub elaborate : Bytes → Bytes → ℕ → ℕ → ℕ → ℕ → Answer
 elaborate book run limit work out_run out_tail = elim (lent_ok work limit) [
   | true ↦ elaborate_under (limited limit) book run out_run out_tail
-  | false ↦ answer (lent work_area_or_limit) 0 0 [] []
+  | false ↦ answer (Lent WorkAreaOrLimit) 0 0 [] []
 ]
 
 -- ---- the written part of the out run, as an entry point shows it

@@ -1,10 +1,11 @@
 -- What the entry points `elaborate` and `written` promise, a record for each: what is answered, and every byte that
 -- was lent, equated with definitions. A name with a prime is what lies in a lent area when the function returns.
+use Rattle.runs.specs.declared.verdict.Verdict.{Verdict}
 use Rattle.std.specs.Prelude.{◌≡◌, not, ℕ, ◌+◌, ◌*◌, ◌≤◌, T, length}
 use Rattle.numbers.specs.Bytes.{Bytes}
 use Rattle.terms.specs.Format.{record_bytes, max_records}
 use Rattle.rules.specs.Limits.{limited}
-use Rattle.runs.specs.Verdict.{Verdict, is_lent}
+use Rattle.runs.specs.Verdict.{is_lent}
 use Rattle.marking.specs.Check.{mark}
 use Rattle.elaborate.specs.Elaborate.{Answer, answer, written_part}
 use Rattle.elaborate.specs.LentMemory.{Memory, answer_to, elaborated_of, memory_after}

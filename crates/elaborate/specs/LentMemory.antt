@@ -2,7 +2,6 @@
 use Rattle.std.specs.Prelude.{ℕ, length}
 use Rattle.numbers.specs.Bytes.{Bytes}
 use Rattle.elaborate.specs.Elaborate.{Answer, elaborate}
-use Rattle.runs.specs.Verdict.{verdict_number}
 use Rattle.marking.specs.Answers.{area, zeros}
 use Rattle.elaborate.specs.declared.elaborate.Elaborated.{Elaborated}
 
@@ -21,7 +20,7 @@ answer_to m limit = elaborate m.book m.run limit (length m.work) (length m.out_r
 abbrev pub elaborated_of : Answer → Elaborated
 elaborated_of a =
     record {
-      verdict = verdict_number a.verdict;
+      verdict = a.verdict;
       steps = a.steps;
       visits = a.visits;
       run = length a.run;

@@ -1,6 +1,7 @@
 -- Demand 3's premises as tests that compute, on an accepted step and the numbers that it inferred, and a case of the
 -- table in MarkedPremises: a book, a run, and for each accepted step which premises it meets. proofs/TestedPremises
 -- shows that the tests are the premises.
+use Rattle.runs.specs.declared.rule.Rule.TheVariants.{BoundedFarkas, LaGeneric}
 use Rattle.std.specs.Prelude.{Bool, true, false, ◌&&◌, ◌||◌, not, List, [], ◌∷◌, leb, length}
 use Rattle.numbers.specs.Rational.{Rational}
 use Rattle.numbers.specs.Bytes.{Bytes}
@@ -9,7 +10,6 @@ use Rattle.terms.specs.Smtlib.{divs_even}
 use Rattle.rules.specs.Limits.{limited}
 use Rattle.linear_theory.specs.Premises.{all_even, whole_coefficients, whole_literal, whole_given, whole_literals}
 use Rattle.runs.specs.Rule.{is_rule}
-use Rattle.runs.specs.Rule.Rule.{la_generic, bounded_farkas}
 use Rattle.runs.specs.Run.{Step}
 use Rattle.marking.specs.Check.{mark}
 
@@ -20,8 +20,8 @@ Tests = Bool × Bool × Bool
 unfoldable pub premises_met : Step → List Rational → Tests
 premises_met s inferred = (
   all_even s.clause && all_even s.args,
-  not (is_rule la_generic s.rule || is_rule bounded_farkas s.rule) || whole_literals s.clause s.args inferred,
-  not (is_rule bounded_farkas s.rule) || leb (length s.args) (length s.clause),
+  not (is_rule LaGeneric s.rule || is_rule BoundedFarkas s.rule) || whole_literals s.clause s.args inferred,
+  not (is_rule BoundedFarkas s.rule) || leb (length s.args) (length s.clause),
 )
 
 -- ---- a case of the table

@@ -1,6 +1,9 @@
 -- What the demands say of one call: of the lent memory, of the premises on the accepted steps, and of the elaboration.
 -- Each part is commented with the sentence that it renders. Contracts cite these statements; Demands makes them of all
 -- calls.
+use Rattle.runs.specs.declared.verdict.LentRefusal.{LentRefusal}
+use Rattle.runs.specs.declared.verdict.Verdict.TheVariants.{AllAccepted}
+use Rattle.runs.specs.declared.rule.Rule.TheVariants.{BoundedFarkas, LaGeneric, Assume}
 use Rattle.std.specs.Prelude.{◌≡◌, ◌&&◌, ◌||◌, List, [], ◌∷◌, ◌++◌, ℕ, ◌-◌, ◌≤◌, T, length, replicate}
 use Rattle.numbers.specs.Rational.{Rational}
 use Rattle.numbers.specs.Bytes.{Bytes}
@@ -8,9 +11,8 @@ use Rattle.terms.specs.Smtlib.{Assignment, holds}
 use Rattle.std.specs.Prelude.{Result, Ok}
 use Rattle.rules.specs.Shapes.{Clause}
 use Rattle.linear_theory.specs.Premises.{all_even, whole_literals}
-use Rattle.runs.specs.Verdict.{LentRefusal, Verdict, is_lent}
+use Rattle.runs.specs.Verdict.{is_lent}
 use Rattle.runs.specs.Rule.{is_rule}
-use Rattle.runs.specs.Rule.Rule.{assume, la_generic, bounded_farkas}
 use Rattle.runs.specs.Run.{Step, read_run, Every}
 use Rattle.marking.specs.Answers.{area, zeros}
 use Rattle.elaborate.specs.Elaborate.{Answer, answer, elaborate, written_part}
@@ -43,12 +45,12 @@ pub record MeaningPremises (s : Step) (inferred : List Rational) : Type 0 where
   -- 'in la_generic and bounded_farkas each literal whose atoms, after cancelling, are all Int has whole coefficients
   -- and a whole argument, given or inferred'
   pub whole :
-      T (is_rule la_generic s.rule || is_rule bounded_farkas s.rule) →
+      T (is_rule LaGeneric s.rule || is_rule BoundedFarkas s.rule) →
       T (whole_literals s.clause s.args inferred)
 
 -- what its second marking needs: 'no bounded_farkas step has more arguments than literals'
 abbrev pub NoSurplus : Step → Type 0
-NoSurplus s = s.rule ≡ bounded_farkas → length s.args ≤ length s.clause
+NoSurplus s = s.rule ≡ BoundedFarkas → length s.args ≤ length s.clause
 
 pub record Premises (s : Step) (inferred : List Rational) : Type 0 where
   pub meaning : MeaningPremises s inferred
@@ -65,7 +67,7 @@ clauses (s ∷ ss) = s.clause ∷ clauses ss
 
 -- 'the assumed clauses are those of the accepted assume steps'
 abbrev pub AssumedTrue : Assignment → List Step → Type 0
-AssumedTrue ρ = Every (λ s. s.rule ≡ assume → T (holds ρ s.clause))
+AssumedTrue ρ = Every (λ s. s.rule ≡ Assume → T (holds ρ s.clause))
 
 -- the steps that an answer wrote: 'book, then tail, is the elaborated run's book'
 abbrev pub written_steps : Bytes → Answer → Result (List Step) LentRefusal
@@ -78,13 +80,13 @@ pub record AcceptedAgain (book : Bytes) (limit work out_run out_tail : ℕ) (a :
   -- elaboration is the same run with an empty tail'
   pub again :
       elaborate (book ++ a.tail) (written_part (area out_run a.run) (length a.run)) limit work out_run out_tail
-      ≡ answer Verdict.accepted a.steps a.visits a.run []
+      ≡ answer AllAccepted a.steps a.visits a.run []
   -- its steps
   pub steps : List Step
   pub read : written_steps book a ≡ Ok steps
   pub count : length steps ≡ a.steps
   -- 'it holds no rule 6'
-  pub no_rule6 : Every (λ s. s.rule ≡ bounded_farkas → ⊥) steps
+  pub no_rule6 : Every (λ s. s.rule ≡ BoundedFarkas → ⊥) steps
 
 -- 'Under every assignment of the right sorts that makes the assumed clauses true, every clause in it has a true
 -- literal'

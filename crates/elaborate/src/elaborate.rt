@@ -12,14 +12,13 @@ ghost use Rattle.elaborate.specs.Memory.OutMemory.{TurnsWritten, Elaborates, Clo
 ghost use Rattle.elaborate.specs.LentMemory.{lent};
 ghost use Rattle.elaborate.specs.ElaborateEntry.{ElaborateDone, WrittenDone};
 
-use farkas::farkas::{Stepped, elaborate_step, stepped_refusal};
-use marking::check::{Opened, State, advanced, ended, open, opened_refusal, start};
+use farkas::farkas::elaborate_step;
+use marking::check::{State, advanced, ended, open, start};
 use numbers::bytes::clear_from;
 use out_areas::out_areas::Out;
 use runs::run::parts;
-use steps::check_step::ACCEPTED;
+use runs::verdict::{LentRefusal, Verdict};
 use terms::format::RUN_RECORD_BYTES;
-use terms::refusal::NO_ROOM;
 
 // A marking under way, and what of its elaboration is written.
 #[derive(Clone, Copy)]
@@ -28,11 +27,10 @@ pub(crate) struct Elaborating {
     pub out: Out,
 }
 
-// The answer: document 01's number of the refusal, or 0; how many steps were accepted; their visits; the bytes written
-// to each out area.
-#[derive(Clone, Copy)]
+// The answer: the verdict, how many steps were accepted, their visits, the bytes written to each out area.
+#[derive(Clone, Copy, Debug, PartialEq, Eq)]
 pub struct Elaborated {
-    pub verdict: u8,
+    pub verdict: Verdict,
     pub steps: usize,
     pub visits: u32,
     pub run: usize,
@@ -68,30 +66,26 @@ pub(crate) fn turn(
     ensures work_unchanged { work.new ≡ work.old }
 {
     let s = e.state;
-    let out = e.out;
-    let at = s.at;
-    let counter = s.counter;
-    if s.ended {
+    if s.verdict.is_some() {
         return e;
     }
-    if run.len() <= at {
+    if run.len() <= s.at {
         return Elaborating {
-            state: ended(s, ACCEPTED),
-            out,
+            state: ended(s, Verdict::AllAccepted),
+            ..e
         };
     }
-    let step = &run[at..];
+    let step = &run[s.at..];
     let p = parts(step);
-    let answer = elaborate_step(book, work, run, step, p, counter, outrun, outtail, out);
-    let Stepped::Accepted(visits, longer) = answer else {
-        return Elaborating {
-            state: ended(s, stepped_refusal(answer)),
+    match elaborate_step(book, work, run, step, p, s.counter, outrun, outtail, e.out) {
+        Ok((visits, out)) => Elaborating {
+            state: advanced(s, p.args, visits),
             out,
-        };
-    };
-    Elaborating {
-        state: advanced(s, p.args, visits),
-        out: longer,
+        },
+        Err(r) => Elaborating {
+            state: ended(s, Verdict::Stopped(r)),
+            ..e
+        },
     }
 }
 
@@ -114,7 +108,7 @@ fn elaborate_steps(
         out: nothing(),
     };
     loop {
-        if e.state.ended {
+        if e.state.verdict.is_some() {
             return e;
         }
         e = turn(book, run, work, outrun, outtail, e);
@@ -134,14 +128,13 @@ fn elaborate_run(
         (check book.now run.now limit (length work.old)) }
     ensures work_after { work.new ≡ open_work book.now limit work.old }
 {
-    let answer = open(book, run, limit, work);
-    let Opened::Ready = answer else {
-        return Elaborating {
-            state: ended(start(limit), opened_refusal(answer)),
+    match open(book, run, limit, work) {
+        Ok(()) => elaborate_steps(book, run, limit, work, outrun, outtail),
+        Err(r) => Elaborating {
+            state: ended(start(limit), Verdict::Lent(r)),
             out: nothing(),
-        };
-    };
-    elaborate_steps(book, run, limit, work, outrun, outtail)
+        },
+    }
 }
 
 // ---- the answer
@@ -152,34 +145,27 @@ fn close(outrun: &mut [u8], outtail: &mut [u8], e: Elaborating) -> Elaborated
         Closes result outrun.old outtail.old outrun.new outtail.new
         (elaborated b (length outrun.old) (length outtail.old) m) }
 {
-    let state = e.state;
-    let counter = state.counter;
-    let verdict = state.verdict;
-    let steps = state.steps;
-    let visits = counter.visits;
-    let out = e.out;
-    let run = out.run;
-    let tail = out.tail;
-    let full = out.full;
-    if full {
+    let steps = e.state.steps;
+    let visits = e.state.counter.visits;
+    if e.out.full {
         clear_from(outrun, 0);
         clear_from(outtail, 0);
         return Elaborated {
-            verdict: NO_ROOM,
+            verdict: Verdict::Lent(LentRefusal::NoRoom),
             steps,
             visits,
             run: 0,
             tail: 0,
         };
     }
-    clear_from(outrun, run);
-    clear_from(outtail, tail);
+    clear_from(outrun, e.out.run);
+    clear_from(outtail, e.out.tail);
     Elaborated {
-        verdict,
+        verdict: e.state.verdict.unwrap_or(Verdict::AllAccepted),
         steps,
         visits,
-        run,
-        tail,
+        run: e.out.run,
+        tail: e.out.tail,
     }
 }
 
@@ -208,10 +194,9 @@ pub fn elaborate(
 pub fn written(outrun: &[u8], bytes: usize) -> &[u8]
     ensures { WrittenDone outrun.now bytes outrun.now result.now }
 {
-    if bytes <= outrun.len() {
-        if bytes % RUN_RECORD_BYTES == 0 {
-            return &outrun[0..bytes];
-        }
+    if bytes % RUN_RECORD_BYTES == 0 {
+        outrun.get(..bytes).unwrap_or(&[])
+    } else {
+        &[]
     }
-    &outrun[0..0]
 }

@@ -9,7 +9,8 @@ use Prim.Native.Nat.{ℕ}
 use lib.ListN.{drop}
 use Rattle.numbers.specs.Rational.{Rational}
 use Rattle.terms.specs.Term.{Term}
-use Rattle.rules.specs.Refusal.{Refusal, Result}
+use Rattle.rules.specs.Refusal.{Result}
+use Rattle.rules.specs.declared.refusal.Refusal.{Refusal}
 use Rattle.std.specs.Prelude.{Ok, Err}
 use Rattle.rules.specs.Limits.{Limits}
 use Rattle.index_map.specs.IndexMap.{new}

@@ -1,5 +1,8 @@
 -- A step of another rule than 6 infers nothing (`infers-nothing`): a number is inferred for a literal without argument
 -- alone, and `la_generic` has an argument for each.
+use Rattle.runs.specs.declared.rule.Rule.{Rule}
+use Rattle.runs.specs.declared.rule.Rule.TheVariants.{PolySimpRel, PolySimp, BoundedFarkas, LaGeneric, LaTautology}
+use Rattle.runs.specs.declared.rule.Rule.TheVariants.{LaTotality, LaDisequality, LaRwEq, Assume}
 use mathlib.Core.Path.{◌≡◌, refl, sym, ap, ◌∙◌}
 use mathlib.Core.Bool.{false}
 use Rattle.std.specs.Prelude.{Some}
@@ -24,9 +27,7 @@ use Rattle.disequality.specs.Disequality.{disequality_of}
 use Rattle.process_disequality.specs.ProcessDisequality.{Progress, progress, argument_of, process_disequality}
 use Rattle.process_disequality.specs.ProcessDisequality.{strengthened, scalar}
 use Rattle.linear_arithmetic.specs.LinearArithmetic.{read_args, fold_literals, la_generic_partial, la_generic as generic}
-use Rattle.runs.specs.Rule.{Rule, is_rule}
-use Rattle.runs.specs.Rule.Rule.{assume, la_rw_eq, la_disequality, la_totality, la_tautology, la_generic, bounded_farkas}
-use Rattle.runs.specs.Rule.Rule.{poly_simp, poly_simp_rel}
+use Rattle.runs.specs.Rule.{is_rule}
 use Rattle.runs.specs.Run.{Step}
 use Rattle.steps.specs.CheckStep.{check_rule, check_step}
 
@@ -73,21 +74,21 @@ module _ (l : Limits) where
       λ p f. past _ λ v. gives f
 
   pub rule-infers-nothing :
-      (r : Rule) (ps : List Clause) (c : Clause) (args : List Term) (n : ℕ) → is_rule bounded_farkas r ≡ false →
+      (r : Rule) (ps : List Clause) (c : Clause) (args : List Term) (n : ℕ) → is_rule BoundedFarkas r ≡ false →
       Yields (λ a. a.inferred ≡ []) (check_rule r l ps c args n)
   unfolding check_rule
-  rule-infers-nothing assume ps c args n e = gives refl
-  rule-infers-nothing la_rw_eq ps c args n e = past _ λ u. gives refl
-  rule-infers-nothing la_disequality ps c args n e = past _ λ u. gives refl
-  rule-infers-nothing la_totality ps c args n e = past _ λ u. gives refl
-  rule-infers-nothing la_tautology ps c args n e = past _ λ m. gives refl
-  rule-infers-nothing la_generic ps c args n e = and_then (generic_keeps c args n) λ p h. gives h
-  rule-infers-nothing bounded_farkas ps c args n e = never (sym e)
-  rule-infers-nothing poly_simp ps c args n e = past _ λ m. gives refl
-  rule-infers-nothing poly_simp_rel ps c args n e = past _ λ u. gives refl
+  rule-infers-nothing Assume ps c args n e = gives refl
+  rule-infers-nothing LaRwEq ps c args n e = past _ λ u. gives refl
+  rule-infers-nothing LaDisequality ps c args n e = past _ λ u. gives refl
+  rule-infers-nothing LaTotality ps c args n e = past _ λ u. gives refl
+  rule-infers-nothing LaTautology ps c args n e = past _ λ m. gives refl
+  rule-infers-nothing LaGeneric ps c args n e = and_then (generic_keeps c args n) λ p h. gives h
+  rule-infers-nothing BoundedFarkas ps c args n e = never (sym e)
+  rule-infers-nothing PolySimp ps c args n e = past _ λ m. gives refl
+  rule-infers-nothing PolySimpRel ps c args n e = past _ λ u. gives refl
 
   pub infers-nothing :
-      (run : List Step) (s : Step) (n : ℕ) → is_rule bounded_farkas s.rule ≡ false →
+      (run : List Step) (s : Step) (n : ℕ) → is_rule BoundedFarkas s.rule ≡ false →
       Yields (λ a. a.inferred ≡ []) (check_step l run s n)
   unfolding check_step
   infers-nothing run s n = rule-infers-nothing s.rule _ s.clause s.args n

@@ -13,50 +13,21 @@ ghost use Rattle.out_areas.specs.Farkas.{fits};
 ghost use Rattle.out_areas.specs.Memory.OutAreas.{with_step};
 ghost use Rattle.farkas.specs.Memory.FarkasSteps.{farkas_numbers, more_step, SteppedLeft};
 ghost use Rattle.out_areas.specs.Memory.OutAreas.{more_reals};
-ghost use Rattle.farkas.specs.Memory.FarkasSteps.{judged_as, stepped_refusal};
 
 use linear_arithmetic::linear_arithmetic::{Folded, contradiction, fold_literals, read_args};
 use linear_comb::linear_comb::LinearComb;
-use numbers::bytes::byte;
-use numbers::number::Number;
 use out_areas::out_areas::{Out, add_real, add_step};
 use process_disequality::process_disequality::Progress;
+use rules::counter::Counter;
+use rules::refusal::Refusal;
 use rules::run_records::rest;
-use rules::verdict::{Asserted, Verdict};
-use runs::rule::BOUNDED_FARKAS;
-use runs::run::{StepParts, args, clause};
-use steps::check_step::{ACCEPTED, Counter, check_step};
-use terms::format::BYTE_AT;
+use runs::rule::Rule;
+use runs::run::{StepParts, args, clause, rule_in};
+use steps::check_step::check_step;
 use terms::operator::EQUALS;
 
-// What checking a step and writing it answers.
-#[derive(Clone, Copy)]
-pub enum Stepped {
-    // With the visits made so far, and with what is written.
-    Accepted(u32, Out),
-    // Document 01's number of the refusal.
-    Refused(u8),
-}
-
-// The number of a step's refusal.
-pub fn stepped_refusal(s: Stepped) -> u8
-    ensures { result ≡ stepped_refusal s }
-{
-    match s {
-        Stepped::Accepted(_, _) => ACCEPTED,
-        Stepped::Refused(code) => code,
-    }
-}
-
-// A verdict, and what is written.
-fn judged(v: Verdict, out: Out) -> Stepped
-    ensures { result ≡ judged_as v out }
-{
-    match v {
-        Verdict::Accepted(visits) => Stepped::Accepted(visits, out),
-        Verdict::Refused(code) => Stepped::Refused(code),
-    }
-}
+// What an accepted step answers: the visits made so far, and what is written.
+pub type Stepped = (u32, Out);
 
 // `bounded_farkas` with the trace on: each number is written as it is inferred.
 fn bounded_farkas(
@@ -64,48 +35,46 @@ fn bounded_farkas(
     work: &mut [u8],
     literals: &[u8],
     args: &[u8],
-    visits: u32,
-    limit: u32,
+    counter: Counter,
     outrun: &mut [u8],
     outtail: &mut [u8],
     out: Out,
-) -> Stepped
+) -> Result<Stepped, Refusal>
     requires { Ready book.now work.old ×
         (Inside book.now literals.now × (length literals.now ≤ max_run_bytes)) }
     ensures stepped_left { SteppedLeft book.now outrun.old outtail.old out
         outrun.new outtail.new result (λ w. w)
         (more_reals (fits book.now (length outrun.old) (length outtail.old))
-        book.now (farkas_numbers (limited limit) (terms_in book.now literals.now)
-        (terms_in book.now args.now) visits))
-        (traced (la_generic_partial (limited limit) (terms_in book.now literals.now)
-        (terms_in book.now args.now) visits)) }
+        book.now (farkas_numbers (limited counter.limit) (terms_in book.now literals.now)
+        (terms_in book.now args.now) counter.visits))
+        (traced (la_generic_partial (limited counter.limit) (terms_in book.now literals.now)
+        (terms_in book.now args.now) counter.visits)) }
     ensures work_unchanged { work.new ≡ work.old }
 {
-    if let Asserted::Refused(code) = read_args(book, args) {
-        return Stepped::Refused(code);
-    }
+    read_args(book, args)?;
     let mut p = Progress {
         operator: EQUALS,
-        acc: LinearComb {
-            len: 0,
-            constant: Number::whole(0),
-        },
-        visits,
+        acc: LinearComb::new(),
+        visits: counter.visits,
     };
     let mut done = 0;
     let mut written = out;
     loop {
-        match fold_literals(book, work, rest(literals, done), rest(args, done), p, limit) {
+        match fold_literals(
+            book,
+            work,
+            rest(literals, done),
+            rest(args, done),
+            p,
+            counter.limit,
+        )? {
             Folded::Done(q) => {
-                return judged(contradiction(work, q), written);
+                return Ok((contradiction(work, q)?, written));
             }
             Folded::Inferred(q, a, k) => {
                 written = add_real(book, outrun, outtail, written, a);
                 p = q;
                 done += k;
-            }
-            Folded::Refused(code) => {
-                return Stepped::Refused(code);
             }
         }
     }
@@ -122,7 +91,7 @@ pub fn elaborate_step(
     outrun: &mut [u8],
     outtail: &mut [u8],
     out: Out,
-) -> Stepped
+) -> Result<Stepped, Refusal>
     requires ready { Ready book.now work.old × StandsIn book.now run.now step.now }
     requires p_value { p ≡ parts_in step.now }
     ensures stepped_left { SteppedLeft book.now outrun.old outtail.old out
@@ -134,18 +103,17 @@ pub fn elaborate_step(
     ensures work_unchanged { work.new ≡ work.old }
 {
     let longer = add_step(outrun, out, step, p);
-    if byte(step, BYTE_AT) == BOUNDED_FARKAS {
+    if rule_in(step) == Rule::BoundedFarkas {
         return bounded_farkas(
             book,
             work,
             clause(step, p),
             args(step, p),
-            counter.visits,
-            counter.limit,
+            counter,
             outrun,
             outtail,
             longer,
         );
     }
-    judged(check_step(book, work, run, step, p, counter), longer)
+    Ok((check_step(book, work, run, step, p, counter)?, longer))
 }

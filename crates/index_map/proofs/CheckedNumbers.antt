@@ -1,96 +1,86 @@
--- The code's answers for numbers against the definitions under a limit: where an operation answers a value, the definition
--- is `ok` of it, and where it leaves the range, the definition refuses.
-use mathlib.Core.Path.{◌≡◌, refl, ◌∙◌, ap}
+-- The code's answers for numbers against the definitions under a limit: where an operation answers a value, the
+-- definition is `Ok` of it, and where it leaves the range, the definition refuses. So the definition is `ok_or` of the
+-- answer.
+--     whole-proper       a whole number in range
+--     sum-asked, product-asked, quotient-asked       the definition is `ok_or` of the answer
+--     plus-value, plus_out, times-value, times_out       the two cases
+--     on_answer, on_product       what follows on a number
+--     small-fits, small-back       a number in range as the machine's
+use mathlib.Core.Path.{◌≡◌, refl, sym}
 use mathlib.Core.Bool.{Bool, true, false, cond}
 use Prim.Native.Nat.{ℕ, ◌≤◌}
 use native.Mathlib.Nat.{zero-lt-suc}
 use lib.Dec.{lit≤}
 use lib.IntN.{ℤ, nat_abs}
-use Rattle.numbers.specs.Rational.{Rational, Proper, limit, whole, add_q, mul_q, div_q, in_range, checked}
+use Rattle.numbers.specs.Rational.{Rational, Proper, limit, whole, add_q, mul_q, div_q, in_range, checked, Checked}
 use Rattle.terms.specs.Readers.{bounded}
 use Rattle.numbers.proofs.Order.{pos-positive}
 use Rattle.rules.specs.Refusal.{Result, ◌>>=◌}
-use Rattle.std.specs.Prelude.{Ok, Err}
-use Rattle.rules.specs.Refusal.Refusal.{number_range}
+use Rattle.std.specs.Prelude.{Ok, Err, Some, None}
+use Rattle.std.specs.Option.{ok_or}
+use Rattle.rules.specs.declared.refusal.Refusal.TheVariants.{NumberRange}
 use Rattle.rules.specs.Limits.{limited, in_limit, ranged, plus, times, over}
 use mir.Syntax.{w64}
 use mir.Val.{SFits}
 use mir.Facts.{to_z-of_z}
 use Rattle.numbers.proofs.Machine.{R, arg, exact-fits}
 use Rattle.terms.specs.declared.term.NotRead.TheVariants.{OutOfRange}
-use Rattle.numbers.specs.Rational.{Checked}
-use Rattle.std.specs.Prelude.{Some, None}
 
 -- a whole number in range
 pub whole-proper : (z : ℤ) → nat_abs z ≤ limit → Proper (whole z)
 whole-proper z h = record { numerator = h; positive = pos-positive (zero-lt-suc 0); denominator = lit≤ tt }
 
 module _ (l : ℕ) where
-  ranged-value : (q r : Rational) → checked q ≡ Some r → ranged (limited l) q ≡ Ok r
+  ranged-asked : (q : Rational) {r : Checked} → r ≡ checked q → ok_or r NumberRange ≡ ranged (limited l) q
   unfolding checked in_range ranged bounded
-  ranged-value q r e = go (in_range q) e
+  ranged-asked q e = rw e (go (in_range q))
     where
-      go :
-          (t : Bool) → cond t (Some q) None ≡ Some r →
-          in_limit (cond t (Ok q) (Err OutOfRange)) ≡ Ok r
-      go true e = cc
-      go false e = cc
+      go : (t : Bool) → ok_or (cond t (Some q) None) NumberRange ≡ in_limit (cond t (Ok q) (Err OutOfRange))
+      go true = refl
+      go false = refl
 
-  ranged_out : (q : Rational) → checked q ≡ None → ranged (limited l) q ≡ Err number_range
-  unfolding checked in_range ranged bounded
-  ranged_out q e = go (in_range q) e
-    where
-      go :
-          (t : Bool) → cond t (Some q) None ≡ None →
-          in_limit (cond t (Ok q) (Err OutOfRange)) ≡ Err number_range
-      go true e = cc
-      go false e = refl
+  module _ (a b : Rational) where
+    pub sum-asked : {r : Checked} → r ≡ checked (add_q a b) → ok_or r NumberRange ≡ plus (limited l) a b
+    unfolding plus
+    sum-asked e = ranged-asked (add_q a b) e
 
-  pub plus-value : (a b q : Rational) → checked (add_q a b) ≡ Some q → plus (limited l) a b ≡ Ok q
-  unfolding plus
-  plus-value a b q e = ranged-value (add_q a b) q e
+    pub product-asked : {r : Checked} → r ≡ checked (mul_q a b) → ok_or r NumberRange ≡ times (limited l) a b
+    unfolding times
+    product-asked e = ranged-asked (mul_q a b) e
 
-  pub plus_out : (a b : Rational) → checked (add_q a b) ≡ None → plus (limited l) a b ≡ Err number_range
-  unfolding plus
-  plus_out a b e = ranged_out (add_q a b) e
+    pub quotient-asked : {r : Checked} → r ≡ checked (div_q a b) → ok_or r NumberRange ≡ over (limited l) a b
+    unfolding over
+    quotient-asked e = ranged-asked (div_q a b) e
 
-  pub times-value : (a b q : Rational) → checked (mul_q a b) ≡ Some q → times (limited l) a b ≡ Ok q
-  unfolding times
-  times-value a b q e = ranged-value (mul_q a b) q e
+    pub plus-value : (q : Rational) → checked (add_q a b) ≡ Some q → plus (limited l) a b ≡ Ok q
+    plus-value q e = sym (sum-asked (sym e))
 
-  pub times_out : (a b : Rational) → checked (mul_q a b) ≡ None → times (limited l) a b ≡ Err number_range
-  unfolding times
-  times_out a b e = ranged_out (mul_q a b) e
+    pub plus_out : checked (add_q a b) ≡ None → plus (limited l) a b ≡ Err NumberRange
+    plus_out e = sym (sum-asked (sym e))
 
-  pub over-value : (a b q : Rational) → checked (div_q a b) ≡ Some q → over (limited l) a b ≡ Ok q
-  unfolding over
-  over-value a b q e = ranged-value (div_q a b) q e
+    pub times-value : (q : Rational) → checked (mul_q a b) ≡ Some q → times (limited l) a b ≡ Ok q
+    times-value q e = sym (product-asked (sym e))
 
-  pub over_out : (a b : Rational) → checked (div_q a b) ≡ None → over (limited l) a b ≡ Err number_range
-  unfolding over
-  over_out a b e = ranged_out (div_q a b) e
+    pub times_out : checked (mul_q a b) ≡ None → times (limited l) a b ≡ Err NumberRange
+    times_out e = sym (product-asked (sym e))
 
 -- ---- steps
 
 -- what follows on a number m that is in range or not, by the code's answer c for it
 pub on_answer :
-    {A : Type 0} (m : Result Rational) (c : Checked) → ((q : Rational) → c ≡ Some q → m ≡ Ok q) →
-    (c ≡ None → m ≡ Err number_range) → (f : Rational → Result A) (g : Checked → Result A) →
-    ((q : Rational) → f q ≡ g (Some q)) → Err number_range ≡ g None → (m >>= f) ≡ g c
+    {A : Type 0} {m : Result Rational} (c : Checked) → ok_or c NumberRange ≡ m →
+    (f : Rational → Result A) (g : Checked → Result A) → ((q : Rational) → f q ≡ g (Some q)) →
+    Err NumberRange ≡ g None → (m >>= f) ≡ g c
 unfolding ◌>>=◌
-on_answer {A} m c value out f g h k = go c refl
-  where
-    go : (r : Checked) → c ≡ r → (m >>= f) ≡ g r
-    go (Some q) e = ap (λ (m : Result Rational). m >>= f) (value q e) ∙ h q
-    go None e = ap (λ (m : Result Rational). m >>= f) (out e) ∙ k
+on_answer (Some q) e f g h k = rw (sym e) (h q)
+on_answer None e f g h k = rw (sym e) k
 
 -- what follows on a product
 pub on_product :
     {A : Type 0} (n : ℕ) (a c : Rational) (f : Rational → Result A) (g : Checked → Result A) →
-    ((q : Rational) → f q ≡ g (Some q)) → Err number_range ≡ g None →
+    ((q : Rational) → f q ≡ g (Some q)) → Err NumberRange ≡ g None →
     (times (limited n) a c >>= f) ≡ g (checked (mul_q a c))
-on_product n a c f g h k =
-    on_answer (times (limited n) a c) (checked (mul_q a c)) (times-value n a c) (times_out n a c) f g h k
+on_product n a c f g h k = on_answer (checked (mul_q a c)) (product-asked n a c refl) f g h k
 
 -- ---- the loop
 

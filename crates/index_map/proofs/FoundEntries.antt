@@ -4,27 +4,23 @@
 use mathlib.Core.Path.{◌≡◌, refl, sym, ap, ap₂, ◌∙◌, subst}
 use mathlib.Core.Bool.{true, false}
 use mathlib.Core.List.{List, [], ◌∷◌, ◌++◌}
-use Prim.Native.Nat.{ℕ, suc, ◌+◌, ◌*◌, ◌-◌, ◌≤◌, ◌<◌}
+use Prim.Native.Nat.{ℕ, suc, ◌+◌, ◌*◌, ◌≤◌, ◌<◌}
 use native.Mathlib.Omega.{arith}
 use lib.ListN.{length, length-append}
-use Rattle.numbers.specs.Rational.{Rational, Makes, Gives, add_q, is_zero, checked}
+use Rattle.numbers.specs.Rational.{Rational, add_q, is_zero, checked}
 use Rattle.numbers.specs.Bytes.{Bytes, number_at}
 use Rattle.numbers.specs.Choice.{when◌then◌else◌}
 use Rattle.rules.specs.Refusal.{Result, ◌>>=◌}
-use Rattle.std.specs.Prelude.{Ok, Err}
-use Rattle.rules.specs.Refusal.Refusal.{number_range}
 use Rattle.rules.specs.Limits.{Limits, limited, plus}
 use Rattle.index_map.specs.IndexMap.{Map, Keys, insert, swap_remove}
 use Rattle.index_map.specs.Memory.StoredMaps.{Encoding, size, keys_of, place, put_entry, blanked, swapped, Held, All}
+use Rattle.index_map.specs.Memory.StoredMaps.{sum_at, Added, out, gone, put, Inserts}
 use Rattle.index_map.proofs.CheckedNumbers.{plus-value, plus_out}
 use Rattle.index_map.proofs.EntryBytes.{Coded}
-use Rattle.index_map.proofs.HeldEntries.{Goods, held-keys, read-value, write-value, remove_entry, write_new}
-use Rattle.index_map.proofs.HeldEntries.{clear_all}
+use Rattle.index_map.proofs.HeldEntries.{Goods, held-keys, read-value, write-value, remove_entry, write_new, clear_all}
 use Rattle.index_map.proofs.KeyedMaps.{Lacks, Look, found, missing, look, same_key, entered, insert-found}
 use Rattle.index_map.proofs.KeySearch.{codes, Agrees, place-missing, place_found}
 use Rattle.index_map.proofs.MapEnds.{length-middle, length-swap_remove, all_cut}
-use Rattle.numbers.specs.Rational.{Checked}
-use Rattle.std.specs.Prelude.{None, Some}
 
 -- entry k of m has the key x, and the entries before it have not
 pub record There {K C : Type 0} (enc : Encoding K C) (keyed : Keys K) (c : C) (x : K) (k : ℕ) (m : Map K) : Type 0 where
@@ -45,14 +41,6 @@ pub record Sought {K C : Type 0} (enc : Encoding K C) (keyed : Keys K) (places :
   pub agree : All (Agrees enc keyed c x) m
   pub at : k ≡ place enc (keys_of enc w n) c
 
--- the n entries of the bytes v are those of the answer d
-pub record Made {K C : Type 0} (enc : Encoding K C) (places : ℕ) (Good : Bytes → Map K → Type 0)
-    (b v : Bytes) (n : ℕ) (d : Result (Map K)) : Type 0 where
-  pub map : Map K
-  pub held : Held enc places Good b v map
-  pub is : d ≡ Ok map
-  pub size : n ≡ length map
-
 module _
     {K C : Type 0} {enc : Encoding K C} {Code : C → Type 0} (coded : Coded enc Code) {places : ℕ}
     {Good : Bytes → Map K → Type 0} {b : Bytes} (goods : Goods enc Code places Good b) where
@@ -60,8 +48,8 @@ module _
 
   pub new-held :
       {w : Bytes} (m : Map K) → Held enc places Good b w m → {n : ℕ} → n ≡ length m →
-      {c : C} {x : K} → c ≡ enc.code x → (q : Rational) → Good b (m ++ (x, q) ∷ []) → (v : Bytes) → v ≡ put_entry enc w n c q →
-      Held enc places Good b v (m ++ (x, q) ∷ [])
+      {c : C} {x : K} → c ≡ enc.code x → (q : Rational) → Good b (m ++ (x, q) ∷ []) → (v : Bytes) →
+      v ≡ put_entry enc w n c q → Held enc places Good b v (m ++ (x, q) ∷ [])
   new-held {w} m h size {x = x} key q good v left =
       let bytes : v ≡ put_entry enc w (length m) (enc.code x) q =
       left ∙ ap₂ (λ (i : ℕ) (y : C). put_entry enc w i y q) size key in
@@ -134,59 +122,53 @@ module _
       many-there : n ≡ length (t.front ++ t.entry ∷ t.rest)
       many-there = sought.many ∙ ap length t.is
 
-    -- the entry at k has the value q, and a answers for its sum with the new one
-    module _
-        (value : Rational) (some-value : is_zero value ≡ false) (below : k < n) {q : Rational}
-        (makes : Makes q (number_at w (size enc * k + enc.width))) {a : Checked}
-        (gives : Gives a (checked (add_q q value))) (l : ℕ) where
-      answered : (t : There enc keyed c x k m) → checked (add_q t.entry.1 value) ≡ a
-      answered t =
-          ap (λ (y : Rational). checked (add_q y value)) (sym (value_there t q makes.is)) ∙ sym gives.is
+    -- a number is added to the entry at k
+    module _ (value : Rational) (some-value : is_zero value ≡ false) (below : k < n) (l : ℕ) where
+      answered : (t : There enc keyed c x k m) → checked (add_q t.entry.1 value) ≡ sum_at enc w k value
+      answered t = ap (λ (y : Rational). checked (add_q y value)) (sym (value_there t _ refl))
 
-      pub sum_out : a ≡ None → insert keyed (limited l) m x value ≡ Err number_range
-      unfolding ◌>>=◌
-      sum_out out =
+      pub added :
+          {r : Result ℕ} {v : Bytes} → Added enc w n k c value r v →
+          Inserts enc places Good b v r (insert keyed (limited l) m x value)
+      unfolding ◌>>=◌ when◌then◌else◌
+      added (out none) =
           let t = there below in
-          insert-there t (limited l) value some-value ∙ rw (plus_out l t.entry.1 value (answered t ∙ out))
-
-      module _ (sum : Rational) (is_sum : a ≡ Some sum) (v : Bytes) where
-        pub sum_gone :
-            is_zero sum ≡ true → v ≡ swapped enc n k w →
-            Made enc places Good b v (n - 1) (insert keyed (limited l) m x value)
-        unfolding ◌>>=◌ when◌then◌else◌
-        sum_gone z left =
-            let t = there below in
-            let p = t.front in
-            let s = t.rest in
-            let bytes : v ≡ swapped enc (length (p ++ t.entry ∷ s)) (length p) w =
-            left ∙ ap₂ (λ (i j : ℕ). swapped enc i j w) (many-there t) t.spot in
-            let all : n ≡ suc (length p + length s) =
-            many-there t ∙ length-middle t.entry p s ∙ ap suc (length-append p s) in
-            record {
-              map = p ++ swap_remove s;
-              held = rw bytes (remove_entry coded goods p t.entry s (held-there t));
-              is =
-                  insert-there t (limited l) value some-value
-                  ∙ rw (plus-value l t.entry.1 value sum (answered t ∙ is_sum), z);
-              size = omega (arith, length-append p (swap_remove s), length-swap_remove s);
-            }
-
-        pub sum-put :
-            is_zero sum ≡ false → v ≡ put_entry enc w k c sum →
-            Made enc places Good b v n (insert keyed (limited l) m x value)
-        unfolding ◌>>=◌ when◌then◌else◌
-        sum-put z left =
-            let t = there below in
-            let p = t.front in
-            let s = t.rest in
-            let new : K × Rational = (t.entry.0, sum) in
-            let bytes : v ≡ put_entry enc w (length p) (enc.code t.entry.0) sum =
-            left ∙ ap₂ (λ (i : ℕ) (y : C). put_entry enc w i y sum) t.spot (sym t.key) in
-            record {
-              map = p ++ new ∷ s;
-              held = rw bytes (write-value coded goods p t.entry s (held-there t) sum (gives.proper sum is_sum));
-              is =
-                  insert-there t (limited l) value some-value
-                  ∙ rw (plus-value l t.entry.1 value sum (answered t ∙ is_sum), z);
-              size = many-there t ∙ length-middle t.entry p s ∙ sym (length-middle new p s);
-            }
+          record {
+            map = [];
+            held = cleared m sought.held sought.many _ refl;
+            is = (
+              insert-there t (limited l) value some-value ∙ rw (plus_out l t.entry.1 value (answered t ∙ none)),
+              refl,
+            );
+          }
+      added (gone sum is z) =
+          let t = there below in
+          let p = t.front in
+          let s = t.rest in
+          let bytes = ap₂ (λ (i j : ℕ). swapped enc i j w) (many-there t) t.spot in
+          let all : n ≡ suc (length p + length s) =
+          many-there t ∙ length-middle t.entry p s ∙ ap suc (length-append p s) in
+          record {
+            map = p ++ swap_remove s;
+            held = rw bytes (remove_entry coded goods p t.entry s (held-there t));
+            is = (
+              insert-there t (limited l) value some-value
+                  ∙ rw (plus-value l t.entry.1 value sum (answered t ∙ is), z),
+              omega (arith, length-append p (swap_remove s), length-swap_remove s),
+            );
+          }
+      added (put sum is z proper) =
+          let t = there below in
+          let p = t.front in
+          let s = t.rest in
+          let new : K × Rational = (t.entry.0, sum) in
+          let bytes = ap₂ (λ (i : ℕ) (y : C). put_entry enc w i y sum) t.spot (sym t.key) in
+          record {
+            map = p ++ new ∷ s;
+            held = rw bytes (write-value coded goods p t.entry s (held-there t) sum proper);
+            is = (
+              insert-there t (limited l) value some-value
+                  ∙ rw (plus-value l t.entry.1 value sum (answered t ∙ is), z),
+              many-there t ∙ length-middle t.entry p s ∙ sym (length-middle new p s),
+            );
+          }

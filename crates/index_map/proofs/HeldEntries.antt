@@ -9,7 +9,8 @@ use lib.Seq.{drop_at}
 use Rattle.numbers.specs.Rational.{Rational, Proper}
 use Rattle.numbers.specs.Bytes.{Bytes, number_at}
 use Rattle.index_map.specs.IndexMap.{Map, swap_remove}
-use Rattle.index_map.specs.Memory.StoredMaps.{Encoding, size, entry_bytes, stored, keys_of, put_entry, blanked, swapped, Held}
+use Rattle.index_map.specs.Memory.StoredMaps.{Encoding, size, entry_bytes, stored, keys_of, put_entry, blanked, swapped}
+use Rattle.index_map.specs.Memory.StoredMaps.{Held}
 use Rattle.index_map.specs.Memory.StoredMaps.{All, none, more}
 use Rattle.index_map.proofs.EntryBytes.{Coded, cell, key-found, value_found}
 use Rattle.index_map.proofs.KeySearch.{codes}

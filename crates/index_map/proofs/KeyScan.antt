@@ -13,7 +13,7 @@ use lib.Dec.{eqb}
 use lib.ListN.{length, get_or, take, drop, length-append, length-drop, take-append-drop}
 use lib.Seq.{length-take-le, drop-drop, take_at, drop_at}
 use Rattle.std.proofs.Common.{Option, Some, None, inl, inr}
-use Rattle.std.specs.Option.{MatchOption, unwrap_or}
+use Rattle.std.specs.Option.{MatchOption}
 use Rattle.std.specs.List.{list_all, prefix_len, position_or_len}
 use Rattle.std.proofs.lemmas.Bool.{cases_lt}
 use Rattle.std.proofs.lemmas.List.{drop-append-le}
@@ -98,7 +98,8 @@ module _ (key : ℕ) where
       here true n = refl
       here false n = omega arith
 
-  all_others : (xs ys : List ℕ) → list_all other xs ≡ true → prefix_len other (xs ++ ys) ≡ length xs + prefix_len other ys
+  all_others :
+      (xs ys : List ℕ) → list_all other xs ≡ true → prefix_len other (xs ++ ys) ≡ length xs + prefix_len other ys
   all_others [] ys h = omega arith
   all_others (x ∷ xs) ys h = go (other x) (all_others xs ys) h
     where
@@ -179,10 +180,13 @@ module _ (key : ℕ) where
           past : (j : ℕ) → j < i → eqb (get_or (keys_of w n) j 0) key ≡ false
           past j h =
               elim (cases_lt j k) [
-                | inl low ↦ fails_before_first (λ k. eqb k key) (keys_of w n) j 0 (omega (arith, low, place_is (keys_of w n)))
+                | inl low ↦
+                    fails_before_first (λ k. eqb k key) (keys_of w n) j 0 (omega (arith, low, place_is (keys_of w n)))
                 | inr high ↦ rw (key_is w n j (omega arith)) (ne_eqb _ _ (before j high h))
               ]
 
-      pub found_from : (r : Option ℕ) → Found k r → unwrap_or r n ≡ place (keys_of w n) key
+      pub found_from :
+          (r : Option ℕ) → Found k r →
+          MatchOption r (n ≡ place (keys_of w n) key) (λ i. (i < n) × (i ≡ place (keys_of w n) key))
       found_from None none = at_first n (omega arith) none (λ h. absurd (omega arith))
-      found_from (Some i) f = at_first i (omega arith) f.3 (λ h. f.2)
+      found_from (Some i) f = (f.1, at_first i (omega arith) f.3 (λ h. f.2))

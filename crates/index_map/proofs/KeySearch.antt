@@ -1,4 +1,4 @@
--- The entries of a stored map as EntrySearch sees them, and the place of a key among those of a map.
+-- The place of a key among those of a map.
 use mathlib.Core.Path.{◌≡◌, refl, ap, ◌∙◌}
 use mathlib.Core.Bool.{true, false}
 use mathlib.Core.List.{List, [], ◌∷◌, ◌++◌}
@@ -6,23 +6,17 @@ use Prim.Native.Nat.{suc}
 use lib.ListN.{length}
 use Rattle.numbers.specs.Rational.{Rational}
 use Rattle.index_map.specs.IndexMap.{Map, Keys}
-use Rattle.index_map.specs.Memory.StoredMaps.{Encoding, size, keys_of, place, All, none, more}
-use Rattle.index_map.proofs.EntrySearch.{Entries}
+use Rattle.index_map.specs.Memory.StoredMaps.{Encoding, place, All, none, more}
 use Rattle.index_map.proofs.KeyedMaps.{Lacks, nothing, another, same_key}
 
-module _ {K C : Type 0} (enc : Encoding K C) (c : C) where
-  pub keys : Entries (size enc) (λ w. enc.same (enc.read w 0) c) (λ w n. place enc (keys_of enc w n) c)
-  unfolding keys_of place
-  keys = record { none = λ w. refl; more = λ w n. refl }
+module _ {K C : Type 0} (enc : Encoding K C) (c x : C) (l : List C) where
+  place_here : enc.same x c ≡ true → place enc (x ∷ l) c ≡ 0
+  unfolding place
+  place_here same = rw (same, place)
 
-  module _ (x : C) (l : List C) where
-    place_here : enc.same x c ≡ true → place enc (x ∷ l) c ≡ 0
-    unfolding place
-    place_here same = rw (same, place)
-
-    place-past : enc.same x c ≡ false → place enc (x ∷ l) c ≡ suc (place enc l c)
-    unfolding place
-    place-past other = rw (other, place)
+  place-past : enc.same x c ≡ false → place enc (x ∷ l) c ≡ suc (place enc l c)
+  unfolding place
+  place-past other = rw (other, place)
 
 -- ---- among the keys of a map
 

@@ -3,7 +3,7 @@
 use mathlib.Core.Path.{◌≡◌, refl, ap, ◌∙◌}
 use mathlib.Core.Bool.{Bool, true, false}
 use mathlib.Core.List.{[], ◌∷◌, ◌++◌}
-use Rattle.std.specs.Prelude.{Some, None}
+use Rattle.std.specs.Prelude.{Some, None, Ok, Err}
 use Prim.Native.Nat.{ℕ, suc, ◌+◌}
 use native.Mathlib.Nat.{add-zero}
 use native.Mathlib.Omega.{arith}
@@ -12,8 +12,7 @@ use Rattle.numbers.specs.Rational.{Rational, is_zero}
 use Rattle.numbers.specs.Choice.{when◌then◌else◌}
 use Rattle.terms.specs.Readers.{within}
 use Rattle.rules.specs.Refusal.{Result, ◌>>=◌, assert}
-use Rattle.std.specs.Prelude.{Ok, Err}
-use Rattle.rules.specs.Refusal.Refusal.{polynomial_size}
+use Rattle.rules.specs.declared.refusal.Refusal.TheVariants.{PolynomialSize}
 use Rattle.rules.specs.Limits.{Limits, plus}
 use Rattle.index_map.specs.IndexMap.{Map, Keys, get, enter, insert, swap_remove}
 
@@ -66,7 +65,7 @@ module _ {K : Type 0} (keys : Keys K) (key : K) where
 
   -- an entry more, where n of them are within the limit
   abbrev pub appended : Limits → ℕ → Map K → Rational → Result (Map K)
-  appended l n m value = assert (within (keys.most l) n) polynomial_size >>= λ _. Ok (m ++ (key, value) ∷ [])
+  appended l n m value = assert (within (keys.most l) n) PolynomialSize >>= λ _. Ok (m ++ (key, value) ∷ [])
 
   entered_cons :
       (f : K × Rational) (p : Map K) (e : K × Rational) (s : Map K) (sum : Result Rational) →
@@ -77,8 +76,8 @@ module _ {K : Type 0} (keys : Keys K) (key : K) where
 
   appended_cons :
       (f : K × Rational) (m : Map K) (value : Rational) (t : Bool) →
-      (assert t polynomial_size >>= (λ _. Ok (m ++ (key, value) ∷ [])) >>= λ r. Ok (f ∷ r))
-      ≡ (assert t polynomial_size >>= λ _. Ok (f ∷ m ++ (key, value) ∷ []))
+      (assert t PolynomialSize >>= (λ _. Ok (m ++ (key, value) ∷ [])) >>= λ r. Ok (f ∷ r))
+      ≡ (assert t PolynomialSize >>= λ _. Ok (f ∷ m ++ (key, value) ∷ []))
   unfolding ◌>>=◌ assert
   appended_cons f m value true = refl
   appended_cons f m value false = refl

@@ -4,10 +4,10 @@ pub mod MapEnds
 pub mod MapKeys
 pub mod NumberBytes
 pub mod CheckedNumbers
+pub mod WalkedConstants
 pub mod EntryBytes
 pub mod StoredBytes
 pub mod KeySearch
-pub mod EntrySearch
 pub mod HeldEntries
 pub mod FoundEntries
 pub mod NumberedKeys

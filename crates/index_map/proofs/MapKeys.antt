@@ -77,10 +77,9 @@ module _ {b : Bytes} (e : Term × Rational) (s : Map Term) where
   put_in [] new good = (new, good)
   put_in (f ∷ p) new good =
       let others = lacks-others new in
+      let other = other_way (key_of f) (key_of e) (lacks-middle (key_of e) f (p ++ s) [] others) in
       let first = good.0 in (
-        before (p ++ e ∷ s) first
-            (lacks-into (key_of f) e s p (other_way (key_of f) (key_of e) (lacks-middle (key_of e) f (p ++ s) [] others))
-            (lacks-others first)),
+        before (p ++ e ∷ s) first (lacks-into (key_of f) e s p other (lacks-others first)),
         put_in p (before (p ++ s) new (lacks-without (key_of e) f (p ++ s) [] others)) good.1,
       )
 

@@ -1,5 +1,5 @@
--- The bytes of a number behind any front of bytes: a write puts them there and leaves the rest (`put_at`, `number_at_lem`),
--- and a read finds them (`le_at`, `number-back`).
+-- The bytes of a number behind any front of bytes: a write puts them there and leaves the rest (`put_at`,
+-- `number_at_lem`), and a read finds them (`le_at`, `number-back`).
 use mathlib.Core.Path.{◌≡◌, refl, sym, ap, ◌∙◌}
 use mathlib.Core.Bool.{Bool, true, false, cond}
 use mathlib.Core.List.{[], ◌∷◌, ◌++◌, append_assoc}

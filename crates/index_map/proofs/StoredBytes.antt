@@ -9,7 +9,8 @@ use lib.ListN.{length, replicate, length-append, length-replicate}
 use Rattle.numbers.specs.Rational.{Rational, Proper}
 use Rattle.numbers.specs.Bytes.{Bytes, number_at}
 use Rattle.index_map.specs.IndexMap.{Map, swap_remove}
-use Rattle.index_map.specs.Memory.StoredMaps.{Encoding, size, entry_bytes, stored, put_entry, blanked, swapped, All, none}
+use Rattle.index_map.specs.Memory.StoredMaps.{Encoding, size, entry_bytes, stored, put_entry, blanked, swapped, All}
+use Rattle.index_map.specs.Memory.StoredMaps.{none}
 use Rattle.index_map.specs.Memory.StoredMaps.{more}
 use Rattle.rules.specs.Memory.Parts.{blank}
 use Rattle.index_map.proofs.Zeros.{zeros-join}

@@ -8,7 +8,7 @@ use Rattle.numbers.specs.Choice.{when◌then◌else◌}
 use Rattle.terms.specs.Readers.{Bound, within}
 use Rattle.rules.specs.Refusal.{Result, ◌>>=◌, assert}
 use Rattle.std.specs.Prelude.{Ok}
-use Rattle.rules.specs.Refusal.Refusal.{visit_limit, polynomial_size}
+use Rattle.rules.specs.declared.refusal.Refusal.TheVariants.{VisitLimit, PolynomialSize}
 use Rattle.rules.specs.Limits.{Limits, times, plus}
 
 abbrev pub Map : Type 0 → Type 0
@@ -62,7 +62,7 @@ module _ {K : Type 0} (keys : Keys K) where
   -- n entries stand before these
   unfoldable pub enter : Limits → ℕ → Map K → K → Rational → Result (Map K)
   enter l n [] key value = do
-    _ ← assert (within (keys.most l) (suc n)) polynomial_size
+    _ ← assert (within (keys.most l) (suc n)) PolynomialSize
     Ok ((key, value) ∷ [])
   enter l n (e ∷ m) key value = elim (keys.same e.0 key) [
     | true ↦ (do
@@ -111,7 +111,7 @@ walked s n = record { sum = s; visits = n }
 -- a visit is counted before it is made
 unfoldable pub visit : {K : Type 0} → Limits → Walked K → Result (Walked K)
 visit l w = do
-  _ ← assert (within l.visits (suc w.visits)) visit_limit
+  _ ← assert (within l.visits (suc w.visits)) VisitLimit
   Ok (walked w.sum (suc w.visits))
 
 unfoldable pub add_entry : {K : Type 0} → Keys K → Limits → K → Rational → Walked K → Result (Walked K)

@@ -1,39 +1,27 @@
 // `IndexMap<Rc<Term>, Rational>`: entries in the order of insertion, in an area of the lent work area. An entry is a
 // record number in two bytes and a number in eight; after the entries come zeros. How many there are is carried by
-// value. A refusal leaves the area empty.
-ghost use Rattle.std.specs.Prelude.{◌≡◌, true, not, ℕ, ◌+◌, ◌*◌, ◌/◌, ◌≤◌, ◌<◌, eqb, length};
+// value, since an area is lent, is longer than what is used of it, and nothing is allocated. A refusal leaves the area
+// empty.
+ghost use Rattle.std.specs.Prelude.{◌≡◌, true, not, ℕ, ◌+◌, ◌*◌, ◌/◌, ◌≤◌, ◌<◌, eqb, length, MatchOption, Ok};
 ghost use Rattle.std.specs.List.{list_all};
 ghost use Rattle.numbers.specs.Rational.{Makes, Proper};
 ghost use Rattle.numbers.specs.Bytes.{Bytes, le, number_at};
+ghost use Rattle.terms.specs.Term.{Term};
 ghost use Rattle.terms.specs.Book.{count, tree};
 ghost use Rattle.rules.specs.Limits.{limited};
 ghost use Rattle.index_map.specs.IndexMap.{insert, get};
 ghost use Rattle.index_map.specs.Memory.Entries.{most_entries, terms, keys_of, entries_of, place, put_entry, blanked};
-ghost use Rattle.index_map.specs.Memory.Entries.{swapped, absent, Kept};
-ghost use Rattle.index_map.specs.Memory.Entries.{Grown, Inserts, CoefficientIs, EntryPlace, NewEntry};
-ghost use Rattle.rules.specs.Memory.Parts.{blank};
-ghost use Rattle.index_map.specs.declared.index_map.Inserted.TheVariants as inserted;
+ghost use Rattle.index_map.specs.Memory.Entries.{sums, absent, Kept, Grown, Inserts, CoefficientIs};
+ghost use Rattle.index_map.specs.Memory.Entries.{EntryPlace, NewEntry};
 
+use crate::stored_map::StoredMap;
 use numbers::bytes::{read_u16, wide, write_u16};
 use numbers::number::Number;
+use rules::refusal::Refusal;
 use terms::areas::{COEFFICIENT_AT, ENTRY_BYTES};
 
 // The bytes of eight entries.
 const EIGHT_ENTRIES: usize = 80;
-
-// How many entries there are after an insertion.
-#[derive(Clone, Copy)]
-pub enum Inserted {
-    Length(usize),
-    // Refusal 11.
-    OutOfRange,
-}
-
-#[derive(Clone, Copy)]
-pub enum Coefficient {
-    Of(Number),
-    Missing,
-}
 
 // The record number of entry k.
 pub fn key_at(entries: &[u8], k: usize) -> usize
@@ -58,11 +46,33 @@ pub fn put_entry(entries: &mut [u8], k: usize, key: usize, value: Number)
     value.write(entries, ENTRY_BYTES * k + COEFFICIENT_AT);
 }
 
-fn blank_entry(entries: &mut [u8], k: usize)
-    requires { k ≤ most_entries }
-    ensures { entries.new ≡ put_entry entries.old k 0 blank }
-{
-    put_entry(entries, k, 0, Number { num: 0, den: 0 });
+// Sums are maps of terms.
+struct Sums;
+
+impl StoredMap for Sums {
+    type Key = u16;
+
+    ghost Of = { Term };
+
+    ghost encoding = { sums };
+
+    ghost room = { λ l k. k ≤ most_entries };
+
+    fn key_at(entries: &[u8], k: usize) -> u16 {
+        key_at(entries, k) as u16
+    }
+
+    fn value_at(entries: &[u8], k: usize) -> Number {
+        value_at(entries, k)
+    }
+
+    fn put_entry(entries: &mut [u8], k: usize, key: &u16, value: Number) {
+        put_entry(entries, k, usize::from(*key), value)
+    }
+
+    fn blank_entry(entries: &mut [u8], k: usize) {
+        put_entry(entries, k, 0, Number { num: 0, den: 0 })
+    }
 }
 
 // The key of the entry at the front of some bytes. It is known to be inside, which spares a test for each entry.
@@ -97,26 +107,24 @@ fn skipped(entries: &[u8], n: usize, key: usize) -> usize
         .count()
 }
 
-// The place of the entry with a key; n where none of the n entries has it.
-fn find(entries: &[u8], n: usize, key: usize) -> usize
+// The place of the entry with a key.
+fn find(entries: &[u8], n: usize, key: usize) -> Option<usize>
     requires { n ≤ most_entries }
-    ensures { result ≡ place (keys_of entries.now n) key }
+    ensures { MatchOption result (n ≡ place (keys_of entries.now n) key)
+        (λ k. (k < n) × (k ≡ place (keys_of entries.now n) key)) }
 {
     let start = skipped(entries, n, key);
-    (start..n).find(|k| key_at(entries, *k) == key).unwrap_or(n)
+    (start..n).find(|k| key_at(entries, *k) == key)
 }
 
 // The coefficient of a key.
-pub fn get(entries: &[u8], n: usize, key: usize) -> Coefficient
+pub fn get(entries: &[u8], n: usize, key: usize) -> Option<Number>
     requires { n ≤ most_entries }
     ensures { (b : Bytes) → Kept b entries.now n →
         CoefficientIs result (get terms (entries_of b entries.now n) (tree b key)) }
 {
-    let k = find(entries, n, key);
-    if k < n {
-        return Coefficient::Of(value_at(entries, k));
-    }
-    Coefficient::Missing
+    let k = find(entries, n, key)?;
+    Some(value_at(entries, k))
 }
 
 // Empties an area of n entries.
@@ -124,21 +132,7 @@ pub fn clear(entries: &mut [u8], n: usize)
     requires { n ≤ most_entries }
     ensures { entries.new ≡ blanked n entries.old }
 {
-    for k in 0..n {
-        blank_entry(entries, k);
-    }
-}
-
-// The last of n entries takes the place of entry k.
-fn swap_remove(entries: &mut [u8], n: usize, k: usize)
-    requires { (n ≤ most_entries) × (k < n) }
-    ensures { entries.new ≡ swapped n k entries.old }
-{
-    let last = n - 1;
-    let key = key_at(entries, last);
-    let value = value_at(entries, last);
-    put_entry(entries, k, key, value);
-    blank_entry(entries, last);
+    Sums::clear(entries, n)
 }
 
 // Appends an entry whose key no other has: the search for it is spared. 0 is not entered. How many entries there are
@@ -148,7 +142,7 @@ pub fn append(entries: &mut [u8], n: usize, key: usize, value: Number) -> usize
     ensures upper_bound { result ≤ n + 1 }
     ensures inserts { (b : Bytes) → Kept b entries.old n → key < count b →
         absent key (entries_of b entries.old n) ≡ true → (l : ℕ) →
-        Inserts b entries.new (inserted.Length result)
+        Inserts b entries.new (Ok result)
         (insert terms (limited l) (entries_of b entries.old n) (tree b key) value) }
 {
     if value.is_zero() {
@@ -158,8 +152,9 @@ pub fn append(entries: &mut [u8], n: usize, key: usize, value: Number) -> usize
     n + 1
 }
 
-// Adds to the entry that has the key, or appends one; an entry that becomes 0 is removed.
-pub fn insert(entries: &mut [u8], n: usize, key: usize, value: Number) -> Inserted
+// Adds to the entry that has the key, or appends one; an entry that becomes 0 is removed. How many entries there are
+// then; refused where the sum leaves the range.
+pub fn insert(entries: &mut [u8], n: usize, key: usize, value: Number) -> Result<usize, Refusal>
     requires { NewEntry n key value }
     ensures grown { Grown n result }
     ensures inserts { (b : Bytes) → Kept b entries.old n → key < count b → (l : ℕ) →
@@ -167,21 +162,11 @@ pub fn insert(entries: &mut [u8], n: usize, key: usize, value: Number) -> Insert
         (insert terms (limited l) (entries_of b entries.old n) (tree b key) value) }
 {
     if value.is_zero() {
-        return Inserted::Length(n);
+        return Ok(n);
     }
-    let k = find(entries, n, key);
-    if n <= k {
+    let Some(k) = find(entries, n, key) else {
         put_entry(entries, n, key, value);
-        return Inserted::Length(n + 1);
-    }
-    let Some(sum) = value_at(entries, k).add(value) else {
-        clear(entries, n);
-        return Inserted::OutOfRange;
+        return Ok(n + 1);
     };
-    if sum.is_zero() {
-        swap_remove(entries, n, k);
-        return Inserted::Length(n - 1);
-    }
-    put_entry(entries, k, key, sum);
-    Inserted::Length(n)
+    Sums::add(entries, n, k, &(key as u16), value)
 }

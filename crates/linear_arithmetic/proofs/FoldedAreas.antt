@@ -4,7 +4,12 @@
 --     Given, Reached, reached-begin, reached-length, reached-only, reached-again       a loop over the literals
 --     FoldedSoFar, so_far-begin, so_far-end       that of `fold_literals`
 --     phi-below, step-refused, step-inferred, step-again       one turn of it
-use mathlib.Core.Path.{◌≡◌, refl, sym, ap, subst, ◌∙◌}
+use Rattle.std.specs.Prelude.{Option}
+use Rattle.std.specs.Prelude.{Err}
+use Rattle.std.specs.Prelude.{None}
+use Rattle.std.specs.Prelude.{Some}
+use Rattle.index_map.specs.Memory.Answers.{Has}
+use mathlib.Core.Path.{◌≡◌, refl, sym, ap, ◌∙◌}
 use mathlib.Core.List.{List, [], ◌∷◌}
 use Prim.Native.Nat.{ℕ, suc, ◌+◌, ◌/◌, ◌≤◌, ◌<◌}
 use native.Mathlib.Numerals.{add-one}
@@ -15,29 +20,26 @@ use Rattle.numbers.specs.Bytes.{Bytes}
 use Rattle.terms.specs.Term.{Term}
 use Rattle.terms.specs.Book.{count, tree}
 use Rattle.rules.specs.Refusal.{Result}
+use Rattle.rules.specs.declared.refusal.Refusal.{Refusal}
 use Rattle.std.specs.Prelude.{Ok}
 use Rattle.rules.specs.Limits.{Limits, limited}
 use Rattle.index_map.specs.IndexMap.{Map}
 use Rattle.process_disequality.specs.ProcessDisequality.{Progress, process_disequality}
 use Rattle.linear_arithmetic.specs.LinearArithmetic.{read_args}
 use Rattle.rules.specs.Shapes.{Clause}
-use Rattle.linear_comb.specs.Memory.WorkArea.{area_of, OnlyArea, Area, SumHas}
+use Rattle.linear_comb.specs.Memory.WorkArea.{area_of, OnlyArea, Area}
 use Rattle.index_map.specs.Memory.Entries.{Held, CoefficientIs}
-use Rattle.process_disequality.specs.Memory.ProcessSteps.{given_of, progress_of, progress_with, ProcessedIs}
-use Rattle.process_disequality.specs.Memory.ProcessSteps.{ProcessedLeft, Folding, processed_refusal}
+use Rattle.process_disequality.specs.Memory.ProcessSteps.{progress_of, progress_with, ProcessedLeft, Folding}
 use Rattle.linear_arithmetic.specs.Memory.LinearSteps.{at, fold_some, AllNumbers, fold_read, FoldedLeft}
 use Rattle.rules.specs.Memory.Parts.{numbers_in, terms_in, Inside}
 use Rattle.disequality.specs.Memory.DisequalitySteps.{Between}
-use Rattle.index_map.specs.declared.index_map.Coefficient.{Coefficient}
-use Rattle.index_map.specs.declared.index_map.Coefficient.TheVariants.{Of, Missing}
-use Rattle.process_disequality.specs.declared.process_disequality.Processed.{Processed}
-use Rattle.process_disequality.specs.declared.process_disequality.Processed.TheVariants as processed
 use Rattle.linear_arithmetic.specs.declared.linear_arithmetic.Folded.{Folded}
 use Rattle.linear_arithmetic.specs.declared.linear_arithmetic.Folded.TheVariants as folded
 use Rattle.process_disequality.specs.declared.process_disequality.Progress as by_value
 use Rattle.linear_comb.proofs.Areas.{Within, within-sorts, within-only, only-other, only_then, only_none}
 use Rattle.linear_comb.proofs.AreaSteps.{kept-sum, sum-entries}
-use Rattle.rules.proofs.Results.{next, ends, refuses-as, asserted_passes}
+use Rattle.rules.proofs.Results.{next, ends}
+use Rattle.rules.proofs.Yields.{through}
 use Rattle.rules.proofs.RunParts.{length-numbers_in, named_cons, named_past, below_at}
 use Rattle.linear_arithmetic.proofs.FoldedSteps.{some_first, some-inferred, some-again}
 
@@ -45,7 +47,7 @@ use Rattle.linear_arithmetic.proofs.FoldedSteps.{some_first, some-inferred, some
 
 -- the progress by value, with the bytes that are left, is the progress with the entries
 pub progress-left :
-    {b : Bytes} (w : Bytes) {m : Map Term} (p : by_value.Progress) → Held b (area_of 0 w) m → SumHas p.acc m →
+    {b : Bytes} (w : Bytes) {m : Map Term} (p : by_value.Progress) → Held b (area_of 0 w) m → Has p.acc m →
     progress_with p m [] ≡ progress_of b w p
 progress-left w p h has = ap (λ z. progress_with p z []) (sym (sum-entries h has))
 
@@ -102,16 +104,16 @@ module _ {A : Type 0} {g : Given} {whole : A} {onward : Clause → List Rational
       Reached g whole onward g.work p 0
   reached-begin folding named numbers left =
       let area : Area 0 g.work = record { size = folding.between.size; among = omega arith } in
-      let read = asserted_passes (read_args (limits_of g) (terms_in g.book g.args)) numbers in
+      let read = through (read_args (limits_of g) (terms_in g.book g.args)) (λ qs. Ok tt) tt numbers in
       record {
         inside = omega arith;
         named = named;
         start = area;
         folding = folding;
         only = only_none area;
-        numbers = read.value;
-        all = read.is;
-        left = left read.value read.is;
+        numbers = read.middle;
+        all = read.first;
+        left = left read.middle read.first;
       }
 
   module _ {w : Bytes} {p : by_value.Progress} {k : ℕ} (far : Reached g whole onward w p k) where
@@ -124,7 +126,7 @@ module _ {A : Type 0} {g : Given} {whole : A} {onward : Clause → List Rational
     -- some literals more: the sum q has the entries m
     pub reached-again :
         {onward' : Clause → List Rational → Progress → ℕ → A} {w' : Bytes} {m : Map Term} {q : by_value.Progress}
-        {n : ℕ} → Held g.book (area_of 0 w') m → OnlyArea 0 w w' → SumHas q.acc m →
+        {n : ℕ} → Held g.book (area_of 0 w') m → OnlyArea 0 w w' → Has q.acc m →
         n ≤ length g.literals / 4 →
         onward (drop k (clause_of g)) (drop k far.numbers) (progress_of g.book w p) k ≡
         onward' (drop n (clause_of g)) (drop n far.numbers) (progress_with q m []) n →
@@ -161,20 +163,19 @@ unfolding fold_read
 so_far-begin g p folding named numbers = reached-begin folding named numbers (λ qs all. next _ all)
 
 -- what is promised of the answer r, with the bytes w'
-abbrev Promised : Given → Result (Progress × ℕ) → Bytes → Folded → Type 0
+abbrev Promised : Given → Result (Progress × ℕ) → Bytes → Result Folded → Type 0
 Promised g whole w' r = FoldedLeft g.book g.work w' (length (numbers_in g.literals)) r whole
 
 -- the literal in record phi
-abbrev literal_from : Given → Bytes → by_value.Progress → ℕ → Coefficient → Result Progress
-literal_from g w q phi arg =
-    process_disequality (limits_of g) (progress_of g.book w q) (tree g.book phi) (given_of arg)
+abbrev literal_from : Given → Bytes → by_value.Progress → ℕ → Option Rational → Result Progress
+literal_from g w q phi arg = process_disequality (limits_of g) (progress_of g.book w q) (tree g.book phi) arg
 
 module _ {g : Given} {whole : Result (Progress × ℕ)} {w : Bytes} {q : by_value.Progress} {k : ℕ} where
-  pub so_far-end : FoldedSoFar g whole w q k → length g.literals / 4 ≤ k → Promised g whole w (folded.Done q)
+  pub so_far-end : FoldedSoFar g whole w q k → length g.literals / 4 ≤ k → Promised g whole w (Ok (folded.Done q))
   unfolding fold_some
   so_far-end far h =
       let kept = far.folding.acc.kept in
-      let has : SumHas q.acc kept.map = record { size = kept.size; proper = far.folding.acc.proper } in
+      let has : Has q.acc kept.map = record { size = kept.size; proper = far.folding.acc.proper } in
       let all_done : k ≡ length (numbers_in g.literals) =
       omega (arith, far.inside, length-numbers_in g.literals)
       in
@@ -198,14 +199,13 @@ module _ {g : Given} {whole : Result (Progress × ℕ)} {w : Bytes} {q : by_valu
   phi-below far h phi_is =
       rw phi_is (below_at _ (numbers_in g.literals) k 0 far.named (rw (length-numbers_in g.literals) h))
 
-  -- literal k was processed, with the argument that stands there: the answer is r, and w' is left
+  -- literal k was processed, with the argument that stands there, and w' is left
   module _
       (far : FoldedSoFar g whole w q k) (inside : k < length g.literals / 4)
-      {phi : ℕ} (phi_is : phi ≡ get_or (numbers_in g.literals) k 0) (arg : Coefficient)
+      {phi : ℕ} (phi_is : phi ≡ get_or (numbers_in g.literals) k 0) (arg : Option Rational)
       (arg_is :
       (n : ℕ) (qs : List Rational) → read_args (limited n) (terms_in g.book g.args) ≡ Ok qs →
-      CoefficientIs arg (at qs k))
-      {w' : Bytes} {r : Processed} (left : ProcessedLeft g.book w w' r (literal_from g w q phi arg)) where
+      CoefficientIs arg (at qs k)) where
     abbrev here : Clause → Result (Progress × ℕ)
     here clause = fold_some (limits_of g) clause (drop k far.numbers) (progress_of g.book w q) k
 
@@ -218,41 +218,34 @@ module _ {g : Given} {whole : Result (Progress × ℕ)} {w : Bytes} {q : by_valu
     argued : CoefficientIs arg (at far.numbers k)
     argued = arg_is _ far.numbers far.all
 
-    said : (s : Processed) → r ≡ s → ProcessedIs s left.map (literal_from g w q phi arg)
-    said s e =
-        subst (λ z. ProcessedIs z left.map (literal_from g w q phi arg)) e left.is
-
-    -- n is the number of the refusal
     pub step-refused :
-        {c n : ℕ} → r ≡ processed.Refused c → n ≡ processed_refusal r → Promised g whole w' (folded.Refused n)
-    step-refused {n = n} e n-is =
-        let is = said (processed.Refused n) (e ∙ ap processed.Refused (sym (n-is ∙ ap processed_refusal e))) in
+        {w' : Bytes} {r : Refusal} → ProcessedLeft g.book w w' (Err r) (literal_from g w q phi arg) →
+        Promised g whole w' (Err r)
+    step-refused left =
         let first = some_first (limits_of g) _ refl _ _ far.numbers k arg argued in
         record {
           map = left.map;
           held = left.held;
           only = reached-only far left.only;
-          is = (refuses-as is.0 (λ d f. far.left ∙ literal-next ∙ first ∙ ends _ f), is.1);
+          is = (far.left ∙ literal-next ∙ first ∙ ends _ left.is.0, left.is.1);
         }
 
-    pub step-inferred :
-        (next : by_value.Progress) (found : Coefficient) → r ≡ processed.Accumulated next found →
-        (a : Rational) → found ≡ Of a → Promised g whole w' (folded.Inferred next a (k + 1))
-    step-inferred next found e a f =
-        let is = said (processed.Accumulated next (Of a)) (rw (← f) e) in
-        let stops = some-inferred (limits_of g) _ refl _ _ far.numbers k arg argued _ is.0 a refl in
-        record {
-          map = left.map;
-          held = left.held;
-          only = reached-only far left.only;
-          is = (rw add-one (far.left ∙ literal-next ∙ stops), is.1);
-        }
+    module _ {w' : Bytes} {next : by_value.Progress} where
+      pub step-inferred :
+          {a : Rational} → ProcessedLeft g.book w w' (Ok (next, Some a)) (literal_from g w q phi arg) →
+          Promised g whole w' (Ok (folded.Inferred next a (k + 1)))
+      step-inferred {a} left =
+          let stops = some-inferred (limits_of g) _ refl _ _ far.numbers k arg argued _ left.is.0 a refl in
+          record {
+            map = left.map;
+            held = left.held;
+            only = reached-only far left.only;
+            is = (rw add-one (far.left ∙ literal-next ∙ stops), left.is.1);
+          }
 
-    pub step-again :
-        (next : by_value.Progress) (found : Coefficient) → r ≡ processed.Accumulated next found → found ≡ Missing →
-        FoldedSoFar g whole w' next (k + 1)
-    step-again next found e f =
-        let is = said (processed.Accumulated next Missing) (rw (← f) e) in
-        let goes = some-again (limits_of g) _ refl _ _ far.numbers k arg argued _ is.0 refl in
-        reached-again far left.held left.only is.1.0 (omega arith)
-        (rw add-one (literal-next ∙ goes))
+      pub step-again :
+          ProcessedLeft g.book w w' (Ok (next, None)) (literal_from g w q phi arg) →
+          FoldedSoFar g whole w' next (k + 1)
+      step-again left =
+          let goes = some-again (limits_of g) _ refl _ _ far.numbers k arg argued _ left.is.0 refl in
+          reached-again far left.held left.only left.is.1.0 (omega arith) (rw add-one (literal-next ∙ goes))

@@ -14,7 +14,8 @@ use lib.ListN.{length, drop}
 use lib.Seq.{drop-nil}
 use Rattle.numbers.specs.Rational.{Rational}
 use Rattle.terms.specs.Term.{Term}
-use Rattle.rules.specs.Refusal.{Refusal, Result, ◌>>=◌}
+use Rattle.rules.specs.Refusal.{Result, ◌>>=◌}
+use Rattle.rules.specs.declared.refusal.Refusal.{Refusal}
 use Rattle.std.specs.Prelude.{Ok, Err}
 use Rattle.rules.specs.Limits.{Limits}
 use Rattle.index_map.specs.IndexMap.{add}
@@ -25,10 +26,7 @@ use Rattle.process_disequality.specs.ProcessDisequality.{scalar, process_disequa
 use Rattle.linear_arithmetic.specs.LinearArithmetic.{fold_literals}
 use Rattle.disequality.specs.Disequality.{disequality_of}
 use Rattle.rules.specs.Shapes.{Clause}
-use Rattle.process_disequality.specs.Memory.ProcessSteps.{given_of}
 use Rattle.linear_arithmetic.specs.Memory.LinearSteps.{fold_some, at}
-use Rattle.index_map.specs.declared.index_map.Coefficient.{Coefficient}
-use Rattle.index_map.specs.declared.index_map.Coefficient.TheVariants.{Of, Missing}
 use Rattle.rules.proofs.Results.{next, ends, bind-same, bind_assoc}
 use Rattle.rules.proofs.Yields.{Yields, gives, at_ok, and_then, past}
 
@@ -127,32 +125,32 @@ at_none (a ∷ qs) (suc k) h = at_none qs k h
 
 -- nothing was inferred before
 module _ (l : Limits) (p : Progress) (new : p.trace ≡ []) (phi : Term) (ts : Clause) (qs : List Rational) (k : ℕ) where
-  abbrev further : Coefficient → Progress → Result (Progress × ℕ)
-  further (Of a) q = fold_some l ts (drop (suc k) qs) q (suc k)
-  further Missing q = Ok (q, suc k)
+  abbrev further : Option Rational → Progress → Result (Progress × ℕ)
+  further (Some a) q = fold_some l ts (drop (suc k) qs) q (suc k)
+  further None q = Ok (q, suc k)
 
   pub some_first :
-      (arg : Coefficient) → CoefficientIs arg (at qs k) →
-      fold_some l (phi ∷ ts) (drop k qs) p k ≡ (process_disequality l p phi (given_of arg) >>= further arg)
+      (arg : Option Rational) → CoefficientIs arg (at qs k) →
+      fold_some l (phi ∷ ts) (drop k qs) p k ≡ (process_disequality l p phi arg >>= further arg)
   unfolding fold_some
-  some_first (Of a) is = ap (λ z. fold_some l (phi ∷ ts) z p k) (at_some qs k a is.0)
-  some_first Missing is = ap (λ z. fold_some l (phi ∷ ts) z p k) (at_none qs k is)
+  some_first (Some a) is = ap (λ z. fold_some l (phi ∷ ts) z p k) (at_some qs k a is.0)
+  some_first None is = ap (λ z. fold_some l (phi ∷ ts) z p k) (at_none qs k is)
 
   -- a number was inferred
   pub some-inferred :
-      (arg : Coefficient) → CoefficientIs arg (at qs k) → (r : Progress) →
-      process_disequality l p phi (given_of arg) ≡ Ok r → (x : Rational) → r.trace ≡ x ∷ [] →
+      (arg : Option Rational) → CoefficientIs arg (at qs k) → (r : Progress) →
+      process_disequality l p phi arg ≡ Ok r → (x : Rational) → r.trace ≡ x ∷ [] →
       fold_some l (phi ∷ ts) (drop k qs) p k ≡ Ok (r, suc k)
-  some-inferred (Of a) is r h x one = let same : r.trace ≡ p.trace = trace-given l p phi a r h in cc
-  some-inferred Missing is r h x one = some_first Missing is ∙ next _ h
+  some-inferred (Some a) is r h x one = let same : r.trace ≡ p.trace = trace-given l p phi a r h in cc
+  some-inferred None is r h x one = some_first None is ∙ next _ h
 
   -- none was
   pub some-again :
-      (arg : Coefficient) → CoefficientIs arg (at qs k) → (r : Progress) →
-      process_disequality l p phi (given_of arg) ≡ Ok r → r.trace ≡ [] →
+      (arg : Option Rational) → CoefficientIs arg (at qs k) → (r : Progress) →
+      process_disequality l p phi arg ≡ Ok r → r.trace ≡ [] →
       fold_some l (phi ∷ ts) (drop k qs) p k ≡ fold_some l ts (drop (suc k) qs) r (suc k)
-  some-again (Of a) is r h nothing = some_first (Of a) is ∙ next _ h
-  some-again Missing is r h nothing =
+  some-again (Some a) is r h nothing = some_first (Some a) is ∙ next _ h
+  some-again None is r h nothing =
       let more = at_ok (traced l p phi None) h in
       let one : [] ≡ more.number ∷ [] = sym nothing ∙ more.is ∙ ap (λ z. z ++ more.number ∷ []) new in
       cc

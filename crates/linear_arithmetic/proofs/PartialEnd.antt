@@ -1,8 +1,10 @@
 -- `la_generic_partial` by where its fold ends, and `la_generic` by that.
 --     partial_end, end_of, is_contradiction, last_line       where the fold ends, and the rule's last line
---     partial_of, Judged, partial_ended, partial_by, part-unread       the rule's answer
+--     partial_of, Judged, partial_ended, partial_by, unread, part-unread       the rule's answer
 --     Ended, ended-trace       the numbers that the fold inferred, where it ends
 --     generic_unequal, generic_equal       `la_generic`
+use Rattle.std.specs.Prelude.{Err}
+use Rattle.index_map.specs.Memory.Answers.{Has}
 use mathlib.Core.Path.{◌≡◌, refl, sym, ap, subst, ◌∙◌}
 use mathlib.Core.Bool.{Bool, true, false, ◌&&◌, not, cond}
 use mathlib.Core.List.{List, [], ◌∷◌}
@@ -16,26 +18,21 @@ use Rattle.numbers.specs.Rational.{Rational}
 use Rattle.numbers.specs.Bytes.{Bytes}
 use Rattle.terms.specs.Operator.{Equals}
 use Rattle.terms.specs.Term.{Term}
-use Rattle.rules.specs.Refusal.{Refusal, Result, ◌>>=◌, assert, number}
+use Rattle.rules.specs.Refusal.{Result, ◌>>=◌, assert}
+use Rattle.rules.specs.declared.refusal.Refusal.{Refusal}
 use Rattle.std.specs.Prelude.{Ok}
-use Rattle.rules.specs.Refusal.Refusal.{wrong_number_of_args, disequality_is_not_contradiction}
+use Rattle.rules.specs.declared.refusal.Refusal.TheVariants.{WrongNumberOfArgs, DisequalityIsNotContradiction}
 use Rattle.rules.specs.Limits.{Limits, limited}
 use Rattle.index_map.specs.IndexMap.{Map, is_empty, new}
 use Rattle.process_disequality.specs.ProcessDisequality.{Progress, progress}
 use Rattle.linear_arithmetic.specs.LinearArithmetic.{read_args, is_true_at_zero, la_generic_partial, la_generic}
 use Rattle.rules.specs.Shapes.{Clause}
-use Rattle.linear_comb.specs.Memory.WorkArea.{SumHas}
-use Rattle.rules.specs.Memory.Parts.{terms_in, asserted_of, verdict_of}
+use Rattle.rules.specs.Memory.Parts.{terms_in}
 use Rattle.process_disequality.specs.Memory.ProcessSteps.{progress_with}
-use Rattle.linear_arithmetic.specs.Memory.LinearSteps.{visits_of, contradicts}
+use Rattle.linear_arithmetic.specs.Memory.LinearSteps.{visits_of, are_numbers, contradicts}
 use Rattle.process_disequality.specs.declared.process_disequality.Progress as by_value
-use Rattle.rules.specs.declared.verdict.Asserted.{Asserted}
-use Rattle.rules.specs.declared.verdict.Asserted.TheVariants as asserted
-use Rattle.rules.specs.declared.verdict.Verdict.{Verdict}
-use Rattle.rules.specs.declared.verdict.Verdict.TheVariants as verdict
 use Rattle.rules.proofs.Yields.{Yields, gives, refuses, and_then, past}
-use Rattle.rules.proofs.Results.{next, ends, bind-same, bind_assoc, refuses-as, refused-then}
-use Rattle.rules.proofs.Results.{asserted-refuses, refused-verdict}
+use Rattle.rules.proofs.Results.{next, ends, stops, bind-same, bind_assoc}
 use Rattle.rules.proofs.RunParts.{length-terms_in}
 use Rattle.linear_arithmetic.proofs.FoldedSteps.{later, fold_end, result_of, fold-ended}
 use Rattle.linear_arithmetic.proofs.FoldedAreas.{Given, limits_of, clause_of}
@@ -50,7 +47,7 @@ partial_end l clause args n = read_args l args >>= λ qs. Ok (fold_end l clause 
 abbrev pub is_contradiction : Progress → Result Progress
 is_contradiction p =
     assert (is_empty p.acc.entries && not (is_true_at_zero p.operator p.acc.constant))
-    disequality_is_not_contradiction
+    DisequalityIsNotContradiction
     >>= λ u. Ok p
 
 pub partial_ended :
@@ -67,16 +64,16 @@ empty-map [] = sym (eq-eqb 0 0 refl)
 empty-map (e ∷ m) = sym (ne_eqb (suc (length m)) 0 (λ h. omega arith))
 
 pub last_line :
-    (q : by_value.Progress) (m : Map Term) (t : List Rational) → SumHas q.acc m →
-    contradicts q ≡ verdict_of (visits_of (is_contradiction (later t (progress_with q m []))))
+    (q : by_value.Progress) (m : Map Term) (t : List Rational) → Has q.acc m →
+    contradicts q ≡ visits_of (is_contradiction (later t (progress_with q m [])))
 unfolding assert ◌>>=◌
 last_line q m t has =
     rw (empty-map m, ← has.size) (go (eqb q.acc.len 0 && not (is_true_at_zero q.operator q.acc.constant)))
   where
     go :
         (s : Bool) →
-        cond s (verdict.Accepted q.visits) (verdict.Refused (number disequality_is_not_contradiction)) ≡
-        verdict_of (visits_of (assert s disequality_is_not_contradiction >>= λ u. Ok (later t (progress_with q m []))))
+        cond s (Ok q.visits) (Err DisequalityIsNotContradiction) ≡
+        visits_of (assert s DisequalityIsNotContradiction >>= λ u. Ok (later t (progress_with q m [])))
     go true = refl
     go false = refl
 
@@ -88,8 +85,8 @@ abbrev pub partial_of : Given → ℕ → Result Progress
 partial_of g v = la_generic_partial (limits_of g) (clause_of g) (terms_in g.book g.args) v
 
 -- what is promised of the answer r, with the bytes w
-abbrev pub Judged : Given → ℕ → Bytes → Verdict → Type 0
-Judged g v w r = (r ≡ verdict_of (visits_of (partial_of g v))) × (w ≡ g.work)
+abbrev pub Judged : Given → ℕ → Bytes → Result ℕ → Type 0
+Judged g v w r = (r ≡ visits_of (partial_of g v)) × (w ≡ g.work)
 
 -- the numbers that the whole fold infers are t
 pub record Ended (g : Given) (v : ℕ) (t : List Rational) : Type 0 where
@@ -114,33 +111,29 @@ ended-trace {g} {v} {t} e =
     reached None = gives e.trace
 
 -- an argument is no number
+pub unread :
+    {A : Type 0} (x : Result A) {r : Refusal} → ◌≡◌ {A = Result (Unit {0})} (Err r) (x >>= λ a. Ok tt) → x ≡ Err r
+unfolding ◌>>=◌
+unread (Ok a) e = cc
+unread (Err c) {r} e = let same : r ≡ c = cc in rw same
+
 pub part-unread :
-    (g : Given) (v : ℕ) {c : ℕ} {r : Asserted} →
-    ((n : ℕ) → r ≡ asserted_of (read_args (limited n) (terms_in g.book g.args))) → r ≡ asserted.Refused c →
-    Judged g v g.work (verdict.Refused c)
-part-unread g v r-is e =
-    let stopped = asserted-refuses _ (sym e ∙ r-is g.limit) in
-    (refused-verdict (refused-then _ (refuses-as stopped λ d f. partial_ended _ _ _ v ∙ ends _ (ends _ f))), refl)
+    (g : Given) (v : ℕ) {r : Refusal} → ((n : ℕ) → Err r ≡ are_numbers n g.book g.args) → Judged g v g.work (Err r)
+part-unread g v r-is =
+    (stops _ (sym (partial_ended _ _ _ v ∙ ends _ (ends _ (unread _ (r-is g.limit))))), refl)
 
 -- ---- `la_generic`: as many arguments as literals
 
 module _ (b literals args : Bytes) (v l : ℕ) where
   pub generic_unequal :
       (length args / 4 ≡ length literals / 4 → ⊥) →
-      verdict.Refused (number wrong_number_of_args) ≡
-      verdict_of (visits_of (la_generic (limited l) (terms_in b literals) (terms_in b args) v))
+      Err WrongNumberOfArgs ≡ visits_of (la_generic (limited l) (terms_in b literals) (terms_in b args) v)
   unfolding la_generic assert ◌>>=◌
   generic_unequal h = rw (length-terms_in b args, length-terms_in b literals, ne_eqb _ _ h, la_generic)
 
-  equal-counts :
+  pub generic_equal :
       length args / 4 ≡ length literals / 4 →
       la_generic_partial (limited l) (terms_in b literals) (terms_in b args) v ≡
       la_generic (limited l) (terms_in b literals) (terms_in b args) v
   unfolding la_generic assert ◌>>=◌
-  equal-counts h = rw (length-terms_in b args, length-terms_in b literals, eq-eqb _ _ h, la_generic)
-
-  pub generic_equal :
-      length args / 4 ≡ length literals / 4 → (a : Verdict) →
-      a ≡ verdict_of (visits_of (la_generic_partial (limited l) (terms_in b literals) (terms_in b args) v)) →
-      a ≡ verdict_of (visits_of (la_generic (limited l) (terms_in b literals) (terms_in b args) v))
-  generic_equal h a a-is = a-is ∙ ap (λ r. verdict_of (visits_of r)) (equal-counts h)
+  generic_equal h = rw (length-terms_in b args, length-terms_in b literals, eq-eqb _ _ h, la_generic)

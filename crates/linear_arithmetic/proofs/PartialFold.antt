@@ -14,29 +14,29 @@ use mir.Val.{Fits}
 use lib.IntN.{pos}
 use lib.ListN.{length, drop, length-drop, drop_of_length-le}
 use lib.Seq.{drop-drop}
-use Rattle.numbers.specs.Rational.{Rational, Proper, whole}
+use Rattle.numbers.specs.Rational.{Rational, Proper}
 use Rattle.numbers.specs.Bytes.{Bytes}
 use Rattle.terms.specs.Operator.{Equals}
 use Rattle.terms.specs.Format.{max_run_bytes}
-use Rattle.rules.specs.Refusal.{Refusal, Result}
+use Rattle.rules.specs.Refusal.{Result}
+use Rattle.rules.specs.declared.refusal.Refusal.{Refusal}
 use Rattle.std.specs.Prelude.{Ok, Err}
 use Rattle.process_disequality.specs.ProcessDisequality.{Progress}
 use Rattle.linear_arithmetic.specs.LinearArithmetic.{read_args}
 use Rattle.rules.specs.Shapes.{Clause}
-use Rattle.linear_comb.specs.Memory.WorkArea.{area_of, with_area, Area}
+use Rattle.index_map.specs.Memory.Answers.{nothing}
+use Rattle.linear_comb.specs.Memory.WorkArea.{Sum, area_of, with_area, Area}
 use Rattle.index_map.specs.Memory.Entries.{slots, stored, entries_of, blanked}
-use Rattle.rules.specs.Memory.Parts.{Ready, numbers_in, terms_in, Inside, asserted_of, verdict_of}
+use Rattle.rules.specs.Memory.Parts.{Ready, numbers_in, terms_in, Inside}
 use Rattle.process_disequality.specs.Memory.ProcessSteps.{progress_of, progress_with, Folding}
-use Rattle.linear_arithmetic.specs.Memory.LinearSteps.{visits_of, fold_some, AllNumbers, fold_read, FoldedIs}
-use Rattle.linear_arithmetic.specs.Memory.LinearSteps.{FoldedLeft, contradicts}
+use Rattle.linear_arithmetic.specs.Memory.LinearSteps.{visits_of, fold_some, AllNumbers, fold_read, FoldedLeft}
+use Rattle.linear_arithmetic.specs.Memory.LinearSteps.{contradicts}
 use Rattle.linear_arithmetic.specs.declared.linear_arithmetic.Folded.{Folded}
 use Rattle.linear_arithmetic.specs.declared.linear_arithmetic.Folded.TheVariants as folded
 use Rattle.process_disequality.specs.declared.process_disequality.Progress as by_value
-use Rattle.rules.specs.declared.verdict.Verdict.{Verdict}
-use Rattle.rules.specs.declared.verdict.Verdict.TheVariants as verdict
 use Rattle.index_map.proofs.CheckedNumbers.{whole-proper}
 use Rattle.index_map.proofs.StoredEntries.{kept_small}
-use Rattle.rules.proofs.Results.{next, ends, refuses-as, refused-then, refused-verdict}
+use Rattle.rules.proofs.Results.{next, ends, stops}
 use Rattle.linear_comb.proofs.AreaSteps.{kept-sum}
 use Rattle.rules.proofs.RunParts.{length-numbers_in, length-terms_in, terms_in-drop, inside-drop}
 use Rattle.linear_arithmetic.proofs.ReadParts.{read_args-drop}
@@ -60,7 +60,8 @@ pub record PartSoFar
   pub reached : Reached g (end_of g v) (onward_with g t) w p done
 
 -- the rest of the literals was folded: the answer is r, and w' is left
-pub record Rested (g : Given) (w : Bytes) (p : by_value.Progress) (done : ℕ) (w' : Bytes) (r : Folded) : Type 0 where
+pub record Rested
+    (g : Given) (w : Bytes) (p : by_value.Progress) (done : ℕ) (w' : Bytes) (r : Result Folded) : Type 0 where
   pub part : Bytes
   pub part_is : part ≡ drop (4 * done) g.literals
   pub given : Bytes
@@ -75,7 +76,7 @@ pub record More (g : Given) (done k : ℕ) : Type 0 where
   pub within : done + k ≤ length g.literals / 4
 
 pub folded_rest :
-    {g : Given} {w w' part given : Bytes} {p : by_value.Progress} {done : ℕ} {r : Folded} →
+    {g : Given} {w w' part given : Bytes} {p : by_value.Progress} {done : ℕ} {r : Result Folded} →
     part ≡ drop (4 * done) g.literals → given ≡ drop (4 * done) g.args →
     FoldedLeft g.book w w' (length (numbers_in part)) r
     (fold_read (limits_of g) (terms_in g.book part) (terms_in g.book given) (progress_of g.book w p)) →
@@ -85,16 +86,17 @@ folded_rest {part = part} {given} part_is given_is fold =
 
 pub part-begin :
     (g : Given) (v : ℕ) → AllNumbers g.limit g.book g.args → Ready g.book g.work →
-    Inside g.book g.literals → length g.literals ≤ max_run_bytes → (q : Rational) → q ≡ whole (pos 0) →
-    PartSoFar g v [] g.work (record { operator = Equals; acc = record { len = 0; constant = q }; visits = v }) 0
+    Inside g.book g.literals → length g.literals ≤ max_run_bytes → {s : Sum} → s ≡ nothing →
+    PartSoFar g v [] g.work (record { operator = Equals; acc = s; visits = v }) 0
 unfolding entries_of
-part-begin g v numbers ready named small q q-is =
+part-begin g v numbers ready named small none =
+    rw none
     record {
       small = small;
       ready = ready;
       reached =
-          reached-begin (ready-folding ready _ refl (rw q-is (whole-proper (pos 0) (omega arith)))) named numbers
-          (λ qs all. rw q-is (next _ all));
+          reached-begin (ready-folding ready _ refl (whole-proper (pos 0) (omega arith))) named numbers
+          (λ qs all. next _ all);
     }
 
 module _
@@ -124,7 +126,7 @@ module _
       (Folding g.book w p × Inside g.book part) × AllNumbers g.limit g.book given
   rest_folds part_is given_is = (
     (far.reached.folding, rw part_is (inside-drop g.book g.literals done far.reached.named)),
-    sym (ap asserted_of (read_on given_is)),
+    next _ (read_on given_is),
   )
 
   pub part-less :
@@ -134,17 +136,26 @@ module _
   pub part-fits : (k : ℕ) → More g done k → Fits w64 (done + k)
   part-fits k more = Fits-under w64 (done + k) 65536 (omega (arith, more.within, far.small)) tt
 
-  module _ {w' : Bytes} {r : Folded} (rested : Rested g w p done w' r) where
-    -- the literals that are left, and the fold of them
-    abbrev clause : Clause
-    clause = drop done (clause_of g)
+  -- the literals that are left, and the fold of them
+  abbrev clause : Clause
+  clause = drop done (clause_of g)
 
-    abbrev P : Progress
-    P = progress_of g.book w p
+  abbrev P : Progress
+  P = progress_of g.book w p
 
-    abbrev rest_fold : Result (Progress × ℕ)
-    rest_fold = fold_some (limits_of g) clause (drop done numbers) P 0
+  abbrev rest_fold : Result (Progress × ℕ)
+  rest_fold = fold_some (limits_of g) clause (drop done numbers) P 0
 
+  goes : {d : Result (Progress × ℕ)} → rest_fold ≡ d → Goes (limits_of g) clause (drop done numbers) P 0 d
+  goes e = subst (Goes (limits_of g) clause (drop done numbers) P 0) e (some-goes (limits_of g) clause _ P 0)
+
+  -- where the rest ends, the whole does
+  whole-ends :
+      {e : Progress × Option Refusal} → fold_end (limits_of g) clause (drop done numbers) P ≡ e →
+      end_of g v ≡ Ok (end_later t e)
+  whole-ends h = far.reached.left ∙ ap Ok (end_later_lem (limits_of g) t clause _ P ∙ ap (end_later t) h)
+
+  module _ {w' : Bytes} {r : Result Folded} (rested : Rested g w p done w' r) where
     clause_is : terms_in g.book rested.part ≡ clause
     clause_is = ap (terms_in g.book) rested.part_is ∙ terms_in-drop g.book g.literals done
 
@@ -157,133 +168,120 @@ module _
     rest-left : FoldedLeft g.book w w' (length (numbers_in rested.part)) r rest_fold
     rest-left = subst (FoldedLeft g.book w w' (length (numbers_in rested.part)) r) rest-fold rested.fold
 
-    said : (s : Folded) → r ≡ s → FoldedIs (length (numbers_in rested.part)) s rest-left.map rest_fold
-    said s e =
-        subst (λ z. FoldedIs (length (numbers_in rested.part)) z rest-left.map rest_fold) e rest-left.is
+  -- ---- it is refused
 
-    goes : (d : Result (Progress × ℕ)) → rest_fold ≡ d → Goes (limits_of g) clause (drop done numbers) P 0 d
-    goes d e = subst (Goes (limits_of g) clause (drop done numbers) P 0) e (some-goes (limits_of g) clause _ P 0)
-
-    -- where the rest ends, the whole does
-    whole-ends :
-        {e : Progress × Option Refusal} → fold_end (limits_of g) clause (drop done numbers) P ≡ e →
-        end_of g v ≡ Ok (end_later t e)
-    whole-ends h = far.reached.left ∙ ap Ok (end_later_lem (limits_of g) t clause _ P ∙ ap (end_later t) h)
-
-    -- the area can be cleared
-    pub part_clear : (q : by_value.Progress) → r ≡ folded.Done q → Area 0 w' × (q.acc.len ≤ 4096)
-    part_clear q e =
-        let sum = kept-sum rest-left.held (said (folded.Done q) e).1 in
-        let size = (between-only far.reached.folding.between rest-left.only).size in
-        (record { size = size; among = omega arith }, omega (arith, kept_small sum.kept))
-
-    -- ---- it is refused
-
-    pub refused_end : (c : ℕ) → r ≡ folded.Refused c → Ended g v t
-    refused_end c e =
-        let why = (said (folded.Refused c) e).0 in
-        let stops = goes _ why.is in
+  module _ {w' : Bytes} {r : Refusal} (rested : Rested g w p done w' (Err r)) where
+    pub refused_end : Ended g v t
+    refused_end =
+        let halt = goes (rest-left rested).is.0 in
         record {
-          last = later t stops.last;
-          stop = Some why.reason;
-          is = whole-ends stops.is;
-          trace = ap (λ u. t ++ u) stops.same ∙ append-nil t;
+          last = later t halt.last;
+          stop = Some r;
+          is = whole-ends halt.is;
+          trace = ap (λ u. t ++ u) halt.same ∙ append-nil t;
         }
 
-    pub part-refused : (c : ℕ) → r ≡ folded.Refused c → Judged g v w' (verdict.Refused c)
-    part-refused c e =
-        let is = said (folded.Refused c) e in (
-          refused-verdict
-              (refused-then _
-              (refuses-as is.0 λ d f. partial_by g v (whole-ends (goes (Err d) f).is) ∙ ends _ refl)),
-          emptied far.ready {j = 0} (omega arith) (reached-only far.reached rest-left.only)
-              (rest-left.held.bytes ∙ ap (stored slots) is.1),
+    pub part-refused : Judged g v w' (Err r)
+    part-refused =
+        let left = rest-left rested in (
+          stops _ (sym (partial_by g v (whole-ends (goes left.is.0).is) ∙ ends _ refl)),
+          emptied far.ready {j = 0} (omega arith) (reached-only far.reached left.only)
+              (left.held.bytes ∙ ap (stored slots) left.is.1),
         )
 
-    -- ---- all are done
+  -- ---- all are done
 
-    all_done :
-        (q : Progress) → rest_fold ≡ Ok (q, length (numbers_in rested.part)) → end_of g v ≡ Ok (later t q, None)
+  module _ {w' : Bytes} {q : by_value.Progress} (rested : Rested g w p done w' (Ok (folded.Done q))) where
+    -- the area can be cleared
+    pub part_clear : Area 0 w' × (q.acc.len ≤ 4096)
+    part_clear =
+        let left = rest-left rested in
+        let sum = kept-sum left.held left.is.1 in
+        let size = (between-only far.reached.folding.between left.only).size in
+        (record { size = size; among = omega arith }, omega (arith, kept_small sum.kept))
+
+    all_done : end_of g v ≡ Ok (later t (progress_with q (rest-left rested).map []), None)
     unfolding fold_end
-    all_done q h =
-        let on = goes _ h in
+    all_done =
+        let on = goes (rest-left rested).is.0 in
         let nothing : drop on.steps clause ≡ [] =
         drop_of_length-le clause {i = on.steps}
         (omega (
           arith,
           on.counted,
-          ap length clause_is,
+          ap length (clause_is rested),
           length-terms_in g.book rested.part,
           length-numbers_in rested.part,
         ))
         in
-        whole-ends (on.on ∙ ap (λ z. fold_end (limits_of g) z (drop on.steps (drop done numbers)) q) nothing)
+        let last = progress_with q (rest-left rested).map [] in
+        whole-ends (on.on ∙ ap (λ z. fold_end (limits_of g) z (drop on.steps (drop done numbers)) last) nothing)
 
-    pub done_end : (q : by_value.Progress) → r ≡ folded.Done q → Ended g v t
-    done_end q e =
+    pub done_end : Ended g v t
+    done_end =
         record {
-          last = later t (progress_with q rest-left.map []);
+          last = later t (progress_with q (rest-left rested).map []);
           stop = None;
-          is = all_done _ (said (folded.Done q) e).0;
+          is = all_done;
           trace = append-nil t;
         }
 
     -- the area was cleared, and the answer is a
     pub part-done :
-        (q : by_value.Progress) → r ≡ folded.Done q → (a : Verdict) → a ≡ contradicts q → (w'' : Bytes) →
-        w'' ≡ with_area 0 (blanked q.acc.len (area_of 0 w')) w' → Judged g v w'' a
-    part-done q e a a-is w'' clear =
-        let is = said (folded.Done q) e in (
-          a-is ∙ last_line q rest-left.map t is.1
-              ∙ sym (ap (λ z. verdict_of (visits_of z)) (partial_by g v (all_done _ is.0) ∙ next _ refl)),
-          cleared far.ready {j = 0} (omega arith) (reached-only far.reached rest-left.only) rest-left.held
-              q.acc.len is.1.size clear,
+        {a : Result ℕ} → a ≡ contradicts q → {w'' : Bytes} → w'' ≡ with_area 0 (blanked q.acc.len (area_of 0 w')) w' →
+        Judged g v w'' a
+    part-done a-is clear =
+        let left = rest-left rested in (
+          a-is ∙ last_line q left.map t left.is.1 ∙ sym (ap visits_of (partial_by g v all_done ∙ next _ refl)),
+          cleared far.ready {j = 0} (omega arith) (reached-only far.reached left.only) left.held q.acc.len
+              left.is.1.size clear,
         )
 
-    -- ---- a number was inferred
+  -- ---- a number was inferred
 
-    module _ (q : by_value.Progress) (x : Rational) (k : ℕ) (e : r ≡ folded.Inferred q x k) where
-      goes_on : GoesOn (limits_of g) clause (drop done numbers) P 0 (progress_with q rest-left.map (x ∷ [])) k
-      goes_on = goes _ (said (folded.Inferred q x k) e).0
+  module _
+      {w' : Bytes} {q : by_value.Progress} {x : Rational} {k : ℕ}
+      (rested : Rested g w p done w' (Ok (folded.Inferred q x k))) where
+    on : GoesOn (limits_of g) clause (drop done numbers) P 0 (progress_with q (rest-left rested).map (x ∷ [])) k
+    on = goes (rest-left rested).is.0
 
-      pub inferred-proper : Proper x
-      inferred-proper = (said (folded.Inferred q x k) e).1.1
+    pub inferred-proper : Proper x
+    inferred-proper = (rest-left rested).is.1.1
 
-      -- at least one literal was done
-      pub part-more : More g done k
-      part-more =
-          let some = goes_on.some (λ same. omega (arith, ap length same)) in
-          record {
-            some = omega (arith, goes_on.counted);
-            within =
-                omega (
-                  arith,
-                  goes_on.counted,
-                  goes_on.inside,
-                  far.reached.inside,
-                  length-drop done (clause_of g),
-                  length-terms_in g.book g.literals,
-                );
-          }
+    -- at least one literal was done
+    pub part-more : More g done k
+    part-more =
+        let some = on.some (λ same. omega (arith, ap length same)) in
+        record {
+          some = omega (arith, on.counted);
+          within =
+              omega (
+                arith,
+                on.counted,
+                on.inside,
+                far.reached.inside,
+                length-drop done (clause_of g),
+                length-terms_in g.book g.literals,
+              );
+        }
 
-      -- the fold goes on with x behind what was inferred before
-      further :
-          onward_with g t clause (drop done numbers) P done ≡
-          onward_with g (t ++ x ∷ []) (drop (done + k) (clause_of g)) (drop (done + k) numbers)
-          (progress_with q rest-left.map []) (done + k)
-      further =
-          let steps : goes_on.steps ≡ k = omega (arith, goes_on.counted) in
-          ap Ok
-          (end_later_lem (limits_of g) t clause _ P ∙ ap (end_later t) goes_on.on
-          ∙ sym (end_later_lem (limits_of g) t _ _ (progress_with q rest-left.map (x ∷ [])))
-          ∙ rw (steps, drop-drop k done (clause_of g), drop-drop k done numbers, append-nil (t ++ x ∷ [])))
+    -- the fold goes on with x behind what was inferred before
+    further :
+        onward_with g t clause (drop done numbers) P done ≡
+        onward_with g (t ++ x ∷ []) (drop (done + k) (clause_of g)) (drop (done + k) numbers)
+        (progress_with q (rest-left rested).map []) (done + k)
+    further =
+        let steps : on.steps ≡ k = omega (arith, on.counted) in
+        ap Ok
+        (end_later_lem (limits_of g) t clause _ P ∙ ap (end_later t) on.on
+        ∙ sym (end_later_lem (limits_of g) t _ _ (progress_with q (rest-left rested).map (x ∷ [])))
+        ∙ rw (steps, drop-drop k done (clause_of g), drop-drop k done numbers, append-nil (t ++ x ∷ [])))
 
-      pub part-again : PartSoFar g v (t ++ x ∷ []) w' q (done + k)
-      part-again =
-          record {
-            small = far.small;
-            ready = far.ready;
-            reached =
-                reached-again far.reached rest-left.held rest-left.only
-                (said (folded.Inferred q x k) e).1.0 part-more.within further;
-          }
+    pub part-again : PartSoFar g v (t ++ x ∷ []) w' q (done + k)
+    part-again =
+        let left = rest-left rested in
+        record {
+          small = far.small;
+          ready = far.ready;
+          reached = reached-again far.reached left.held left.only left.is.1.0 part-more.within further;
+        }

@@ -1,5 +1,9 @@
 -- The arguments that a part names, read as numbers, and the functions `read_args` and `argument_at`: by place, and from
 -- a place on.
+--     all_read, read_args-drop       whether all are numbers; those behind a place
+--     ArgumentAt, argument_at_lem, argument-past       the number at a place
+--     ReadSoFar, read_again, read-refused, read-end       the loop of `read_args`
+--     argument_of_lem, argument-proper, argument-beyond       what `argument_at` answers
 use mathlib.Core.Path.{◌≡◌, refl, sym, ap, ◌∙◌}
 use mathlib.Core.List.{List, [], ◌∷◌}
 use Rattle.std.specs.Prelude.{Option, Some, None}
@@ -14,36 +18,32 @@ use Rattle.terms.specs.Book.{tree}
 use Rattle.rules.proofs.Yields.{through}
 use Rattle.rules.specs.Refusal.{Result, ◌>>=◌}
 use Rattle.std.specs.Prelude.{Ok, Err}
+use Rattle.std.specs.Result.{result_ok}
+use Rattle.rules.specs.declared.refusal.Refusal.{Refusal}
 use Rattle.rules.specs.Limits.{Limits, limited, fraction_err}
 use Rattle.linear_arithmetic.specs.LinearArithmetic.{read_args}
 use Rattle.index_map.specs.Memory.Entries.{CoefficientIs}
-use Rattle.index_map.specs.declared.index_map.Coefficient.TheVariants.{Of}
+use Rattle.process_disequality.specs.Memory.ProcessSteps.{CoefficientProper}
 use Rattle.linear_arithmetic.specs.Memory.LinearSteps.{at}
-use Rattle.rules.specs.Memory.Parts.{Refuses, Expects, numbers_in, named, terms_in, asserted_of}
-use Rattle.rules.specs.declared.readers.Expected.{Expected}
-use Rattle.rules.specs.declared.readers.Expected.TheVariants as expected
-use Rattle.rules.specs.declared.verdict.Asserted.TheVariants as asserted
-use Rattle.rules.proofs.Results.{refused-then, refused_assertion}
+use Rattle.rules.specs.Memory.Parts.{Expects, numbers_in, named, terms_in}
+use Rattle.rules.proofs.Results.{stops}
 use Rattle.rules.proofs.RunParts.{length-numbers_in, named_cons, named_past}
-use Rattle.rules.proofs.ExpectedTerms.{number-found, no_number}
 
 module _ (l : Limits) where
-  -- the first is a number, and the others are left; or it is none
-  pub read_first :
-      (t : Term) (ts : List Term) (q : Rational) → fraction_err l t ≡ Ok q →
-      asserted_of (read_args l (t ∷ ts)) ≡ asserted_of (read_args l ts)
+  -- all are numbers, or the refusal of the first that is none
+  abbrev pub all_read : List Term → Result (Unit {0})
+  all_read ts = read_args l ts >>= λ qs. Ok tt
+
+  -- the first is a number, and the others are left
+  read_first : (t : Term) (ts : List Term) {q : Rational} → Ok q ≡ fraction_err l t → all_read (t ∷ ts) ≡ all_read ts
   unfolding read_args ◌>>=◌
-  read_first t ts q h =
-      ap (λ x. asserted_of (x >>= λ q. read_args l ts >>= λ qs. Ok (q ∷ qs))) h ∙ go (read_args l ts)
+  read_first t ts {q} h = rw (sym h, read_args) (go (read_args l ts))
     where
-      go : (r : Result (List Rational)) → asserted_of (r >>= λ qs. Ok (q ∷ qs)) ≡ asserted_of r
+      go :
+          (r : Result (List Rational)) →
+          ◌≡◌ {A = Result (Unit {0})} ((r >>= λ qs. Ok (q ∷ qs)) >>= λ qs. Ok tt) (r >>= λ qs. Ok tt)
       go (Ok qs) = refl
       go (Err c) = refl
-
-  pub read_none_first :
-      (t : Term) (ts : List Term) {c : ℕ} → Refuses c (fraction_err l t) → Refuses c (read_args l (t ∷ ts))
-  unfolding read_args
-  read_none_first t ts r = refused-then _ r
 
   -- all are numbers
   record Headed (t : Term) (ts : List Term) (qs : List Rational) : Type 0 where
@@ -109,63 +109,61 @@ module _ (l : Limits) where
 
 -- ---- the functions `read_args` and `argument_at`, over the records that a part names
 
+pub argument-proper : (x : Result Rational) {d : Result Rational} → Expects x d → CoefficientProper (result_ok x)
+argument-proper (Ok q) e = e.proper q refl
+argument-proper (Err r) e = tt
+
 module _ (b p : Bytes) where
   -- the first k arguments are numbers
   pub record ReadSoFar (k : ℕ) : Type 0 where
     pub inside : k ≤ length p / 4
-    pub left : (n : ℕ) →
-        asserted_of (read_args (limited n) (terms_in b p)) ≡ asserted_of (read_args (limited n) (drop k (terms_in b p)))
+    pub left : (n : ℕ) → all_read (limited n) (terms_in b p) ≡ all_read (limited n) (drop k (terms_in b p))
 
-  pub read-begin : ReadSoFar 0
-  read-begin = record { inside = omega arith; left = λ n. refl }
-
-  pub read-end :
-      (k : ℕ) → ReadSoFar k → length p / 4 ≤ k → (n : ℕ) →
-      asserted.Holds ≡ asserted_of (read_args (limited n) (terms_in b p))
-  unfolding read_args
+  pub read-end : (k : ℕ) → ReadSoFar k → length p / 4 ≤ k → (n : ℕ) → Ok tt ≡ all_read (limited n) (terms_in b p)
+  unfolding read_args ◌>>=◌
   read-end k far h n =
       sym
-      (far.left n
-      ∙ ap (λ ts. asserted_of (read_args (limited n) ts)) (named_past b (numbers_in p) k (rw (length-numbers_in p) h)))
+      (far.left n ∙ ap (all_read (limited n)) (named_past b (numbers_in p) k (rw (length-numbers_in p) h)))
 
   -- argument k is in record i
-  module _
-      (k i : ℕ) (h : k < length p / 4) (i-is : i ≡ get_or (numbers_in p) k 0) {x : Expected}
-      (found : (n : ℕ) → Expects x (fraction_err (limited n) (tree b i))) where
+  module _ (k i : ℕ) (h : k < length p / 4) (i-is : i ≡ get_or (numbers_in p) k 0) where
     next : drop k (terms_in b p) ≡ tree b i ∷ drop (suc k) (terms_in b p)
     next = rw i-is (named_cons b (numbers_in p) k (rw (length-numbers_in p) h))
 
     module _ (far : ReadSoFar k) where
-      left-next : (n : ℕ) →
-          asserted_of (read_args (limited n) (terms_in b p)) ≡
-          asserted_of (read_args (limited n) (tree b i ∷ drop (suc k) (terms_in b p)))
-      left-next n = far.left n ∙ ap (λ ts. asserted_of (read_args (limited n) ts)) next
+      left-next :
+          (n : ℕ) →
+          all_read (limited n) (terms_in b p) ≡ all_read (limited n) (tree b i ∷ drop (suc k) (terms_in b p))
+      left-next n = far.left n ∙ ap (all_read (limited n)) next
 
-      pub read_again : {q : Rational} → x ≡ expected.Value q → ReadSoFar (k + 1)
-      read_again {q} e =
+      pub read_again :
+          {q : Rational} → ((n : ℕ) → Expects (Ok q) (fraction_err (limited n) (tree b i))) → ReadSoFar (k + 1)
+      read_again found =
           record {
             inside = omega arith;
-            left = λ n. rw add-one (left-next n ∙ read_first (limited n) (tree b i) _ q (number-found (found n) e));
+            left = λ n. rw add-one (left-next n ∙ read_first (limited n) (tree b i) _ (found n).is);
           }
 
       pub read-refused :
-          {c : ℕ} → x ≡ expected.Refused c → (n : ℕ) →
-          asserted.Refused c ≡ asserted_of (read_args (limited n) (terms_in b p))
-      read-refused e n =
-          refused_assertion (read_none_first (limited n) (tree b i) _ (no_number (found n) e)) ∙ sym (left-next n)
+          {r : Refusal} → ((n : ℕ) → Expects (Err r) (fraction_err (limited n) (tree b i))) → (n : ℕ) →
+          Err r ≡ all_read (limited n) (terms_in b p)
+      unfolding read_args
+      read-refused found n = stops _ (stops _ (found n).is) ∙ sym (left-next n)
 
     -- among arguments that are all numbers
-    module _ (n : ℕ) (qs : List Rational) (all : read_args (limited n) (terms_in b p) ≡ Ok qs) where
-      here : ArgumentAt (limited n) (tree b i) (at qs k)
-      here = rw i-is (argument_at_lem (limited n) b (numbers_in p) qs k all (rw (length-numbers_in p) h))
+    pub argument_of_lem :
+        (x : Result Rational) → ((n : ℕ) → Expects x (fraction_err (limited n) (tree b i))) → (n : ℕ)
+        (qs : List Rational) → read_args (limited n) (terms_in b p) ≡ Ok qs → CoefficientIs (result_ok x) (at qs k)
+    argument_of_lem x found n qs all = go x (found n)
+      where
+        here : ArgumentAt (limited n) (tree b i) (at qs k)
+        here = rw i-is (argument_at_lem (limited n) b (numbers_in p) qs k all (rw (length-numbers_in p) h))
 
-      pub argument_of_lem : {q : Rational} → x ≡ expected.Value q → CoefficientIs (Of q) (at qs k)
-      argument_of_lem {q} e =
-          let read : fraction_err (limited n) (tree b i) ≡ Ok q = number-found (found n) e in
-          (cc (here.read, here.is), (found n).proper q e)
-
-      pub argument_none : {c : ℕ} → x ≡ expected.Refused c → at qs k ≡ None
-      argument_none e = let why = no_number (found n) e in cc (why.is, here.read)
+        go :
+            (x : Result Rational) → Expects x (fraction_err (limited n) (tree b i)) →
+            CoefficientIs (result_ok x) (at qs k)
+        go (Ok q) e = (cc (e.is, here.read, here.is), e.proper q refl)
+        go (Err r) e = cc (e.is, here.read)
 
   pub argument-beyond :
       (k : ℕ) → length p / 4 ≤ k → (n : ℕ) (qs : List Rational) → read_args (limited n) (terms_in b p) ≡ Ok qs →

@@ -9,8 +9,8 @@ use Rattle.terms.specs.Term.{Term, binary}
 use Rattle.numbers.specs.Choice.{when◌then◌else◌}
 use Rattle.rules.specs.Refusal.{Result, ◌>>=◌, assert}
 use Rattle.std.specs.Prelude.{Ok}
-use Rattle.rules.specs.Refusal.Refusal.{wrong_number_of_args, disequality_is_not_contradiction}
-use Rattle.rules.specs.Refusal.Refusal.{disequality_is_not_tautology}
+use Rattle.rules.specs.declared.refusal.Refusal.TheVariants.{WrongNumberOfArgs, DisequalityIsNotContradiction}
+use Rattle.rules.specs.declared.refusal.Refusal.TheVariants.{DisequalityIsNotTautology}
 use Rattle.rules.specs.Limits.{Limits, fraction_err}
 use Rattle.index_map.specs.IndexMap.{is_empty, new}
 use Rattle.rules.specs.Shapes.{Clause, only_literal}
@@ -50,12 +50,12 @@ la_generic_partial l conclusion args n = do
   qs ← read_args l args
   p ← fold_literals l conclusion qs (progress Equals new [] n)
   _ ← assert (is_empty p.acc.entries && not (is_true_at_zero p.operator p.acc.constant))
-      disequality_is_not_contradiction
+      DisequalityIsNotContradiction
   Ok p
 
 unfoldable pub la_generic : Limits → Clause → List Term → ℕ → Result Progress
 la_generic l conclusion args n = do
-  _ ← assert (eqb (length args) (length conclusion)) wrong_number_of_args
+  _ ← assert (eqb (length args) (length conclusion)) WrongNumberOfArgs
   la_generic_partial l conclusion args n
 
 -- ---- la_tautology
@@ -73,6 +73,6 @@ la_tautology l conclusion n = only_literal conclusion >>= λ phi. elim (binary O
     Ok n)
   | None ↦ (do
     d ← disequality_of l phi n
-    _ ← assert (is_tautology d) disequality_is_not_tautology
+    _ ← assert (is_tautology d) DisequalityIsNotTautology
     Ok d.visits)
 ]

@@ -11,60 +11,50 @@ ghost use Rattle.linear_arithmetic.specs.LinearArithmetic.{is_tautology, la_taut
 ghost use Rattle.disequality.specs.Disequality.{disequality};
 ghost use Rattle.linear_comb.specs.Memory.WorkArea.{accumulated, area_of, comb_of, with_area, AreaCount};
 ghost use Rattle.index_map.specs.Memory.Entries.{blanked, Kept, CoefficientIs};
-ghost use Rattle.rules.specs.Memory.Parts.{Ready, numbers_in, terms_in, Inside, asserted_of, verdict_of};
+ghost use Rattle.rules.specs.Memory.Parts.{Ready, numbers_in, terms_in, Inside};
 ghost use Rattle.process_disequality.specs.Memory.ProcessSteps.{CoefficientProper, progress_of, Folding};
-ghost use Rattle.linear_arithmetic.specs.Memory.LinearSteps.{at, AllNumbers, fold_read, FoldedLeft, contradicts};
-ghost use Rattle.linear_arithmetic.specs.Memory.LinearSteps.{StepReady, verdict_by, tautology_of};
+ghost use Rattle.linear_arithmetic.specs.Memory.LinearSteps.{at, are_numbers, AllNumbers, fold_read, FoldedLeft};
+ghost use Rattle.linear_arithmetic.specs.Memory.LinearSteps.{contradicts, StepReady, verdict_by, tautology_of};
 
-use disequality::disequality::{Disequality, Literal, disequality_of, literal_refusal};
-use index_map::index_map::Coefficient;
+use disequality::disequality::{Disequality, disequality_of};
 use linear_comb::linear_comb::LinearComb;
 use linear_shapes::linear_shapes::tautology_case;
 use numbers::number::Number;
-use process_disequality::process_disequality::{
-    Processed, Progress, process_disequality, processed_refusal,
-};
-use rules::readers::{Expected, as_fraction_err};
+use process_disequality::process_disequality::{Progress, process_disequality};
+use rules::counter::Counter;
+use rules::readers::as_fraction_err;
+use rules::refusal::Refusal;
 use rules::run_records::{number_in, rest};
 use rules::shapes::only_literal;
-use rules::verdict::{Asserted, Verdict, verdict_after};
 use terms::format::RUN_RECORD_BYTES;
 use terms::operator::{EQUALS, GREATER_THAN, OR};
-use terms::refusal::{
-    DISEQUALITY_IS_NOT_CONTRADICTION, DISEQUALITY_IS_NOT_TAUTOLOGY, WRONG_LENGTH_OF_CLAUSE,
-    WRONG_NUMBER_OF_ARGS,
-};
 use terms::term::binary;
 use work_area::work_area::{ACCUMULATED, LEFT, clear_in};
 
 // ---- la_generic
 
 // Whether all arguments are numbers; refused as the first that is not.
-pub fn read_args(book: &[u8], args: &[u8]) -> Asserted
-    ensures { (l : ℕ) →
-        result ≡ asserted_of (read_args (limited l) (terms_in book.now args.now)) }
+pub fn read_args(book: &[u8], args: &[u8]) -> Result<(), Refusal>
+    ensures { (l : ℕ) → result ≡ are_numbers l book.now args.now }
 {
     for k in 0..args.len() / RUN_RECORD_BYTES {
-        if let Expected::Refused(code) = as_fraction_err(book, number_in(args, k)) {
-            return Asserted::Refused(code);
-        }
+        as_fraction_err(book, number_in(args, k))?;
     }
-    Asserted::Holds
+    Ok(())
 }
 
 // Argument k, of arguments that are all numbers.
-fn argument_at(book: &[u8], args: &[u8], k: usize) -> Coefficient
+fn argument_at(book: &[u8], args: &[u8], k: usize) -> Option<Number>
     ensures by_index { (l : ℕ) (qs : List Rational) →
         read_args (limited l) (terms_in book.now args.now) ≡ Ok qs →
         CoefficientIs result (at qs k) }
     ensures coefficient_proper { CoefficientProper result }
 {
     if k < args.len() / RUN_RECORD_BYTES {
-        if let Expected::Value(q) = as_fraction_err(book, number_in(args, k)) {
-            return Coefficient::Of(q);
-        }
+        as_fraction_err(book, number_in(args, k)).ok()
+    } else {
+        None
     }
-    Coefficient::Missing
 }
 
 // How far the fold over the literals came.
@@ -73,8 +63,6 @@ pub enum Folded {
     Done(Progress),
     // An argument was inferred; so many literals are done.
     Inferred(Progress, Number, usize),
-    // Document 01's number of the refusal.
-    Refused(u8),
 }
 
 // The fold over the literals (`try_fold`) from a progress on, up to the first argument that is inferred. Missing
@@ -86,7 +74,7 @@ pub fn fold_literals(
     args: &[u8],
     p: Progress,
     limit: u32,
-) -> Folded
+) -> Result<Folded, Refusal>
     requires folding { Folding book.now work.old p × Inside book.now literals.now }
     requires all_numbers { AllNumbers limit book.now args.now }
     ensures { FoldedLeft book.now work.old work.new
@@ -98,16 +86,13 @@ pub fn fold_literals(
     for k in 0..literals.len() / RUN_RECORD_BYTES {
         let phi = number_in(literals, k);
         let arg = argument_at(book, args, k);
-        let processed = process_disequality(book, work, q, phi, arg, limit);
-        let Processed::Accumulated(next, found) = processed else {
-            return Folded::Refused(processed_refusal(processed));
-        };
-        if let Coefficient::Of(a) = found {
-            return Folded::Inferred(next, a, k + 1);
+        let (next, found) = process_disequality(book, work, q, phi, arg, limit)?;
+        if let Some(a) = found {
+            return Ok(Folded::Inferred(next, a, k + 1));
         }
         q = next;
     }
-    Folded::Done(q)
+    Ok(Folded::Done(q))
 }
 
 // Whether 0 stands in the relation to the right side: only =, > and >= arise.
@@ -125,7 +110,7 @@ fn is_true_at_zero(o: u8, r: Number) -> bool
 
 // The last line of `la_generic_partial`: the left side is empty and the disequality is a contradiction. The sum's area
 // is empty afterwards.
-pub fn contradiction(work: &mut [u8], p: Progress) -> Verdict
+pub fn contradiction(work: &mut [u8], p: Progress) -> Result<u32, Refusal>
     requires { AreaCount accumulated p.acc.len work.old }
     ensures value { result ≡ contradicts p }
     ensures work_after { work.new ≡ with_area accumulated
@@ -133,9 +118,9 @@ pub fn contradiction(work: &mut [u8], p: Progress) -> Verdict
 {
     clear_in(work, ACCUMULATED, p.acc.len);
     if p.acc.len != 0 || is_true_at_zero(p.operator, p.acc.constant) {
-        return Verdict::Refused(DISEQUALITY_IS_NOT_CONTRADICTION);
+        return Err(Refusal::DisequalityIsNotContradiction);
     }
-    Verdict::Accepted(p.visits)
+    Ok(p.visits)
 }
 
 // All arguments are read before the first literal. The arguments that are inferred are passed over.
@@ -144,37 +129,35 @@ fn la_generic_partial(
     work: &mut [u8],
     literals: &[u8],
     args: &[u8],
-    visits: u32,
-    limit: u32,
-) -> Verdict
+    counter: Counter,
+) -> Result<u32, Refusal>
     requires { StepReady book.now work.old literals.now }
-    ensures value { result ≡ verdict_by la_generic_partial limit book.now literals.now
-        args.now visits }
+    ensures value { result ≡ verdict_by la_generic_partial counter.limit book.now literals.now
+        args.now counter.visits }
     ensures work_unchanged { work.new ≡ work.old }
 {
-    if let Asserted::Refused(code) = read_args(book, args) {
-        return Verdict::Refused(code);
-    }
+    read_args(book, args)?;
     let mut p = Progress {
         operator: EQUALS,
-        acc: LinearComb {
-            len: 0,
-            constant: Number::whole(0),
-        },
-        visits,
+        acc: LinearComb::new(),
+        visits: counter.visits,
     };
     let mut done = 0;
     loop {
-        match fold_literals(book, work, rest(literals, done), rest(args, done), p, limit) {
+        match fold_literals(
+            book,
+            work,
+            rest(literals, done),
+            rest(args, done),
+            p,
+            counter.limit,
+        )? {
             Folded::Done(q) => {
                 return contradiction(work, q);
             }
             Folded::Inferred(q, _, k) => {
                 p = q;
                 done += k;
-            }
-            Folded::Refused(code) => {
-                return Verdict::Refused(code);
             }
         }
     }
@@ -185,18 +168,17 @@ pub fn la_generic(
     work: &mut [u8],
     literals: &[u8],
     args: &[u8],
-    visits: u32,
-    limit: u32,
-) -> Verdict
+    counter: Counter,
+) -> Result<u32, Refusal>
     requires { StepReady book.now work.old literals.now }
-    ensures value { result ≡ verdict_by la_generic limit book.now literals.now
-        args.now visits }
+    ensures value { result ≡ verdict_by la_generic counter.limit book.now literals.now
+        args.now counter.visits }
     ensures work_unchanged { work.new ≡ work.old }
 {
     if args.len() / RUN_RECORD_BYTES != literals.len() / RUN_RECORD_BYTES {
-        return Verdict::Refused(WRONG_NUMBER_OF_ARGS);
+        return Err(Refusal::WrongNumberOfArgs);
     }
-    la_generic_partial(book, work, literals, args, visits, limit)
+    la_generic_partial(book, work, literals, args, counter)
 }
 
 pub fn bounded_farkas(
@@ -204,15 +186,14 @@ pub fn bounded_farkas(
     work: &mut [u8],
     literals: &[u8],
     args: &[u8],
-    visits: u32,
-    limit: u32,
-) -> Verdict
+    counter: Counter,
+) -> Result<u32, Refusal>
     requires { StepReady book.now work.old literals.now }
-    ensures value { result ≡ verdict_by la_generic_partial limit book.now literals.now
-        args.now visits }
+    ensures value { result ≡ verdict_by la_generic_partial counter.limit book.now literals.now
+        args.now counter.visits }
     ensures work_unchanged { work.new ≡ work.old }
 {
-    la_generic_partial(book, work, literals, args, visits, limit)
+    la_generic_partial(book, work, literals, args, counter)
 }
 
 // ---- la_tautology
@@ -227,39 +208,34 @@ fn is_tautology(d: Disequality) -> bool
     d.sum.len == 0 && (right.is_positive() || d.operator == GREATER_THAN && right.is_zero())
 }
 
-fn tautology(book: &[u8], work: &mut [u8], phi: usize, visits: u32, limit: u32) -> Verdict
+fn tautology(book: &[u8], work: &mut [u8], phi: usize, counter: Counter) -> Result<u32, Refusal>
     requires { Ready book.now work.old × (phi < count book.now) }
-    ensures value { result ≡ verdict_of (tautology_of (limited limit) (tree book.now phi) visits) }
+    ensures value { result ≡ tautology_of (limited counter.limit) (tree book.now phi) counter.visits }
     ensures work_unchanged { work.new ≡ work.old }
 {
-    let literal = disequality_of(book, work, phi, visits, limit);
-    let Literal::Is(d) = literal else {
-        return Verdict::Refused(literal_refusal(literal));
-    };
+    let d = disequality_of(book, work, phi, counter)?;
     clear_in(work, LEFT, d.sum.len);
     if is_tautology(d) {
-        return Verdict::Accepted(d.visits);
+        Ok(d.visits)
+    } else {
+        Err(Refusal::DisequalityIsNotTautology)
     }
-    Verdict::Refused(DISEQUALITY_IS_NOT_TAUTOLOGY)
 }
 
 pub fn la_tautology(
     book: &[u8],
     work: &mut [u8],
     literals: &[u8],
-    visits: u32,
-    limit: u32,
-) -> Verdict
+    counter: Counter,
+) -> Result<u32, Refusal>
     requires { Ready book.now work.old × Inside book.now literals.now }
-    ensures value { result
-        ≡ verdict_of (la_tautology (limited limit) (terms_in book.now literals.now) visits) }
+    ensures value { result ≡ la_tautology (limited counter.limit) (terms_in book.now literals.now) counter.visits }
     ensures work_unchanged { work.new ≡ work.old }
 {
-    let Some(phi) = only_literal(literals) else {
-        return Verdict::Refused(WRONG_LENGTH_OF_CLAUSE);
-    };
+    let phi = only_literal(literals).ok_or(Refusal::WrongLengthOfClause)?;
     let Some((first, second)) = binary(book, phi, OR) else {
-        return tautology(book, work, phi, visits, limit);
+        return tautology(book, work, phi, counter);
     };
-    verdict_after(tautology_case(book, first, second), visits)
+    tautology_case(book, first, second)?;
+    Ok(counter.visits)
 }

@@ -1,23 +1,23 @@
 -- What the steps of a rule leave of the work area: bytes that hold a map are cleared, an area is given other bytes or
 -- is emptied, and the other areas stay; and a sum by value is kept with the entries that an area holds.
 --     held-length, kept-cleared, blanked-empty       the bytes of an area
---     kept-sum, sum-entries, sum_comb, answer-has, answer-kept       a sum by value
+--     kept-sum, sum-entries, sum_comb       a sum by value
 --     only-area, given-area, given-only       an area is given bytes
 --     emptied-held, emptied-only       an area is emptied of what it kept
 --     two-areas, same-apart, Both, both_none, both-apart       two areas are given bytes
 --     both-then, then_first, then_second, second_emptied, in_first, in_second, both_read       one after the other
 --     both_first, both-written, both-only       what this says of all bytes
+use Rattle.index_map.specs.Memory.Answers.{comb_with, Has}
 use mathlib.Core.Path.{◌≡◌, refl, sym, ap, subst, ◌∙◌}
 use mathlib.Core.List.{[]}
 use mathlib.Core.Logic.{◌≢◌}
 use Prim.Native.Nat.{ℕ, ◌<◌}
 use lib.ListN.{length}
-use Rattle.numbers.specs.Rational.{Proper}
 use Rattle.numbers.specs.Bytes.{Bytes}
 use Rattle.terms.specs.Term.{Term}
 use Rattle.terms.specs.Format.{work_bytes}
 use Rattle.index_map.specs.IndexMap.{Map, combination}
-use Rattle.linear_comb.specs.Memory.WorkArea.{sum_bytes, Sum, comb_of, comb_with, KeptSum, SumHas}
+use Rattle.linear_comb.specs.Memory.WorkArea.{sum_bytes, Sum, comb_of, KeptSum}
 use Rattle.linear_comb.specs.Memory.WorkArea.{Area, Apart, area_of, with_area, OnlyArea}
 use Rattle.index_map.specs.Memory.Entries.{slots, stored, entries_of, blanked, Held, Kept}
 use Rattle.index_map.proofs.StoredEntries.{kept-entries, clear_all}
@@ -36,7 +36,7 @@ module _ {b x : Bytes} {n : ℕ} (kept : Kept b x n) where
 
 -- ---- a sum by value, with the entries of its area
 
-module _ {b w : Bytes} {m : Map Term} {s : Sum} (held : Held b w m) (has : SumHas s m) where
+module _ {b w : Bytes} {m : Map Term} {s : Sum} (held : Held b w m) (has : Has s m) where
   abbrev pub kept-sum : KeptSum b w s
   kept-sum = record { kept = record { map = m; held = held; size = has.size }; proper = has.proper }
 
@@ -45,16 +45,6 @@ module _ {b w : Bytes} {m : Map Term} {s : Sum} (held : Held b w m) (has : SumHa
 
   pub sum_comb : comb_of b w s ≡ comb_with s m
   sum_comb = ap (λ e. combination e s.constant) sum-entries
-
--- as a call's answer tells it
-abbrev Told : Sum → Map Term → Type 0
-Told s m = (s.len ≡ length m) × Proper s.constant
-
-pub answer-has : {s : Sum} {m : Map Term} → Told s m → SumHas s m
-answer-has told = record { size = told.0; proper = told.1 }
-
-pub answer-kept : {b w : Bytes} {s : Sum} {m : Map Term} → Held b w m → Told s m → KeptSum b w s
-answer-kept held told = kept-sum held (answer-has told)
 
 -- ---- area j alone has changed
 

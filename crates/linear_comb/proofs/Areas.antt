@@ -240,7 +240,8 @@ only_then {j} {w} {w'} a p q =
 -- before a step every area is empty
 pub ready-area : {b w : Bytes} → Ready b w → (j : ℕ) → j < 3 → area_of j w ≡ stored slots []
 unfolding area_of maps.stored
-ready-area {w = w} r j among = part-zeros step_at (sum_bytes * j) sum_bytes (work_bytes - step_at) w r.zeros (omega arith)
+ready-area {w = w} r j among =
+    part-zeros step_at (sum_bytes * j) sum_bytes (work_bytes - step_at) w r.zeros (omega arith)
 
 -- ---- an area that is lent as the part between its two ends
 

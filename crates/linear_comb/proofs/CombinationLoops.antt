@@ -1,5 +1,6 @@
 -- The loops of `neg` and `scale_all` at entry k: what the definition yields of the whole map M is what is done, and
 -- behind it what it yields of the entries that are left.
+use Rattle.rules.specs.declared.refusal.Refusal.TheVariants.{NumberRange}
 use mathlib.Core.Path.{◌≡◌, refl, sym, ◌∙◌, ap}
 use mathlib.Core.List.{[], ◌∷◌, ◌++◌, append-nil}
 use Prim.Native.Nat.{ℕ}
@@ -8,14 +9,12 @@ use Rattle.numbers.specs.Rational.{Rational, mul_q, neg_q, checked}
 use Rattle.numbers.specs.Bytes.{Bytes}
 use Rattle.terms.specs.Term.{Term}
 use Rattle.rules.specs.Refusal.{Result, ◌>>=◌}
-use Rattle.std.specs.Prelude.{Ok, Err}
+use Rattle.std.specs.Prelude.{Ok, Err, Some, None}
 use Rattle.rules.specs.Limits.{limited}
 use Rattle.index_map.specs.IndexMap.{Map, neg_all, scale_all}
 use Rattle.index_map.specs.Memory.Entries.{Held, Inserts}
-use Rattle.index_map.specs.declared.index_map.Inserted.TheVariants.{Length, OutOfRange}
 use Rattle.linear_comb.proofs.EntryLoops.{Over}
 use Rattle.index_map.proofs.CheckedNumbers.{times-value, times_out}
-use Rattle.std.specs.Prelude.{Some, None}
 
 -- ---- neg
 
@@ -47,7 +46,7 @@ scales_first q M l = go (scale_all (limited l) q M)
 
 pub scales_all :
     {b w : Bytes} {n : ℕ} (q : Rational) (M : Map Term) → Over (Scales q M) b w n → (l : ℕ) →
-    Inserts b w (Length n) (scale_all (limited l) q M)
+    Inserts b w (Ok n) (scale_all (limited l) q M)
 unfolding scale_all ◌>>=◌
 scales_all q M o l =
     record { map = o.map; held = o.held; is = (o.stands l ∙ ap Ok (append-nil o.map), o.size) }
@@ -67,6 +66,6 @@ module _ (p : Rational) (M d : Map Term) (t : Term) (v : Rational) (r : Map Term
 
   pub scales_out :
       {b w : Bytes} → checked (mul_q v p) ≡ None → Held b w [] → (l : ℕ) →
-      Inserts b w OutOfRange (scale_all (limited l) p M)
+      Inserts b w (Err NumberRange) (scale_all (limited l) p M)
   unfolding scale_all ◌>>=◌
   scales_out e held l = record { map = []; held = held; is = (h l ∙ rw (times_out l v p e), refl) }

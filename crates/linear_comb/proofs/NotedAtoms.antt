@@ -29,7 +29,7 @@ use Rattle.terms.specs.Readers.{unbounded, within}
 use Rattle.numbers.proofs.Truths.{if_either}
 use Rattle.terms.proofs.NumberedNodes.{record_number-tree}
 use Rattle.rules.specs.Refusal.{assert}
-use Rattle.rules.specs.Refusal.Refusal.{polynomial_size}
+use Rattle.rules.specs.declared.refusal.Refusal.TheVariants.{PolynomialSize}
 use Rattle.rules.specs.Limits.{Limits, plus}
 use Rattle.index_map.specs.IndexMap.{Map, Walked, swap_remove, enter, insert, add_entry, add_constant}
 use Rattle.index_map.specs.Memory.Entries.{terms, absent}
@@ -87,7 +87,8 @@ module _ (ns : List ℕ) (long : length ns ≡ note_words) (x : ℕ) (small : x 
   unfolding is_noted
   note_here =
       eq-eqb (bit_at (with_note ns x) x) 1
-      (rw note_word (or_right (get_or ns (x / word_bits) 0) (2 ^ (x % word_bits)) (x % word_bits) (own-bit (x % word_bits))))
+      (rw note_word
+      (or_right (get_or ns (x / word_bits) 0) (2 ^ (x % word_bits)) (x % word_bits) (own-bit (x % word_bits))))
 
   -- in the same number, and in another
   keeps_same : (y : ℕ) → y / word_bits ≡ x / word_bits → is_noted ns y ≡ true → is_noted (with_note ns x) y ≡ true
@@ -167,7 +168,7 @@ module _ (ns : List ℕ) where
   module _ (l : Limits) (t : Term) (value : Rational) (key : is_noted ns (record_number t) ≡ true) where
     enter_noted : (n : ℕ) (m : Map Term) → KeysNoted ns m → Yields (KeysNoted ns) (enter terms l n m t value)
     unfolding enter KeysNoted
-    enter_noted n [] noted = past (assert (within unbounded (suc n)) polynomial_size) λ u. gives (key, noted)
+    enter_noted n [] noted = past (assert (within unbounded (suc n)) PolynomialSize) λ u. gives (key, noted)
     enter_noted n (e ∷ m) noted =
         by_test (same e.0 t) _ _
         (λ s. past (plus l e.1 value) λ q.

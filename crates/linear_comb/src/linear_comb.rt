@@ -10,23 +10,13 @@ ghost use Rattle.index_map.specs.Memory.Entries.{most_entries, entries_of, Held,
 ghost use Rattle.linear_comb.specs.Memory.WorkArea.{comb_of, KeptSum, negated, Combines};
 ghost use Rattle.linear_comb.specs.Memory.WorkArea.{SumFits, SumScales};
 
-use index_map::index_map::{Inserted, clear, key_at, put_entry, value_at};
+use index_map::combination::Combination;
+use index_map::index_map::{clear, key_at, put_entry, value_at};
 use numbers::number::{Number, gcd, magnitude};
+use rules::refusal::Refusal;
 
-#[derive(Clone, Copy)]
-pub struct LinearComb {
-    // The number of entries.
-    pub len: usize,
-    pub constant: Number,
-}
-
-// The answer of an operation that can leave the range of numbers.
-#[derive(Clone, Copy)]
-pub enum Combined {
-    Is(LinearComb),
-    // Refusal 11.
-    OutOfRange,
-}
+// A combination of terms.
+pub type LinearComb = Combination;
 
 pub fn neg(entries: &mut [u8], s: LinearComb) -> LinearComb
     requires { SumFits s }
@@ -45,8 +35,8 @@ pub fn neg(entries: &mut [u8], s: LinearComb) -> LinearComb
     }
 }
 
-// Multiplies each of n entries.
-fn scale_all(entries: &mut [u8], n: usize, q: Number) -> Inserted
+// Multiplies each of n entries. How many there are then.
+fn scale_all(entries: &mut [u8], n: usize, q: Number) -> Result<usize, Refusal>
     requires { (n ≤ most_entries) × Proper q }
     ensures { (b : Bytes) → Kept b entries.old n → (l : ℕ) →
         Inserts b entries.new result (scale_all (limited l) q (entries_of b entries.old n)) }
@@ -56,37 +46,32 @@ fn scale_all(entries: &mut [u8], n: usize, q: Number) -> Inserted
         let value = value_at(entries, k);
         let Some(scaled) = value.mul(q) else {
             clear(entries, n);
-            return Inserted::OutOfRange;
+            return Err(Refusal::NumberRange);
         };
         put_entry(entries, k, key, scaled);
     }
-    Inserted::Length(n)
+    Ok(n)
 }
 
 // Multiplies a combination, in its own place.
-pub fn mul(entries: &mut [u8], s: LinearComb, q: Number) -> Combined
+pub fn mul(entries: &mut [u8], s: LinearComb, q: Number) -> Result<LinearComb, Refusal>
     requires { SumScales s q }
     ensures { (b : Bytes) → KeptSum b entries.old s → (l : ℕ) →
         Combines b entries.new result (mul (limited l) (comb_of b entries.old s) q) }
 {
     if q.is_zero() {
         clear(entries, s.len);
-        return Combined::Is(LinearComb {
-            len: 0,
-            constant: Number::whole(0),
-        });
+        return Ok(Combination::new());
     }
     if q.eq(Number::whole(1)) {
-        return Combined::Is(s);
+        return Ok(s);
     }
-    let Inserted::Length(_) = scale_all(entries, s.len, q) else {
-        return Combined::OutOfRange;
-    };
+    scale_all(entries, s.len, q)?;
     let Some(constant) = s.constant.mul(q) else {
         clear(entries, s.len);
-        return Combined::OutOfRange;
+        return Err(Refusal::NumberRange);
     };
-    Combined::Is(LinearComb {
+    Ok(LinearComb {
         len: s.len,
         constant,
     })

@@ -9,8 +9,9 @@ ghost use Rattle.index_map.specs.IndexMap.{insert};
 ghost use Rattle.index_map.specs.Memory.Entries.{terms, entries_of, Kept, Inserts, NewEntry};
 ghost use Rattle.linear_comb.specs.Memory.Notes.{is_noted, with_note, noting, Noted};
 
-use index_map::index_map::{Inserted, append, insert};
+use index_map::index_map::{append, insert};
 use numbers::number::Number;
+use rules::refusal::Refusal;
 
 // A word has a bit for each of 64 records.
 pub const NOTE_WORDS: usize = 32;
@@ -33,14 +34,15 @@ pub fn note(noted: &mut [u64; NOTE_WORDS], x: usize)
     noted[x / WORD_BITS] |= 1 << (x % WORD_BITS);
 }
 
-// Adds `value` times the atom of record x to the n entries, and notes it. All atoms so far are noted.
+// Adds `value` times the atom of record x to the n entries, and notes it. All atoms so far are noted. How many entries
+// there are then.
 pub fn enter(
     entries: &mut [u8],
     n: usize,
     x: usize,
     value: Number,
     noted: &mut [u64; NOTE_WORDS],
-) -> Inserted
+) -> Result<usize, Refusal>
     requires { NewEntry n x value × (x < max_records) }
     ensures noted_after { noted.new ≡ noting noted.old x }
     ensures inserts { (b : Bytes) → Kept b entries.old n → x < count b →
@@ -52,5 +54,5 @@ pub fn enter(
         return insert(entries, n, x, value);
     }
     note(noted, x);
-    Inserted::Length(append(entries, n, x, value))
+    Ok(append(entries, n, x, value))
 }

@@ -7,7 +7,7 @@ use Rattle.terms.specs.Operator.{Not, And, Or, Equals, LessEq, GreaterEq}
 use Rattle.terms.specs.Term.{Term, binary}
 use Rattle.rules.specs.Refusal.{Result, ◌>>=◌, assert}
 use Rattle.std.specs.Prelude.{Err}
-use Rattle.rules.specs.Refusal.Refusal.{expected_less_than, expected_less_eq, not_valid_tautology_case}
+use Rattle.rules.specs.declared.refusal.Refusal.TheVariants.{ExpectedLessThan, ExpectedLessEq, NotValidTautologyCase}
 use Rattle.rules.specs.Limits.{signed_number_err}
 use Rattle.rules.specs.Shapes.{Clause, Form, ◌≔◌of◌, has_form, assert_eq, negated_binary, both, bounds_case}
 
@@ -57,13 +57,13 @@ unfoldable pub assert_less_than : Term → Term → Result (Unit {0})
 assert_less_than a b = do
   p ← signed_number_err a
   q ← signed_number_err b
-  assert (less_q p q) expected_less_than
+  assert (less_q p q) ExpectedLessThan
 
 unfoldable pub assert_less_eq : Term → Term → Result (Unit {0})
 assert_less_eq a b = do
   p ← signed_number_err a
   q ← signed_number_err b
-  assert (less_eq_q p q) expected_less_eq
+  assert (less_eq_q p q) ExpectedLessEq
 
 unfoldable pub tautology_case : Term → Term → Result (Unit {0})
 tautology_case first second =
@@ -77,7 +77,7 @@ tautology_case first second =
             | Some p ↦ bounds_case assert_eq p
             | None ↦ elim (both (negated_binary LessEq first) (negated_binary GreaterEq second)) [
               | Some p ↦ bounds_case assert_less_than p
-              | None ↦ Err not_valid_tautology_case
+              | None ↦ Err NotValidTautologyCase
             ]
           ]
         ]

@@ -6,16 +6,14 @@ ghost use Rattle.terms.specs.Term.{binary};
 ghost use Rattle.terms.specs.Book.{tree};
 ghost use Rattle.linear_shapes.specs.LinearShapes.{la_rw_eq, la_disequality, la_totality, tautology_case};
 ghost use Rattle.linear_shapes.specs.LinearShapes.{assert_less_than, assert_less_eq};
-ghost use Rattle.rules.specs.Shapes.{negated_binary, both, bounds_case};
-ghost use Rattle.rules.specs.Memory.ShapeRecords.{pair_of, found_bounds};
-ghost use Rattle.rules.specs.Memory.Parts.{terms_in, asserted_of, after, verdict_of};
-ghost use Rattle.rules.specs.Memory.Parts.{expected_refusal};
+ghost use Rattle.rules.specs.Shapes.{negated_binary, both};
+ghost use Rattle.rules.specs.Memory.ShapeRecords.{found_bounds};
+ghost use Rattle.rules.specs.Memory.Parts.{terms_in, after};
 
-use rules::readers::{Expected, as_signed_number_err, expected_refusal};
-use rules::shapes::{Bounds, assert_eq, both, bounds_eq, has_form, negated_binary};
-use rules::verdict::{Asserted, Verdict};
+use rules::readers::as_signed_number_err;
+use rules::refusal::Refusal;
+use rules::shapes::{Bound, assert_eq, both, bounds_case, has_form, negated_binary};
 use terms::operator::{AND, EQUALS, GREATER_EQ, LESS_EQ, NOT, OR};
-use terms::refusal::{EXPECTED_LESS_EQ, EXPECTED_LESS_THAN, NOT_VALID_TAUTOLOGY_CASE};
 use terms::term::binary;
 
 // ---- shapes: for each equation, which stands above its bytes, a name, an operator, how many parts, and three places
@@ -35,8 +33,8 @@ const RW_EQ: [u8; 30] = [
     6, LESS_EQ, 2, 4, 3, 0,
 ];
 
-pub fn la_rw_eq(book: &[u8], literals: &[u8], visits: u32) -> Verdict
-    ensures { result ≡ verdict_of (after visits (la_rw_eq (terms_in book.now literals.now))) }
+pub fn la_rw_eq(book: &[u8], literals: &[u8], visits: u32) -> Result<u32, Refusal>
+    ensures { result ≡ after visits (la_rw_eq (terms_in book.now literals.now)) }
 {
     has_form(book, literals, &RW_EQ, visits)
 }
@@ -57,9 +55,9 @@ const DISEQUALITY: [u8; 36] = [
     7, LESS_EQ, 2, 5, 4, 0,
 ];
 
-pub fn la_disequality(book: &[u8], literals: &[u8], visits: u32) -> Verdict
+pub fn la_disequality(book: &[u8], literals: &[u8], visits: u32) -> Result<u32, Refusal>
     ensures { result
-        ≡ verdict_of (after visits (la_disequality (terms_in book.now literals.now))) }
+        ≡ after visits (la_disequality (terms_in book.now literals.now)) }
 {
     has_form(book, literals, &DISEQUALITY, visits)
 }
@@ -74,76 +72,40 @@ const TOTALITY: [u8; 18] = [
     2, LESS_EQ, 2, 4, 3, 0,
 ];
 
-pub fn la_totality(book: &[u8], literals: &[u8], visits: u32) -> Verdict
-    ensures { result ≡ verdict_of (after visits (la_totality (terms_in book.now literals.now))) }
+pub fn la_totality(book: &[u8], literals: &[u8], visits: u32) -> Result<u32, Refusal>
+    ensures { result ≡ after visits (la_totality (terms_in book.now literals.now)) }
 {
     has_form(book, literals, &TOTALITY, visits)
 }
 
 // ---- la_tautology
 
-fn assert_less_than(book: &[u8], a: usize, b: usize) -> Asserted
-    ensures { result ≡ asserted_of (assert_less_than (tree book.now a) (tree book.now b)) }
+fn assert_less_than(book: &[u8], a: usize, b: usize) -> Result<(), Refusal>
+    ensures { result ≡ assert_less_than (tree book.now a) (tree book.now b) }
 {
-    let left = as_signed_number_err(book, a);
-    let Expected::Value(p) = left else {
-        return Asserted::Refused(expected_refusal(left));
-    };
-    let right = as_signed_number_err(book, b);
-    let Expected::Value(q) = right else {
-        return Asserted::Refused(expected_refusal(right));
-    };
+    let p = as_signed_number_err(book, a)?;
+    let q = as_signed_number_err(book, b)?;
     if p.less(q) {
-        Asserted::Holds
+        Ok(())
     } else {
-        Asserted::Refused(EXPECTED_LESS_THAN)
+        Err(Refusal::ExpectedLessThan)
     }
 }
 
-fn assert_less_eq(book: &[u8], a: usize, b: usize) -> Asserted
-    ensures { result ≡ asserted_of (assert_less_eq (tree book.now a) (tree book.now b)) }
+fn assert_less_eq(book: &[u8], a: usize, b: usize) -> Result<(), Refusal>
+    ensures { result ≡ assert_less_eq (tree book.now a) (tree book.now b) }
 {
-    let left = as_signed_number_err(book, a);
-    let Expected::Value(p) = left else {
-        return Asserted::Refused(expected_refusal(left));
-    };
-    let right = as_signed_number_err(book, b);
-    let Expected::Value(q) = right else {
-        return Asserted::Refused(expected_refusal(right));
-    };
+    let p = as_signed_number_err(book, a)?;
+    let q = as_signed_number_err(book, b)?;
     if p.less_eq(q) {
-        Asserted::Holds
+        Ok(())
     } else {
-        Asserted::Refused(EXPECTED_LESS_EQ)
+        Err(Refusal::ExpectedLessEq)
     }
-}
-
-// s1 and s2 are one term, and d1 is less than d2.
-fn bounds_less_than(book: &[u8], s1: usize, d1: usize, s2: usize, d2: usize) -> Asserted
-    ensures { result ≡ asserted_of (bounds_case assert_less_than
-        (pair_of book.now s1 d1, pair_of book.now s2 d2)) }
-{
-    let terms = assert_eq(s1, s2);
-    let Asserted::Holds = terms else {
-        return terms;
-    };
-    assert_less_than(book, d1, d2)
-}
-
-// s1 and s2 are one term, and d1 is at most d2.
-fn bounds_less_eq(book: &[u8], s1: usize, d1: usize, s2: usize, d2: usize) -> Asserted
-    ensures { result ≡ asserted_of (bounds_case assert_less_eq
-        (pair_of book.now s1 d1, pair_of book.now s2 d2)) }
-{
-    let terms = assert_eq(s1, s2);
-    let Asserted::Holds = terms else {
-        return terms;
-    };
-    assert_less_eq(book, d1, d2)
 }
 
 // (not (o s1 d1)) and (o s2 d2)
-fn first_negated(book: &[u8], first: usize, second: usize, o: u8) -> Bounds
+fn first_negated(book: &[u8], first: usize, second: usize, o: u8) -> Option<(Bound, Bound)>
     ensures { found_bounds book.now result
         ≡ both (negated_binary o (tree book.now first))
         (binary o (tree book.now second)) }
@@ -152,7 +114,7 @@ fn first_negated(book: &[u8], first: usize, second: usize, o: u8) -> Bounds
 }
 
 // (o s1 d1) and (not (o s2 d2))
-fn second_negated(book: &[u8], first: usize, second: usize, o: u8) -> Bounds
+fn second_negated(book: &[u8], first: usize, second: usize, o: u8) -> Option<(Bound, Bound)>
     ensures { found_bounds book.now result
         ≡ both (binary o (tree book.now first))
         (negated_binary o (tree book.now second)) }
@@ -161,7 +123,7 @@ fn second_negated(book: &[u8], first: usize, second: usize, o: u8) -> Bounds
 }
 
 // (not (<= s1 d1)) and (not (>= s2 d2))
-fn both_negated(book: &[u8], first: usize, second: usize) -> Bounds
+fn both_negated(book: &[u8], first: usize, second: usize) -> Option<(Bound, Bound)>
     ensures { found_bounds book.now result
         ≡ both (negated_binary LessEq (tree book.now first))
         (negated_binary GreaterEq (tree book.now second)) }
@@ -173,29 +135,29 @@ fn both_negated(book: &[u8], first: usize, second: usize) -> Bounds
 }
 
 // The five forms (or phi1 phi2).
-pub fn tautology_case(book: &[u8], first: usize, second: usize) -> Asserted
+pub fn tautology_case(book: &[u8], first: usize, second: usize) -> Result<(), Refusal>
     ensures { result
-        ≡ asserted_of (tautology_case (tree book.now first) (tree book.now second)) }
+        ≡ tautology_case (tree book.now first) (tree book.now second) }
 {
     // First case
-    if let Bounds::Are(s1, d1, s2, d2) = first_negated(book, first, second, LESS_EQ) {
-        return bounds_less_eq(book, s1, d1, s2, d2);
+    if let Some((p, q)) = first_negated(book, first, second, LESS_EQ) {
+        return bounds_case(|d1, d2| assert_less_eq(book, d1, d2), p, q);
     }
     // Second case
-    if let Bounds::Are(s1, d1, s2, d2) = second_negated(book, first, second, LESS_EQ) {
-        return bounds_eq(s1, d1, s2, d2);
+    if let Some((p, q)) = second_negated(book, first, second, LESS_EQ) {
+        return bounds_case(assert_eq, p, q);
     }
     // Third case
-    if let Bounds::Are(s1, d1, s2, d2) = first_negated(book, first, second, GREATER_EQ) {
-        return bounds_less_eq(book, s1, d2, s2, d1);
+    if let Some((p, q)) = first_negated(book, first, second, GREATER_EQ) {
+        return bounds_case(|d1, d2| assert_less_eq(book, d2, d1), p, q);
     }
     // Fourth case
-    if let Bounds::Are(s1, d1, s2, d2) = second_negated(book, first, second, GREATER_EQ) {
-        return bounds_eq(s1, d1, s2, d2);
+    if let Some((p, q)) = second_negated(book, first, second, GREATER_EQ) {
+        return bounds_case(assert_eq, p, q);
     }
     // Fifth case
-    if let Bounds::Are(s1, d1, s2, d2) = both_negated(book, first, second) {
-        return bounds_less_than(book, s1, d1, s2, d2);
+    if let Some((p, q)) = both_negated(book, first, second) {
+        return bounds_case(|d1, d2| assert_less_than(book, d1, d2), p, q);
     }
-    Asserted::Refused(NOT_VALID_TAUTOLOGY_CASE)
+    Err(Refusal::NotValidTautologyCase)
 }

@@ -10,7 +10,8 @@ use Rattle.terms.specs.Term.{Term}
 use Rattle.terms.specs.Smtlib.{divs_even}
 use Rattle.numbers.proofs.Truths.{both, never}
 use Rattle.book.proofs.BookTerms.{Closed}
-use Rattle.rules.specs.Refusal.{Refusal, assert}
+use Rattle.rules.specs.Refusal.{assert}
+use Rattle.rules.specs.declared.refusal.Refusal.{Refusal}
 use Rattle.std.specs.Prelude.{Ok}
 use Rattle.rules.specs.Limits.{Limits, the_rust}
 use Rattle.linear_arithmetic.specs.LinearArithmetic.{read_args}

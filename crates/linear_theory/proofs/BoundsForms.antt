@@ -20,8 +20,9 @@ use Rattle.numbers.proofs.Rationals.{less-value, less_eq-value}
 use Rattle.book.proofs.WellFormed.{WellFormed}
 use Rattle.book.proofs.Fractions.{as_fraction-value}
 use Rattle.book.proofs.BookTerms.{Closed}
-use Rattle.rules.specs.Refusal.{Refusal, Result, ◌>>=◌, or_else}
-use Rattle.rules.specs.Refusal.Refusal.{expected_any_number}
+use Rattle.rules.specs.Refusal.{Result, ◌>>=◌, or_else}
+use Rattle.rules.specs.declared.refusal.Refusal.{Refusal}
+use Rattle.rules.specs.declared.refusal.Refusal.TheVariants.{ExpectedAnyNumber}
 use Rattle.rules.specs.Limits.{number_or, signed_number_err}
 use Rattle.rules.specs.Shapes as Form
 use Rattle.linear_shapes.specs.LinearShapes.{assert_less_eq, assert_less_than, tautology_case}
@@ -76,7 +77,7 @@ signed-yields t = go (as_signed_number t) refl
   where
     go :
         (r : Reading) → as_signed_number t ≡ r →
-        Yields (Written t) (number_or r >>= λ q. or_else q expected_any_number)
+        Yields (Written t) (number_or r >>= λ q. or_else q ExpectedAnyNumber)
     go (Ok q) e = gives (signed-written (read-signed t q e))
     go (Err NotNumber) e = refuses
     go (Err OutOfRange) e = refuses

@@ -17,7 +17,7 @@ use Rattle.numbers.proofs.Ring.{◌⊕◌, neg, 𝟘, 𝟙, ◌≐◌, ◌·◌,
 use Rattle.numbers.proofs.Quotient.{ℚ, ℚring, sum, ι}
 use Rattle.numbers.proofs.LowestTerms.{whole_is_lowest}
 use Rattle.book.proofs.BookTerms.{Closed}
-use Rattle.rules.specs.Refusal.{Refusal}
+use Rattle.rules.specs.declared.refusal.Refusal.{Refusal}
 use Rattle.std.specs.Prelude.{Ok, Err}
 use Rattle.rules.specs.Limits.{Limits, the_rust}
 use Rattle.index_map.specs.IndexMap.{is_empty, new}

@@ -21,7 +21,7 @@ use Rattle.numbers.proofs.Quotient.{ℚring}
 use Rattle.book.proofs.BookTerms.{Closed}
 use Rattle.rules.specs.Refusal.{assert}
 use Rattle.std.specs.Prelude.{Ok}
-use Rattle.rules.specs.Refusal.Refusal.{wrong_number_of_args, disequality_is_not_contradiction}
+use Rattle.rules.specs.declared.refusal.Refusal.TheVariants.{WrongNumberOfArgs, DisequalityIsNotContradiction}
 use Rattle.rules.specs.Limits.{Limits}
 use Rattle.index_map.specs.IndexMap.{is_empty, new}
 use Rattle.process_disequality.specs.ProcessDisequality.{Progress}
@@ -118,7 +118,7 @@ module _ {P : Term → Type 0} (closed : Closed P) (l : Limits) where
       let given = at_ok (arguments-found l args) t.first in
       let u = through (fold_literals l c qs (start n)) _ r t.then in
       let p = u.middle in
-      let v = through (assert (refutes p) disequality_is_not_contradiction) _ r u.then in
+      let v = through (assert (refutes p) DisequalityIsNotContradiction) _ r u.then in
       let b = both (is_empty p.acc.entries) _ (asserted-true _ _ _ v.first) in
       let f =
       fold-lines closed l c ps qs (arguments-lowest closed args fs qs given) (start n) p u.first
@@ -170,7 +170,7 @@ module _ {P : Term → Type 0} (closed : Closed P) (c : Clause) (terms-of-P : Ea
   pub la_generic-form : la_generic l c args n ≡ Ok p → GenericStep c args p
   unfolding la_generic
   la_generic-form e =
-      let t = through (assert (eqb (length args) (length c)) wrong_number_of_args) _ p e in
+      let t = through (assert (eqb (length args) (length c)) WrongNumberOfArgs) _ p e in
       let a = step t.then in
       let same = eqb-true (length args) (length c) (asserted-true _ _ _ t.first) in
       let r =

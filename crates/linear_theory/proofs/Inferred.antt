@@ -17,7 +17,7 @@ use Rattle.terms.specs.Term.Term.{rational}
 use Rattle.terms.specs.Operator.{Equals}
 use Rattle.terms.specs.Readers.{as_fraction, as_unsigned_fraction, as_signed_number, as_number, quotient_of}
 use Rattle.rules.specs.Refusal.{◌>>=◌, assert, or_else}
-use Rattle.rules.specs.Refusal.Refusal.{disequality_is_not_contradiction}
+use Rattle.rules.specs.declared.refusal.Refusal.TheVariants.{DisequalityIsNotContradiction}
 use Rattle.std.specs.Prelude.{Ok}
 use Rattle.rules.specs.Limits.{Limits, fraction_of, fraction_err}
 use Rattle.index_map.specs.IndexMap.{add, new, is_empty}
@@ -161,7 +161,7 @@ module _ (l : Limits) where
   la_generic-again c args n h =
       and_then (read_args-again args) λ qs r.
       and_then (fold-again c qs (progress Equals new [] n) (omega (arith, h, r.0))) λ p f.
-      known (assert (is_empty p.acc.entries && not (is_true_at_zero p.operator p.acc.constant)) disequality_is_not_contradiction) λ u e.
+      known (assert (is_empty p.acc.entries && not (is_true_at_zero p.operator p.acc.constant)) DisequalityIsNotContradiction) λ u e.
       gives λ ts g. (
       let a : read_args l (args ++ ts) ≡ Ok (qs ++ f.numbers) =
       subst (λ x. read_args l (args ++ ts) ≡ Ok (qs ++ x)) f.supplied (r.1 ts p.trace g) in

@@ -7,11 +7,11 @@ use mathlib.Core.List.{[], ◌∷◌}
 use Prim.Native.Nat.{ℕ, suc}
 use borrow.Author.Tests.{eqb-true, eq-eqb}
 use Rattle.numbers.specs.Rational.{Rational, is_zero}
-use Rattle.terms.specs.Term.{record_number, same}
+use Rattle.terms.specs.Term.{record_number}
 use Rattle.terms.specs.Readers.{within}
 use Rattle.numbers.proofs.Truths.{same_test, if_either}
 use Rattle.rules.specs.Refusal.{assert}
-use Rattle.rules.specs.Refusal.Refusal.{polynomial_size}
+use Rattle.rules.specs.declared.refusal.Refusal.TheVariants.{PolynomialSize}
 use Rattle.rules.specs.Limits.{Limits, times, plus}
 use Rattle.index_map.specs.IndexMap.{Map, Keys, last_first, swap_remove, neg_all, scale_all, enter}
 use Rattle.index_map.specs.Memory.Entries.{terms}
@@ -76,7 +76,7 @@ module _ {K : Type 0} (is : K → Bool) where
         Yields (Lacks is) (enter keys l n m key v)
     unfolding enter
     enter-lacks keys n [] key v k h =
-        past (assert (within (keys.most l) (suc n)) polynomial_size) λ u. gives (another k nothing)
+        past (assert (within (keys.most l) (suc n)) PolynomialSize) λ u. gives (another k nothing)
     enter-lacks keys n (e ∷ m) key v k (another other h) =
         by_test (keys.same e.0 key) _ _
         (λ s. past (plus l e.1 v) λ q.

@@ -18,7 +18,6 @@ use Rattle.linear_walk.specs.LinearTerms.{arm_of, add_leaf, factors_of, add_term
 use Rattle.linear_comb.specs.LinearComb.{LinearComb, mul, coefficients_gcd, all_int}
 use Rattle.linear_walk.specs.LinearTerms.{add_difference, add_first, add_second, from_term}
 use Rattle.index_map.specs.Memory.Entries.{terms}
-use Rattle.linear_walk.specs.LinearTerms.Arm.{sum}
 use Rattle.process_disequality.specs.ProcessDisequality.{Progress, progress, inferred, argument_of, strengthened, scalar}
 use Rattle.process_disequality.specs.ProcessDisequality.{process_disequality}
 use Rattle.linear_arithmetic.specs.LinearArithmetic.{read_args, fold_literals, la_generic_partial, la_generic, la_tautology}

@@ -19,7 +19,7 @@ use Rattle.numbers.specs.Rational.{Rational, Lowest}
 use Rattle.terms.specs.Operator.{Add, Sub, Mult}
 use Rattle.terms.specs.Term.{Term, Terms, same, unary, binary}
 use Rattle.numbers.specs.Choice.{when◌then◌else◌}
-use Rattle.terms.specs.Term.Term.{atom, op}
+use Rattle.terms.specs.Term.Term.{op}
 use Rattle.terms.specs.Term.Terms.{nil, ◌▹◌}
 use Rattle.terms.specs.Readers.{unbounded, as_number, quotient_of, as_unsigned_fraction, as_fraction, as_op}
 use Rattle.numbers.proofs.Truths.{never}

@@ -16,7 +16,8 @@ use Rattle.terms.specs.Readers.{as_op}
 use Rattle.numbers.proofs.Ring.{◌⊕◌, ◌⊖◌, ◌⊗◌, neg, 𝟘, 𝟙, ◌≐◌, ◌·◌, ◌and◌, ◌from◌, solve, derive}
 use Rattle.numbers.proofs.Quotient.{ℚ, ℚring}
 use Rattle.book.proofs.BookTerms.{Each, Closed}
-use Rattle.rules.specs.Refusal.{Refusal, Result, ◌>>=◌}
+use Rattle.rules.specs.Refusal.{Result, ◌>>=◌}
+use Rattle.rules.specs.declared.refusal.Refusal.{Refusal}
 use Rattle.std.specs.Prelude.{Ok}
 use Rattle.rules.specs.Limits.{Limits, times}
 use Rattle.index_map.specs.IndexMap.{Walked, add_entry, add_constant}

@@ -11,7 +11,8 @@ use Rattle.numbers.specs.Rational.{Rational, Lowest, neg_q, is_integer, is_zero}
 use Rattle.terms.specs.Term.{Term}
 use Rattle.numbers.proofs.Truths.{both, never}
 use Rattle.numbers.proofs.Rationals.{neg-lowest, div-lowest}
-use Rattle.rules.specs.Refusal.{Refusal, Result, or_else}
+use Rattle.rules.specs.Refusal.{Result, or_else}
+use Rattle.rules.specs.declared.refusal.Refusal.{Refusal}
 use Rattle.std.specs.Prelude.{Ok, Err}
 use Rattle.rules.specs.Limits.{Limits}
 use Rattle.index_map.specs.IndexMap.{Map, get, add}

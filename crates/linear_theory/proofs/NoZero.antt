@@ -18,7 +18,7 @@ use Rattle.terms.specs.Readers.{within}
 use Rattle.numbers.proofs.Truths.{if_either}
 use Rattle.rules.specs.Refusal.{Result, ◌>>=◌, assert, or_else}
 use Rattle.std.specs.Prelude.{Err}
-use Rattle.rules.specs.Refusal.Refusal.{visit_limit, polynomial_size, invalid_disequality_op, not_unit, coeff_not_found}
+use Rattle.rules.specs.declared.refusal.Refusal.TheVariants.{VisitLimit, PolynomialSize, InvalidDisequalityOp, NotUnit, CoeffNotFound}
 use Rattle.rules.specs.Limits.{Limits, times, plus, over, fraction_of}
 use Rattle.index_map.specs.IndexMap.{Map, Combination, Keys, Walked, walked, new, combination, last_first, swap_remove}
 use Rattle.index_map.specs.IndexMap.{neg_all, scale_all, get, enter, insert, insert_all, add, neg, sub, visit, add_entry}
@@ -105,7 +105,7 @@ module _ {K : Type 0} {keys : Keys K} (names : Named keys) where
         Yields (NoZero keys) (enter keys l n m key v)
     unfolding enter
     enter-nonzero n [] key v z h =
-        past (assert (within (keys.most l) (suc n)) polynomial_size) λ u. gives (entry z nothing empty)
+        past (assert (within (keys.most l) (suc n)) PolynomialSize) λ u. gives (entry z nothing empty)
     enter-nonzero n (e ∷ m) key v z (entry y k h) =
         by_test (keys.same e.0 key) _ _
         (λ s. past (plus l e.1 v) λ q.
@@ -147,7 +147,7 @@ module _ {K : Type 0} {keys : Keys K} (names : Named keys) where
 module _ {K : Type 0} {keys : Keys K} (l : Limits) where
   pub visit-nonzero : (w : Walked K) → WalkNoZero keys w → Yields (WalkNoZero keys) (visit l w)
   unfolding visit
-  visit-nonzero w h = past (assert (within l.visits (suc w.visits)) visit_limit) λ u. gives h
+  visit-nonzero w h = past (assert (within l.visits (suc w.visits)) VisitLimit) λ u. gives h
 
   pub add_constant-nonzero :
       (q : Rational) (w : Walked K) → WalkNoZero keys w → Yields (WalkNoZero keys) (add_constant l q w)
@@ -232,7 +232,7 @@ module _ (l : Limits) where
   negate_disequality-nonzero : (phi : Term) (n : ℕ) → Yields (λ r. SumNoZero terms r.1) (negate_disequality l phi n)
   unfolding negate_disequality
   negate_disequality-nonzero phi n =
-      past (or_else (inner phi) invalid_disequality_op) λ (o, args).
+      past (or_else (inner phi) InvalidDisequalityOp) λ (o, args).
       past (two_sides args) λ (a, b).
       and_then (from_term-nonzero a n) λ s1 h. past (from_term l b s1.visits) λ s2. gives h
 
@@ -281,11 +281,11 @@ module _ (l : Limits) where
 
   -- `inferred` as the Rust has it, with no test
   abbrev pub untested : Map Term → Map Term → Result Rational
-  untested acc [] = Err not_unit
+  untested acc [] = Err NotUnit
   untested acc ((var, coeff1) ∷ []) = do
-    coeff2 ← or_else (get terms acc var) coeff_not_found
+    coeff2 ← or_else (get terms acc var) CoeffNotFound
     over l (neg_q coeff2) coeff1
-  untested acc (e ∷ f ∷ m) = Err not_unit
+  untested acc (e ∷ f ∷ m) = Err NotUnit
 
   pub inferred-untested : (acc m : Map Term) → NoZero terms m → inferred l acc m ≡ untested acc m
   unfolding inferred ◌>>=◌ assert

@@ -18,9 +18,10 @@ use Rattle.terms.specs.Readers.{as_signed_number, remove_negation}
 use Rattle.numbers.proofs.Truths.{T_true}
 use Rattle.terms.proofs.Readings.{not-number, out_of_range}
 use Rattle.book.proofs.BookTerms.{Closed}
-use Rattle.rules.specs.Refusal.{Refusal, Result, ◌>>=◌, assert, or_else}
+use Rattle.rules.specs.Refusal.{Result, ◌>>=◌, assert, or_else}
+use Rattle.rules.specs.declared.refusal.Refusal.{Refusal}
 use Rattle.std.specs.Prelude.{Ok, Err}
-use Rattle.rules.specs.Refusal.Refusal.{expected_any_number}
+use Rattle.rules.specs.declared.refusal.Refusal.TheVariants.{ExpectedAnyNumber}
 use Rattle.rules.specs.Limits.{Limits, the_rust, number_or, signed_number_err}
 use Rattle.linear_shapes.specs.LinearShapes.{assert_less_than, assert_less_eq, tautology_case}
 use Rattle.linear_arithmetic.specs.LinearArithmetic.{is_tautology, la_tautology}
@@ -120,7 +121,7 @@ unfolding signed_number_err or_else ◌>>=◌
 signed_or_not d q w = at (as_signed_number d) refl
   where
     at : (r : Reading) → as_signed_number d ≡ r →
-        ((number_or r >>= λ x. or_else x expected_any_number) ≡ Ok q) ⊎ ((r : Rational) → Signed d r → ⊥)
+        ((number_or r >>= λ x. or_else x ExpectedAnyNumber) ≡ Ok q) ⊎ ((r : Rational) → Signed d r → ⊥)
     at (Ok r) e =
         let read : Ok r ≡ Ok q = sym (written_read (signed-written (read-signed d r e))) ∙ written_read w in
         inl cc

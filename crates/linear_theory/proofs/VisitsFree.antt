@@ -13,7 +13,8 @@ use Rattle.terms.specs.Term.{Term, Terms}
 use Rattle.numbers.specs.Choice.{when◌then◌else◌}
 use Rattle.terms.specs.Term.Term.{integer, rational, bitvector, atom, op}
 use Rattle.terms.specs.Term.Terms.{nil, ◌▹◌}
-use Rattle.rules.specs.Refusal.{Refusal, Result, ◌>>=◌, assert}
+use Rattle.rules.specs.Refusal.{Result, ◌>>=◌, assert}
+use Rattle.rules.specs.declared.refusal.Refusal.{Refusal}
 use Rattle.std.specs.Prelude.{Ok, Err}
 use Rattle.rules.specs.Limits.{Limits, the_rust, times}
 use Rattle.index_map.specs.IndexMap as IndexMap
@@ -22,7 +23,6 @@ use Rattle.linear_walk.specs.LinearTerms.{arm_of, add_leaf, add_term, add_args, 
 use Rattle.linear_comb.specs.LinearComb.{LinearComb}
 use Rattle.linear_walk.specs.LinearTerms.{add_second, from_term}
 use Rattle.index_map.specs.Memory.Entries.{terms}
-use Rattle.linear_walk.specs.LinearTerms.Arm.{sum}
 use Rattle.disequality.specs.Disequality.{Disequality, disequality, negate_disequality, turned, disequality_of}
 use Rattle.rules_theory.proofs.Limited.{◌≼◌, sub-limited, Unbounded}
 use Rattle.rules_theory.proofs.Limited.◌≼◌.{equal, stopped}

@@ -2,12 +2,12 @@
 -- answer, from what the callees have promised.
 use mathlib.Core.Path.{◌≡◌, refl, sym, ◌∙◌, ap}
 use mathlib.Core.Bool.{Bool, true, false, ◌&&◌}
-use Rattle.std.specs.Prelude.{Some, None}
+use Rattle.std.specs.Prelude.{Some, None, Ok, Err, Option}
 use Prim.Native.Nat.{ℕ, suc}
 use native.Mathlib.Omega.{arith}
 use borrow.Author.Tests.{eqb-true, eq-eqb, ne_eqb}
 use lib.Dec.{eqb}
-use Rattle.numbers.specs.Rational.{Rational, Proper, Gives, Makes, mul_q, neg_q, checked}
+use Rattle.numbers.specs.Rational.{Rational, Proper, Gives, Makes, neg_q, checked, Checked}
 use Rattle.numbers.specs.Bytes.{Bytes}
 use Rattle.terms.specs.Operator.{Add, Sub, Mult}
 use Rattle.terms.specs.Term.{Term, Terms, two?, binary}
@@ -15,122 +15,101 @@ use Rattle.numbers.specs.Choice.{when◌then◌else◌}
 use Rattle.terms.specs.Term.Term.{integer, rational, bitvector, atom, op}
 use Rattle.terms.specs.Term.Terms.{nil, ◌▹◌}
 use Rattle.terms.specs.Book.{tree}
-use Rattle.terms.specs.Readers.{Finds, Children, found_two, ranged, as_number, as_fraction, as_op, operator_of, arguments_of}
-use Rattle.terms.specs.Readers.{reading_refusal}
+use Rattle.terms.specs.Readers.{Finds, Children, found_two, ranged, as_number, as_fraction, as_op, operator_of}
+use Rattle.terms.specs.Readers.{arguments_of, reading_refusal, Reading}
 use Rattle.terms.proofs.NumberedNodes.{record_number-tree}
 use Rattle.terms.proofs.Readings.{binary-shape, plain-fraction}
 use Rattle.linear_walk.specs.LinearTerms.{arm_of}
 use Rattle.rules.specs.Shapes.{size}
 use Rattle.linear_walk.specs.LinearTerms.Arm.{leaf}
-use Rattle.linear_walk.specs.Memory.LinearNodes.{NodeIs, NodeProper, constant_node, read_node, leaf_node, scaled_node}
-use Rattle.numbers.proofs.Truths.{never}
-use Rattle.linear_walk.specs.Memory.LinearNodes.{is_outside, factor_node, factors_node, product_node, operation_node, node_of}
+use Rattle.linear_walk.specs.Memory.LinearNodes.{NodeIs, NodeProper, read_node, leaf_node}
+use Rattle.linear_walk.specs.Memory.LinearNodes.{factors_node, product_node, operation_node, node_of}
+use Rattle.rules.specs.declared.refusal.Refusal.{Refusal}
+use Rattle.rules.specs.declared.refusal.Refusal.TheVariants.{NumberRange}
+use Rattle.std.specs.Option.{ok_or}
+use Rattle.rules.specs.Refusal.{Result, ◌>>=◌, or_else}
+use Rattle.rules.specs.Limits.{number_or}
+use Rattle.rules.proofs.Results.{none-refused, stops, goes_on}
 use Rattle.linear_walk.specs.declared.nodes.Node.{Node}
 use Rattle.linear_walk.specs.declared.nodes.Node.TheVariants as node
 use Rattle.rules.proofs.ArgumentsLeft.{by_operator}
-use Rattle.numbers.specs.Rational.{Checked}
-use Rattle.terms.specs.Readers.{Reading}
-use Rattle.std.specs.Prelude.{Ok, Err, Option}
-use Rattle.terms.specs.declared.term.NotRead.TheVariants.{NotNumber, OutOfRange}
 
-node_is : {r d : Node} → NodeProper r → r ≡ d → NodeIs r d
+node_is : {r d : Result Node} → NodeProper r → r ≡ d → NodeIs r d
 node_is p e = record { is = e; proper = p }
 
-node_of_lem : {r d e : Node} → NodeIs r d → d ≡ e → NodeIs r e
+node_of_lem : {r d e : Result Node} → NodeIs r d → d ≡ e → NodeIs r e
 node_of_lem n e = node_is n.proper (n.is ∙ e)
 
--- ---- factor
+-- along the definition's steps: a first step is refused, or goes on
+module _ {A : Type 0} {x : Result A} (f : A → Result Node) where
+  pub node_stops : {e : Refusal} → Err e ≡ x → NodeIs (Err e) (x >>= f)
+  node_stops e = node_is tt (stops f e)
 
-module _ (q coeff : Rational) {a : Checked} (g : Gives a (checked (mul_q q coeff))) where
-  pub scaled : {x : ℕ} {c : Rational} → a ≡ Some c → NodeIs (node.Factor x c) (factor_node x q coeff)
-  unfolding factor_node
-  scaled {x} e = node_is (g.proper _ e) (ap (scaled_node x) (sym e ∙ g.is))
+  pub node_then : {a : A} {r : Result Node} → Ok a ≡ x → NodeIs r (f a) → NodeIs r (x >>= f)
+  node_then e n = node_of_lem n (goes_on f e refl)
 
-  pub scaled-outside : (x : ℕ) → a ≡ None → NodeIs node.OutOfRange (factor_node x q coeff)
-  unfolding factor_node
-  scaled-outside x e = node_is tt (ap (scaled_node x) (sym e ∙ g.is))
+-- ---- factor and constant: the node is made of a product p
+
+module _ (make : Rational → Node) (p : Rational) {a : Checked} (g : Gives a (checked p)) where
+  abbrev pub made : Result Node
+  made = or_else (checked p) NumberRange >>= λ c. Ok (make c)
+
+  pub scaled-outside : {e : Refusal} → Err e ≡ ok_or a NumberRange → NodeIs (Err e) made
+  scaled-outside e = node_stops _ (none-refused (λ (o : Checked). o) a NumberRange g.is refl e)
+
+  pub scaled : {c : Rational} → a ≡ Some c → NodeProper (Ok (make c)) → NodeIs (Ok (make c)) made
+  unfolding or_else ◌>>=◌
+  scaled e proper = node_is proper (sym (rw (sym g.is ∙ e)))
 
 -- ---- product
 
-outside : (r : Reading) → is_outside r ≡ true → r ≡ Err OutOfRange
-outside (Ok q) h = never h
-outside (Err NotNumber) h = never h
-outside (Err OutOfRange) h = refl
-
--- a reading that is neither out of range nor a number
-not-number : (r : Reading) → is_outside r ≡ false → ((q : Rational) → r ≡ Ok q → ⊥) → r ≡ Err NotNumber
-not-number (Ok q) h k = absurd (k q refl)
-not-number (Err NotNumber) h k = refl
-not-number (Err OutOfRange) h k = never (sym h)
-
-module _ (b : Bytes) (x y : ℕ) (coeff : Rational) {p q : Reading}
-    (first : Finds p (as_fraction ranged (tree b x))) (second : Finds q (as_fraction ranged (tree b y))) where
-  read-node : factors_node p q x y coeff ≡ product_node (tree b x) (tree b y) coeff
+module _ (b : Bytes) (x y : ℕ) (coeff : Rational) {p : Reading} (first : Finds p (as_fraction ranged (tree b x))) where
+  pub first_refused : {e : Refusal} → Err e ≡ number_or p → NodeIs (Err e) (product_node (tree b x) (tree b y) coeff)
   unfolding product_node
-  read-node = rw (← first.is, ← second.is, record_number-tree b x, record_number-tree b y)
+  first_refused e = node_stops _ (e ∙ ap number_or first.is)
 
-  pub first_outside : is_outside p ≡ true → NodeIs node.OutOfRange (product_node (tree b x) (tree b y) coeff)
-  first_outside e = node_is tt (ap (λ (r : Reading). factors_node r q x y coeff) (sym (outside p e)) ∙ read-node)
+  module _
+      {u : Option Rational} (read : Ok u ≡ number_or p) {q : Reading}
+      (second : Finds q (as_fraction ranged (tree b y))) where
+    pub second_refused : {e : Refusal} → Err e ≡ number_or q → NodeIs (Err e) (product_node (tree b x) (tree b y) coeff)
+    unfolding product_node
+    second_refused e = node_then _ (read ∙ ap number_or first.is) (node_stops _ (e ∙ ap number_or second.is))
 
-  pub second_outside : is_outside q ≡ true → NodeIs node.OutOfRange (product_node (tree b x) (tree b y) coeff)
-  second_outside e =
-      node_is tt (sym (go p) ∙ ap (λ (r : Reading). factors_node p r x y coeff) (sym (outside q e)) ∙ read-node)
-    where
-      go : (r : Reading) → factors_node r (Err OutOfRange) x y coeff ≡ node.OutOfRange
-      go (Ok v) = refl
-      go (Err NotNumber) = refl
-      go (Err OutOfRange) = refl
-
-  pub first_number :
-      {v : Rational} {r : Node} → p ≡ Ok v → is_outside q ≡ false → NodeIs r (factor_node y v coeff) →
-      NodeIs r (product_node (tree b x) (tree b y) coeff)
-  first_number {v} e h n =
-      node_of_lem n (sym (go q h) ∙ ap (λ (r : Reading). factors_node r q x y coeff) (sym e) ∙ read-node)
-    where
-      go : (r : Reading) → is_outside r ≡ false → factors_node (Ok v) r x y coeff ≡ factor_node y v coeff
-      go (Ok w) h = refl
-      go (Err NotNumber) h = refl
-      go (Err OutOfRange) h = never (sym h)
-
-  -- the first is neither out of range nor a number
-  module _ (inside : is_outside p ≡ false) (no-first : (v : Rational) → p ≡ Ok v → ⊥) where
-    p_is : p ≡ Err NotNumber
-    p_is = not-number p inside no-first
-
-    pub second_number :
-        {v : Rational} {r : Node} → q ≡ Ok v → NodeIs r (factor_node x v coeff) →
+    pub both_read :
+        {v : Option Rational} {r : Result Node} → Ok v ≡ number_or q → NodeIs r (factors_node u v x y coeff) →
         NodeIs r (product_node (tree b x) (tree b y) coeff)
-    second_number e n = node_of_lem n (sym (rw (p_is, e)) ∙ read-node)
+    unfolding product_node
+    both_read e n =
+        node_then _ (read ∙ ap number_or first.is)
+        (node_then _ (e ∙ ap number_or second.is) (rw (record_number-tree b x, record_number-tree b y) n))
 
-    pub no_number :
-        is_outside q ≡ false → ((v : Rational) → q ≡ Ok v → ⊥) →
-        NodeIs node.Atom (product_node (tree b x) (tree b y) coeff)
-    no_number h k = node_is tt (sym (rw (p_is, not-number q h k)) ∙ read-node)
+-- ---- look
 
 module _ (t : Term) (coeff : Rational) where
   at_operator : (o : ℕ) → operator_of t ≡ suc o → node_of t coeff ≡ operation_node t (suc o) (arguments_of t) coeff
   unfolding node_of
   at_operator o = by_operator (λ k ts. operation_node t k ts coeff) (leaf_node t coeff) o (as_op t)
 
-  pub sum-node : operator_of t ≡ Add → Proper coeff → NodeIs (node.Args coeff coeff) (node_of t coeff)
+  pub sum-node : operator_of t ≡ Add → Proper coeff → NodeIs (Ok (node.Args coeff coeff)) (node_of t coeff)
   unfolding operation_node arm_of when◌then◌else◌
   sum-node e p = node_is (p, p) (sym (at_operator 8 e))
 
   module _ (e : operator_of t ≡ Sub) {minus : Rational} (m : Makes minus (neg_q coeff)) where
-    pub negation-node : size (arguments_of t) ≡ 1 → NodeIs (node.Args minus minus) (node_of t coeff)
+    pub negation-node : size (arguments_of t) ≡ 1 → NodeIs (Ok (node.Args minus minus)) (node_of t coeff)
     unfolding operation_node arm_of when◌then◌else◌
     negation-node n =
         node_is (m.proper, m.proper)
         (sym (at_operator 9 e ∙ rw (eq-eqb (size (arguments_of t)) 1 n, operation_node, m.is)))
 
     pub difference-node :
-        (size (arguments_of t) ≡ 1 → ⊥) → Proper coeff → NodeIs (node.Args coeff minus) (node_of t coeff)
+        (size (arguments_of t) ≡ 1 → ⊥) → Proper coeff → NodeIs (Ok (node.Args coeff minus)) (node_of t coeff)
     unfolding operation_node arm_of when◌then◌else◌
     difference-node n p =
         node_is (p, m.proper)
         (sym (at_operator 9 e ∙ rw (ne_eqb (size (arguments_of t)) 1 n, operation_node, m.is)))
 
-product-shape : (i : ℕ) (a c : Term) (coeff : Rational) → node_of (op i Mult (a ▹ c ▹ nil)) coeff ≡ product_node a c coeff
+product-shape :
+    (i : ℕ) (a c : Term) (coeff : Rational) → node_of (op i Mult (a ▹ c ▹ nil)) coeff ≡ product_node a c coeff
 unfolding node_of operation_node arm_of when◌then◌else◌ as_op
 product-shape i a c coeff = refl
 
@@ -170,7 +149,7 @@ leaf_of_lem (op i o ts) coeff f g h =
 
 module _ (b : Bytes) (i : ℕ) (coeff : Rational) {w : Option (ℕ × ℕ)} (c : Children b i w (binary Mult (tree b i))) where
   pub product-node :
-      {x y : ℕ} {r : Node} → w ≡ Some (x, y) → NodeIs r (product_node (tree b x) (tree b y) coeff) →
+      {x y : ℕ} {r : Result Node} → w ≡ Some (x, y) → NodeIs r (product_node (tree b x) (tree b y) coeff) →
       NodeIs r (node_of (tree b i) coeff)
   product-node {x} {y} e n =
       let there-are : binary Mult (tree b i) ≡ Some (tree b x, tree b y) = sym c.is ∙ ap (found_two b) e in
@@ -178,7 +157,7 @@ module _ (b : Bytes) (i : ℕ) (coeff : Rational) {w : Option (ℕ × ℕ)} (c :
       node_of_lem n (sym (ap (λ (t : Term). node_of t coeff) shape ∙ product-shape _ (tree b x) (tree b y) coeff))
 
   pub other-product-node :
-      {r : Node} → operator_of (tree b i) ≡ Mult → w ≡ None → NodeIs r (leaf_node (tree b i) coeff) →
+      {r : Result Node} → operator_of (tree b i) ≡ Mult → w ≡ None → NodeIs r (leaf_node (tree b i) coeff) →
       NodeIs r (node_of (tree b i) coeff)
   other-product-node o e n =
       node_of_lem n
@@ -186,19 +165,19 @@ module _ (b : Bytes) (i : ℕ) (coeff : Rational) {w : Option (ℕ × ℕ)} (c :
 
 -- a leaf is read as a fraction
 pub read-leaf :
-    (t : Term) (coeff : Rational) {x : Reading} {r : Node} → Finds x (as_fraction ranged t) →
+    (t : Term) (coeff : Rational) {x : Reading} {r : Result Node} → Finds x (as_fraction ranged t) →
     NodeIs r (read_node coeff x) → NodeIs r (leaf_node t coeff)
 unfolding leaf_node
 read-leaf t coeff f n = node_of_lem n (ap (read_node coeff) f.is)
 
 pub leaf-node :
-    (t : Term) (coeff : Rational) {r : Node} → (operator_of t ≡ Add → ⊥) → (operator_of t ≡ Sub → ⊥) →
+    (t : Term) (coeff : Rational) {r : Result Node} → (operator_of t ≡ Add → ⊥) → (operator_of t ≡ Sub → ⊥) →
     (operator_of t ≡ Mult → ⊥) → NodeIs r (leaf_node t coeff) → NodeIs r (node_of t coeff)
 leaf-node t coeff f g h n = node_of_lem n (sym (leaf_of_lem t coeff f g (λ e. absurd (h e))))
 
 -- what is no operation is read as it stands
 pub plain-node :
-    (t : Term) (coeff : Rational) {x : Reading} {r : Node} → operator_of t ≡ 0 → Finds x (as_number t) →
+    (t : Term) (coeff : Rational) {x : Reading} {r : Result Node} → operator_of t ≡ 0 → Finds x (as_number t) →
     NodeIs r (read_node coeff x) → NodeIs r (node_of t coeff)
 plain-node t coeff e f n =
     let same = f.is ∙ sym (plain-fraction ranged t e) in

@@ -1,9 +1,9 @@
 -- Where a term leads: from record to record, each a product of a number and the next. `Reaches` is the invariant of
 -- `descend`'s loop: whatever the sum is, the walk of the first record is the walk of the record that is reached.
 --     unvisited, visited       the walk of a term is refused, or a visit and then what its node says
+--     stopped, to_refusal, to_args, to_constant, to_atom       the place where it ends
 --     reaches_next       along the loop
---     stopped, to_args, to_constant, to_atom, to_refusal       the place where it ends
-use mathlib.Core.Path.{◌≡◌, refl, sym, ◌∙◌}
+use mathlib.Core.Path.{◌≡◌, sym, ◌∙◌}
 use Prim.Native.Nat.{ℕ, suc, ◌+◌, ◌≤◌, ◌<◌}
 use native.Mathlib.Numerals.{add-one}
 use native.Mathlib.Omega.{arith}
@@ -11,9 +11,10 @@ use borrow.Author.Tests.{le-leb, lt-leb}
 use Rattle.numbers.specs.Rational.{Rational, Proper}
 use Rattle.numbers.specs.Bytes.{Bytes}
 use Rattle.terms.specs.Book.{count, tree}
-use Rattle.rules.specs.Refusal.{◌>>=◌, assert}
-use Rattle.std.specs.Prelude.{Err}
-use Rattle.rules.specs.Refusal.Refusal.{visit_limit, number_range}
+use Rattle.rules.specs.Refusal.{Result, ◌>>=◌, assert}
+use Rattle.std.specs.Prelude.{Ok, Err}
+use Rattle.rules.specs.declared.refusal.Refusal.{Refusal}
+use Rattle.rules.specs.declared.refusal.Refusal.TheVariants.{VisitLimit}
 use Rattle.rules.specs.Limits.{limited}
 use Rattle.index_map.specs.IndexMap.{walked, visit}
 use Rattle.linear_walk.specs.LinearTerms.{add_term}
@@ -22,19 +23,18 @@ use Rattle.rules.specs.Memory.Parts.{Laid}
 use Rattle.linear_walk.specs.Memory.LinearNodes.{NodeIs, PlaceIs, node_of}
 use Rattle.linear_walk.specs.declared.nodes.Node.{Node}
 use Rattle.linear_walk.specs.declared.nodes.Node.TheVariants as node
-use Rattle.linear_walk.specs.declared.nodes.Place.TheVariants.{Args, Constant, Atom, Refused}
-use Rattle.rules.proofs.Results.{refuses}
+use Rattle.linear_walk.specs.declared.nodes.Place.TheVariants.{Args, Constant, Atom}
 use Rattle.linear_walk.proofs.NodeWalks.{act, walk-node, factor-below}
 
 -- ---- a visit
 
 module _ (b : Bytes) (limit x : ℕ) (c : Rational) (seen : ℕ) (s : LinearComb) where
-  unvisited : limit ≤ seen → add_term (tree b x) (limited limit) c (walked s seen) ≡ Err visit_limit
+  unvisited : limit ≤ seen → add_term (tree b x) (limited limit) c (walked s seen) ≡ Err VisitLimit
   unfolding visit assert ◌>>=◌
   unvisited h = let no = lt-leb (suc seen) limit (omega arith) in walk-node b x limit c _ ∙ rw no
 
   visited :
-      seen < limit → {r : Node} → r ≡ node_of (tree b x) c →
+      seen < limit → {r : Result Node} → r ≡ node_of (tree b x) c →
       add_term (tree b x) (limited limit) c (walked s seen)
       ≡ act b (limited limit) (tree b x) c r (walked s (seen + 1))
   unfolding visit assert ◌>>=◌
@@ -58,41 +58,40 @@ pub record Reaches
 module _
     {b : Bytes} {limit id : ℕ} {coeff : Rational} {visits x : ℕ} {c : Rational} {seen : ℕ}
     (at : Reaches b limit id coeff visits x c seen) where
-  pub stopped : limit ≤ seen → PlaceIs b limit id coeff visits (Refused 10)
-  stopped h = record { is = λ s. refuses visit_limit (at.same s ∙ unvisited b limit x c seen s h); proper = tt }
+  pub stopped : limit ≤ seen → PlaceIs b limit id coeff visits (Err VisitLimit)
+  stopped h = record { is = λ s. at.same s ∙ unvisited b limit x c seen s h; proper = tt }
 
-  -- r is the node of record x
-  module _ {r : Node} (look : NodeIs r (node_of (tree b x) c)) where
-    factor-lower : Laid b → {y : ℕ} {d : Rational} → r ≡ node.Factor y d → y < x
-    factor-lower laid {y} {d} e = factor-below b x c d y (laid x at.inside) (sym look.is ∙ e)
+  -- r is the node of record x, or its refusal
+  acts :
+      {r : Result Node} → NodeIs r (node_of (tree b x) c) → seen < limit → (s : LinearComb) →
+      add_term (tree b id) (limited limit) coeff (walked s visits)
+      ≡ act b (limited limit) (tree b x) c r (walked s (seen + 1))
+  acts look h s = at.same s ∙ visited b limit x c seen s h look.is
 
-    module _ (h : seen < limit) where
-      acts :
-          {n : Node} → r ≡ n → (s : LinearComb) →
-          add_term (tree b id) (limited limit) coeff (walked s visits)
-          ≡ act b (limited limit) (tree b x) c n (walked s (seen + 1))
-      acts e s = at.same s ∙ visited b limit x c seen s h (sym e ∙ look.is)
+  pub to_refusal :
+      {e : Refusal} → NodeIs (Err e) (node_of (tree b x) c) → seen < limit → PlaceIs b limit id coeff visits (Err e)
+  to_refusal look h = record { is = acts look h; proper = tt }
 
-      pub reaches_next :
-          Laid b → {y : ℕ} {d : Rational} → r ≡ node.Factor y d →
-          Reaches b limit id coeff visits y d (seen + 1)
-      reaches_next laid e =
-          record {
-            lower = omega (arith, factor-lower laid e, at.lower);
-            inside = omega (arith, factor-lower laid e, at.inside);
-            proper = rw e at look.proper;
-            same = acts e;
-          }
+  module _ {n : Node} (look : NodeIs (Ok n) (node_of (tree b x) c)) (h : seen < limit) where
+    pub reaches_next :
+        Laid b → {y : ℕ} {d : Rational} → n ≡ node.Factor y d → Reaches b limit id coeff visits y d (seen + 1)
+    reaches_next laid {y} {d} e =
+        let next = rw e at look in
+        let lower : y < x = factor-below b x c d y (laid x at.inside) (sym next.is) in
+        record {
+          lower = omega (arith, lower, at.lower);
+          inside = omega (arith, lower, at.inside);
+          proper = next.proper;
+          same = acts next h;
+        }
 
-      pub to_args :
-          {p q : Rational} → r ≡ node.Args p q → PlaceIs b limit id coeff visits (Args x p q (seen + 1))
-      to_args e = record { is = acts e; proper = (at.lower, rw e at look.proper) }
+    pub to_args :
+        {p q : Rational} → n ≡ node.Args p q → PlaceIs b limit id coeff visits (Ok (Args x p q, seen + 1))
+    to_args e = let l = rw e at look in record { is = acts l h; proper = (at.lower, l.proper) }
 
-      pub to_constant : {q : Rational} → r ≡ node.Constant q → PlaceIs b limit id coeff visits (Constant q (seen + 1))
-      to_constant e = record { is = acts e; proper = rw e at look.proper }
+    pub to_constant :
+        {q : Rational} → n ≡ node.Constant q → PlaceIs b limit id coeff visits (Ok (Constant q, seen + 1))
+    to_constant e = let l = rw e at look in record { is = acts l h; proper = l.proper }
 
-      pub to_atom : r ≡ node.Atom → PlaceIs b limit id coeff visits (Atom x c (seen + 1))
-      to_atom e = record { is = acts e; proper = (at.lower, at.proper) }
-
-      pub to_refusal : r ≡ node.OutOfRange → PlaceIs b limit id coeff visits (Refused 11)
-      to_refusal e = record { is = λ s. refuses number_range (acts e s); proper = tt }
+    pub to_atom : n ≡ node.Atom → PlaceIs b limit id coeff visits (Ok (Atom x c, seen + 1))
+    to_atom e = record { is = acts (rw e at look) h; proper = (at.lower, at.proper) }

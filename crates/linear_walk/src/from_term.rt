@@ -8,34 +8,39 @@ ghost use Rattle.linear_comb.specs.Memory.WorkArea.{Area, area_of, OnlyArea};
 ghost use Rattle.linear_walk.specs.Memory.Walks.{Walks};
 ghost use Rattle.rules.specs.Memory.Parts.{Laid};
 
-use crate::linear_walk::{Walk, add_term};
-use linear_comb::linear_comb::LinearComb;
+use crate::linear_walk::add_term;
+use index_map::combination::Walked;
 use linear_comb::notes::NOTE_WORDS;
 use numbers::number::Number;
+use rules::counter::Counter;
+use rules::refusal::Refusal;
 use terms::areas::{STEP_AT, SUM_BYTES};
 
 // The combination that a term is, in area j, which is empty before; `visits` were made before.
-pub fn from_term(book: &[u8], work: &mut [u8], j: usize, id: usize, visits: u32, limit: u32) -> Walk
+pub fn from_term(
+    book: &[u8],
+    work: &mut [u8],
+    j: usize,
+    id: usize,
+    counter: Counter,
+) -> Result<Walked, Refusal>
     requires { Area j work.old × (Laid book.now ×
         ((id < count book.now) × Held book.now (area_of j work.old) [])) }
     ensures only_area { OnlyArea j work.old work.new }
     ensures walks { Walks book.now (area_of j work.new) result
-        (from_term (limited limit) (tree book.now id) visits) }
+        (from_term (limited counter.limit) (tree book.now id) counter.visits) }
 {
     let start = STEP_AT + SUM_BYTES * j;
-    let none = LinearComb {
-        len: 0,
-        constant: Number::whole(0),
-    };
+    let w = Walked::new(counter.visits);
     let mut noted = [0u64; NOTE_WORDS];
+    let one = Number::whole(1);
     add_term(
         book,
         &mut work[start..start + SUM_BYTES],
         id,
-        Number::whole(1),
-        none,
-        visits,
-        limit,
+        one,
+        w,
+        counter.limit,
         &mut noted,
     )
 }

@@ -5,94 +5,63 @@ ghost use Rattle.numbers.specs.Bytes.{Bytes};
 ghost use Rattle.terms.specs.Book.{count, tree, numbers, arguments, forest};
 ghost use Rattle.terms.specs.Readers.{arguments_of};
 ghost use Rattle.rules.specs.Limits.{limited};
-ghost use Rattle.index_map.specs.IndexMap.{walked, add_constant, add_entry};
+ghost use Rattle.index_map.specs.IndexMap.{add_constant, add_entry};
 ghost use Rattle.linear_walk.specs.LinearTerms.{add_term};
 ghost use Rattle.index_map.specs.Memory.Entries.{terms};
-ghost use Rattle.linear_walk.specs.Memory.Walks.{walk_refusal, Walks};
-ghost use Rattle.linear_comb.specs.Memory.WorkArea.{comb_of, KeptSum, SumScales, SumEnters};
+ghost use Rattle.linear_walk.specs.Memory.Walks.{Walks};
+ghost use Rattle.linear_comb.specs.Memory.WorkArea.{KeptSum, SumScales, SumEnters};
+ghost use Rattle.linear_walk.specs.Memory.Walks.{walk_of};
 ghost use Rattle.linear_comb.specs.Memory.Notes.{with_note};
 ghost use Rattle.linear_walk.specs.Memory.LinearNodes.{WalkPre, OperationPre, ArgsPre, Fills, FlatWalks, add_each};
 
 use crate::nodes::{Place, descend};
-use index_map::index_map::{Inserted, clear, insert};
-use linear_comb::linear_comb::LinearComb;
+use index_map::combination::{Combination, Walked};
+use index_map::index_map::{clear, insert};
 use linear_comb::notes::{NOTE_WORDS, enter, note};
 use numbers::number::Number;
+use rules::refusal::Refusal;
 use terms::records::argument;
-use terms::refusal::NUMBER_RANGE;
 use terms::term::args;
-
-// What a walk has filled and the visits made so far.
-#[derive(Clone, Copy)]
-pub enum Walk {
-    Done(LinearComb, u32),
-    // Document 01's number of the refusal.
-    Refused(u8),
-}
-
-// The number of a walk's refusal; 0 where it is done.
-pub fn walk_refusal(w: Walk) -> u8
-    ensures { result ≡ walk_refusal w }
-{
-    match w {
-        Walk::Done(_, _) => 0,
-        Walk::Refused(code) => code,
-    }
-}
 
 // ---- add_term
 
-fn add_constant(entries: &mut [u8], s: LinearComb, visits: u32, q: Number) -> Walk
-    requires { SumScales s q }
-    ensures { (b : Bytes) → KeptSum b entries.old s → (l : ℕ) →
-        Walks b entries.new result
-        (add_constant (limited l) q (walked (comb_of b entries.old s) visits)) }
+fn add_constant(entries: &mut [u8], w: Walked, q: Number) -> Result<Walked, Refusal>
+    requires { SumScales w.sum q }
+    ensures { (b : Bytes) → KeptSum b entries.old w.sum → (l : ℕ) →
+        Walks b entries.new result (add_constant (limited l) q (walk_of b entries.old w)) }
 {
-    let Some(constant) = s.constant.add(q) else {
-        clear(entries, s.len);
-        return Walk::Refused(NUMBER_RANGE);
-    };
-    Walk::Done(
-        LinearComb {
-            len: s.len,
-            constant,
-        },
-        visits,
-    )
+    let longer = w.plus(q);
+    if longer.is_err() {
+        clear(entries, w.sum.len);
+    }
+    longer
 }
 
 // Adds `value` times the atom of record x, sought among all entries, and notes it: for the first term of a walk.
 fn add_entry(
     entries: &mut [u8],
-    s: LinearComb,
-    visits: u32,
+    w: Walked,
     x: usize,
     value: Number,
     noted: &mut [u64; NOTE_WORDS],
-) -> Walk
-    requires { SumEnters s x value }
+) -> Result<Walked, Refusal>
+    requires { SumEnters w.sum x value }
     ensures noted_after { noted.new ≡ with_note noted.old x }
-    ensures walks { (b : Bytes) → KeptSum b entries.old s → x < count b → (l : ℕ) →
+    ensures walks { (b : Bytes) → KeptSum b entries.old w.sum → x < count b → (l : ℕ) →
         Walks b entries.new result
-        (add_entry terms (limited l) (tree b x) value (walked (comb_of b entries.old s) visits)) }
+        (add_entry terms (limited l) (tree b x) value (walk_of b entries.old w)) }
 {
     note(noted, x);
-    let Inserted::Length(len) = insert(entries, s.len, x, value) else {
-        return Walk::Refused(NUMBER_RANGE);
-    };
-    let sum = LinearComb {
-        len,
-        constant: s.constant,
-    };
-    Walk::Done(sum, visits)
+    let len = insert(entries, w.sum.len, x, value)?;
+    let sum = Combination { len, ..w.sum };
+    Ok(Walked { sum, ..w })
 }
 
-// What the walk of a term leaves that has no arguments to walk, as in `Walk`.
+// What the walk of a term leaves that may have arguments to walk.
 #[derive(Clone, Copy)]
 pub(crate) enum Flat {
-    Done(LinearComb, u32),
-    Refused(u8),
-    // There are arguments to walk, as in `Place`, and nothing is changed.
+    Done(Walked),
+    // There are arguments to walk, as in `Place`, and nothing is changed but the visits.
     Deeper(usize, Number, Number, u32),
 }
 
@@ -102,37 +71,30 @@ fn add_flat(
     entries: &mut [u8],
     id: usize,
     coeff: Number,
-    s: LinearComb,
-    visits: u32,
+    w: Walked,
     limit: u32,
     noted: &mut [u64; NOTE_WORDS],
-) -> Flat
-    requires { WalkPre book.now entries.old id coeff s noted.old }
-    ensures { FlatWalks book.now limit id coeff visits entries.old entries.new
+) -> Result<Flat, Refusal>
+    requires { WalkPre book.now entries.old id coeff w.sum noted.old }
+    ensures { FlatWalks book.now limit id coeff w.visits entries.old entries.new
         noted.old noted.new result
-        (add_term (tree book.now id) (limited limit) coeff
-        (walked (comb_of book.now entries.old s) visits)) }
+        (add_term (tree book.now id) (limited limit) coeff (walk_of book.now entries.old w)) }
 {
-    let n = s.len;
-    let c = s.constant;
-    match descend(book, id, coeff, visits, limit) {
-        Place::Args(x, first, others, seen) => Flat::Deeper(x, first, others, seen),
-        Place::Constant(q, seen) => {
-            let Some(constant) = c.add(q) else {
-                clear(entries, n);
-                return Flat::Refused(NUMBER_RANGE);
-            };
-            Flat::Done(LinearComb { len: n, constant }, seen)
+    let n = w.sum.len;
+    match descend(book, id, coeff, w.visits, limit) {
+        Ok((Place::Args(x, first, others), visits)) => Ok(Flat::Deeper(x, first, others, visits)),
+        Ok((Place::Constant(q), visits)) => {
+            let longer = add_constant(entries, Walked { visits, ..w }, q)?;
+            Ok(Flat::Done(longer))
         }
-        Place::Atom(x, value, seen) => {
-            let Inserted::Length(len) = enter(entries, n, x, value, noted) else {
-                return Flat::Refused(NUMBER_RANGE);
-            };
-            Flat::Done(LinearComb { len, constant: c }, seen)
+        Ok((Place::Atom(x, value), visits)) => {
+            let len = enter(entries, n, x, value, noted)?;
+            let sum = Combination { len, ..w.sum };
+            Ok(Flat::Done(Walked { sum, visits }))
         }
-        Place::Refused(code) => {
+        Err(r) => {
             clear(entries, n);
-            Flat::Refused(code)
+            Err(r)
         }
     }
 }
@@ -143,26 +105,26 @@ pub fn add_term(
     entries: &mut [u8],
     id: usize,
     coeff: Number,
-    s: LinearComb,
-    visits: u32,
+    w: Walked,
     limit: u32,
     noted: &mut [u64; NOTE_WORDS],
-) -> Walk
-    requires { WalkPre book.now entries.old id coeff s noted.old }
+) -> Result<Walked, Refusal>
+    requires { WalkPre book.now entries.old id coeff w.sum noted.old }
     ensures { Fills book.now entries.new noted.new result
-        (add_term (tree book.now id) (limited limit) coeff
-        (walked (comb_of book.now entries.old s) visits)) }
+        (add_term (tree book.now id) (limited limit) coeff (walk_of book.now entries.old w)) }
 {
-    match descend(book, id, coeff, visits, limit) {
-        Place::Args(x, first, others, seen) => {
+    let sum = w.sum;
+    match descend(book, id, coeff, w.visits, limit) {
+        Ok((Place::Args(x, first, others), visits)) => {
             let part = args(book, x);
-            add_args(book, entries, part, x, first, others, s, seen, limit, noted)
+            let begun = Walked { sum, visits };
+            add_args(book, entries, part, x, first, others, begun, limit, noted)
         }
-        Place::Constant(q, seen) => add_constant(entries, s, seen, q),
-        Place::Atom(x, c, seen) => add_entry(entries, s, seen, x, c, noted),
-        Place::Refused(c) => {
-            clear(entries, s.len);
-            Walk::Refused(c)
+        Ok((Place::Constant(q), visits)) => add_constant(entries, Walked { sum, visits }, q),
+        Ok((Place::Atom(x, c), visits)) => add_entry(entries, Walked { sum, visits }, x, c, noted),
+        Err(r) => {
+            clear(entries, sum.len);
+            Err(r)
         }
     }
 }
@@ -176,20 +138,17 @@ fn add_operation(
     id: usize,
     first: Number,
     others: Number,
-    s: LinearComb,
-    visits: u32,
+    w: Walked,
     limit: u32,
     noted: &mut [u64; NOTE_WORDS],
-) -> Walk
-    requires { OperationPre book.now entries.old id first others s noted.old }
+) -> Result<Walked, Refusal>
+    requires { OperationPre book.now entries.old id first others w.sum noted.old }
     ensures { Fills book.now entries.new noted.new result
         (add_each (arguments_of (tree book.now id)) (limited limit) first others
-        (walked (comb_of book.now entries.old s) visits)) }
+        (walk_of book.now entries.old w)) }
 {
     let part = args(book, id);
-    add_args(
-        book, entries, part, id, first, others, s, visits, limit, noted,
-    )
+    add_args(book, entries, part, id, first, others, w, limit, noted)
 }
 
 // The arguments of record `id`, from the part of the record that holds them. Most have none of their own.
@@ -201,40 +160,27 @@ fn add_args(
     id: usize,
     first: Number,
     others: Number,
-    s: LinearComb,
-    visits: u32,
+    w: Walked,
     limit: u32,
     noted: &mut [u64; NOTE_WORDS],
-) -> Walk
-    requires { ArgsPre book.now entries.old part.now id first others s noted.old }
+) -> Result<Walked, Refusal>
+    requires { ArgsPre book.now entries.old part.now id first others w.sum noted.old }
     ensures { Fills book.now entries.new noted.new result
         (add_each (forest (tree book.now) (arguments id (numbers part.now))) (limited limit)
-        first others (walked (comb_of book.now entries.old s) visits)) }
+        first others (walk_of book.now entries.old w)) }
 {
-    let n = part.len() / 2;
-    let mut sum = s;
-    let mut seen = visits;
+    let mut done = w;
     let mut coeff = first;
-    for k in 0..n {
+    for k in 0..part.len() / 2 {
         let x = argument(part, k, id);
-        match add_flat(book, entries, x, coeff, sum, seen, limit, noted) {
-            Flat::Done(t, v) => {
-                sum = t;
-                seen = v;
+        done = match add_flat(book, entries, x, coeff, done, limit, noted)? {
+            Flat::Done(walked) => walked,
+            Flat::Deeper(y, p, q, visits) => {
+                let begun = Walked { visits, ..done };
+                add_operation(book, entries, y, p, q, begun, limit, noted)?
             }
-            Flat::Refused(c) => {
-                return Walk::Refused(c);
-            }
-            Flat::Deeper(y, p, q, w) => {
-                let deeper = add_operation(book, entries, y, p, q, sum, w, limit, noted);
-                let Walk::Done(t, v) = deeper else {
-                    return deeper;
-                };
-                sum = t;
-                seen = v;
-            }
-        }
+        };
         coeff = others;
     }
-    Walk::Done(sum, seen)
+    Ok(done)
 }

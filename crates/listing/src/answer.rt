@@ -2,13 +2,14 @@
 ghost use Rattle.std.specs.Prelude.{◌≤◌};
 
 use crate::format::{assumes, opens};
+use runs::verdict::{Verdict, verdict_number};
 use std::io;
 use terms::format::RUN_RECORD_BYTES;
 
-// Document 01's number of the refusal, or 0; how many steps were accepted; their visits.
+// The verdict, how many steps were accepted, and their visits.
 #[derive(Clone, Copy)]
 pub struct Answer {
-    pub verdict: u8,
+    pub verdict: Verdict,
     pub steps: usize,
     pub visits: u32,
 }
@@ -26,7 +27,7 @@ fn assumed(run: &[u8], steps: usize) -> usize
 
 // The verdict, the accepted steps, the visits, and how many of the accepted steps are assumed.
 pub fn print_numbers(rt: &impl Print, run: &[u8], a: Answer) -> io::Result<()> {
-    println!(rt; "verdict {}", a.verdict)?;
+    println!(rt; "verdict {}", verdict_number(a.verdict))?;
     println!(rt; "accepted steps {}", a.steps)?;
     println!(rt; "visits {}", a.visits)?;
     println!(rt; "assumed steps {}", assumed(run, a.steps))

@@ -6,7 +6,8 @@ ghost use Rattle.listing.specs.Faults.{steps_of, Before};
 
 use crate::format::{MARK, Terms};
 use numbers::bytes::{byte, read_u16};
-use runs::rule::{ASSUME, POLY_SIMP_REL};
+use runs::rule::{Rule, rule_of};
+use runs::run::rule_in;
 use std::fmt;
 use terms::format::{
     ARGUMENT, BOOL_SORT, BYTE_AT, CLAUSE, NUMBER_AT, PREMISE, RUN_RECORD_BYTES, STEP,
@@ -94,7 +95,7 @@ fn check_head(r: &[u8]) -> Result<(), Fault> {
     if read_u16(r, NUMBER_AT) != 0 {
         return Err(Fault::UnusedField);
     }
-    if POLY_SIMP_REL < byte(r, BYTE_AT) {
+    if rule_of(byte(r, BYTE_AT)).is_none() {
         return Err(Fault::UnknownRule);
     }
     Ok(())
@@ -139,7 +140,7 @@ struct Step {
     steps: usize,
     // The number of its S, and its rule.
     head: usize,
-    rule: u8,
+    rule: Rule,
     // The place of its last record so far.
     last: Place,
 }
@@ -156,7 +157,7 @@ impl Step {
     {
         let one_c = self.last == Place::Literals
             && end.checked_sub(self.head) == Some(ASSUME_RECORDS);
-        if self.rule == ASSUME && !one_c {
+        if self.rule == Rule::Assume && !one_c {
             return Err(Fault::AssumeShape.at(self.head));
         }
         Ok(())
@@ -185,7 +186,7 @@ fn read_on(terms: Terms, before: Option<Step>, i: usize, r: &[u8]) -> Result<Ste
     Ok(Step {
         steps: steps + 1,
         head: i,
-        rule: byte(r, BYTE_AT),
+        rule: rule_in(r),
         last: Place::Head,
     })
 }

@@ -1,12 +1,11 @@
 // What is lent and what is read of it, the records of a run, and what the program names of the formats beside
 // `terms::format`.
-ghost use Rattle.std.specs.Prelude.{◌≡◌, ◌≤◌, ◌↔◌, IsTrue, get_or};
+ghost use Rattle.std.specs.Prelude.{◌≡◌, get_or};
 ghost use Rattle.listing.specs.RunRecords.{opens_of, assumes_of};
 
 use numbers::bytes::byte;
-use runs::rule::ASSUME;
+use runs::rule::{Rule, rule_number};
 use terms::format::{BYTE_AT, STEP};
-use terms::refusal::{NO_ROOM, WORK_AREA_OR_LIMIT};
 
 // ---- sizes
 
@@ -56,14 +55,5 @@ pub fn opens(r: &[u8]) -> bool
 pub fn assumes(r: &[u8]) -> bool
     ensures { result ≡ assumes_of r.now }
 {
-    opens(r) && byte(r, BYTE_AT) == ASSUME
-}
-
-// ---- verdicts
-
-// Whether a verdict refuses what is lent, and no step.
-pub fn is_lent(verdict: u8) -> bool
-    ensures { IsTrue result ↔ ((1 ≤ verdict) × (verdict ≤ 8)) }
-{
-    matches!(verdict, WORK_AREA_OR_LIMIT..=NO_ROOM)
+    opens(r) && byte(r, BYTE_AT) == rule_number(Rule::Assume)
 }

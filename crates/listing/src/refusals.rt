@@ -7,15 +7,14 @@ use crate::format::{Lent, RUN_RECORDS, Terms};
 use crate::words::{print_reason, print_rule};
 use numbers::bytes::byte;
 use programs::printing::{print, print_bytes};
+use rules::refusal::{Refusal, refusal_number};
 use runs::prepare::prepare;
 use runs::run::step_at;
+use runs::verdict::{LentRefusal, Verdict, lent_number};
 use std::io;
 use terms::areas::INDEX_END;
 use terms::format::{BYTE_AT, MAX_RECORDS, RECORD_BYTES, RUN_RECORD_BYTES};
 use terms::reading::{BookRefusal, book_number};
-use terms::refusal::{
-    BOOK_SIZE, NO_ROOM, RECORD_REPEATED, RUN_RECORD, RUN_SIZE, WORK_AREA_OR_LIMIT,
-};
 
 // ---- a record
 
@@ -28,7 +27,7 @@ struct Records<'a> {
     size: usize,
     most: usize,
     // The refusal of another length.
-    refusal: u8,
+    refusal: LentRefusal,
     ghost some: { 0 < size },
 }
 
@@ -39,7 +38,7 @@ impl Records<'_> {
             of: "book",
             size: RECORD_BYTES,
             most: MAX_RECORDS,
-            refusal: BOOK_SIZE,
+            refusal: LentRefusal::OfBook(BookRefusal::BookSize),
         }
     }
 
@@ -49,7 +48,7 @@ impl Records<'_> {
             of: "run",
             size: RUN_RECORD_BYTES,
             most: RUN_RECORDS,
-            refusal: RUN_SIZE,
+            refusal: LentRefusal::RunSize,
         }
     }
 
@@ -72,7 +71,9 @@ impl Records<'_> {
             self.print_number(rt, self.most)?;
             println!(rt;
                 "{}: the {} has more than {} records",
-                self.refusal, self.of, self.most
+                lent_number(self.refusal),
+                self.of,
+                self.most
             )?;
             return self.print_bytes(rt, self.most);
         }
@@ -80,7 +81,9 @@ impl Records<'_> {
         self.print_number(rt, id)?;
         println!(rt;
             "{}: the {} is not whole records of {} bytes",
-            self.refusal, self.of, self.size
+            lent_number(self.refusal),
+            self.of,
+            self.size
         )?;
         self.print_bytes(rt, id)
     }
@@ -128,27 +131,39 @@ fn print_refused_run(rt: &impl Print, lent: Lent) -> io::Result<()> {
     let id = found.map_or(0, |found| found.at);
     let records = Records::of_run(lent.run);
     records.print_number(rt, id)?;
+    print!(rt; "{}: ", lent_number(LentRefusal::RunRecord))?;
     match found {
-        Some(found) => println!(rt; "{RUN_RECORD}: {}", found.fault)?,
-        None => println!(rt; "{RUN_RECORD}: a record of the run is at fault")?,
+        Some(found) => println!(rt; "{}", found.fault)?,
+        None => print(rt, b"a record of the run is at fault\n")?,
     }
     records.print_bytes(rt, id)
 }
 
-// Refusals 10 to 42, of the step behind the accepted ones.
-fn print_step_refusal(rt: &impl Print, run: &[u8], a: Answer) -> io::Result<()> {
-    print!(rt; "step {}, ", a.steps)?;
-    print_rule(rt, byte(step_at(run, a.steps), BYTE_AT))?;
-    print(rt, b": ")?;
-    print_reason(rt, a.verdict)
+// ---- a verdict
+
+// Refusals 1 to 8.
+fn print_lent_refusal(rt: &impl Print, lent: Lent, r: LentRefusal) -> io::Result<()> {
+    match r {
+        LentRefusal::OfBook(_) => print_refused_book(rt, lent.book),
+        LentRefusal::RunSize => Records::of_run(lent.run).print_length(rt),
+        LentRefusal::RunRecord => print_refused_run(rt, lent),
+        LentRefusal::WorkAreaOrLimit | LentRefusal::NoRoom => print_reason(rt, lent_number(r)),
+    }
 }
 
+// Refusals 10 to 42, of the step behind the accepted ones.
+fn print_step_refusal(rt: &impl Print, run: &[u8], steps: usize, r: Refusal) -> io::Result<()> {
+    print!(rt; "step {steps}, ")?;
+    print_rule(rt, byte(step_at(run, steps), BYTE_AT))?;
+    print(rt, b": ")?;
+    print_reason(rt, refusal_number(r))
+}
+
+// What a verdict refuses, if it does.
 pub fn print_refusal(rt: &impl Print, lent: Lent, a: Answer) -> io::Result<()> {
     match a.verdict {
-        BOOK_SIZE..=RECORD_REPEATED => print_refused_book(rt, lent.book),
-        RUN_SIZE => Records::of_run(lent.run).print_length(rt),
-        RUN_RECORD => print_refused_run(rt, lent),
-        WORK_AREA_OR_LIMIT | NO_ROOM => print_reason(rt, a.verdict),
-        _ => print_step_refusal(rt, lent.run, a),
+        Verdict::AllAccepted => Ok(()),
+        Verdict::Lent(r) => print_lent_refusal(rt, lent, r),
+        Verdict::Stopped(r) => print_step_refusal(rt, lent.run, a.steps, r),
     }
 }

@@ -4,14 +4,14 @@ use listing::format::Lent;
 use listing::refusals::print_refusal;
 use marking::check::check;
 use programs::printing::print;
+use runs::verdict::Verdict;
 use std::io;
-use steps::check_step::ACCEPTED;
 use terms::areas::WORK_BYTES;
 
 // The numbers of the answer, and what a refusal or an empty run asks for.
 pub(crate) fn print_answer(rt: &impl Print, lent: Lent, a: Answer) -> io::Result<()> {
     print_numbers(rt, lent.run, a)?;
-    if a.verdict != ACCEPTED {
+    if a.verdict != Verdict::AllAccepted {
         print_refusal(rt, lent, a)?;
     } else if a.steps == 0 {
         print(rt, b"no steps: the run is empty, and nothing was marked\n")?;

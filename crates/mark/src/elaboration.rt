@@ -5,11 +5,12 @@ use crate::options::{OUT_RUN, OUT_TAIL};
 use again::again::elaborate_and_mark;
 use elaborate::elaborate::written;
 use listing::answer::Answer;
-use listing::format::{Lent, RUN_RECORDS, is_lent};
+use listing::format::{Lent, RUN_RECORDS};
 use programs::areas::area;
 use programs::arguments::{MAX_WORD, path_of, print_word};
 use programs::files::{remove, write_new};
 use programs::printing::{Complained, Complaints, complain, print};
+use runs::verdict::Verdict;
 use std::io;
 use std::rt::{Env, Files};
 use terms::areas::WORK_BYTES;
@@ -77,7 +78,7 @@ what that says of the clauses: 'What verdict 0 means' in the README
 
 // Answers once the files are there, unless refusals 1 to 8 arise: then there are none.
 fn answer(rt: &impl Host, lent: Lent, a: Answer, e: Elaboration) -> io::Result<()> {
-    if is_lent(a.verdict) {
+    if let Verdict::Lent(_) = a.verdict {
         print_answer(rt, lent, a)?;
         return print(rt, b"nothing is written\n");
     }

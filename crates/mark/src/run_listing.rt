@@ -3,17 +3,18 @@ use listing::answer::Answer;
 use listing::format::{Lent, Terms};
 use listing::refusals::print_refusal;
 use listing::steps::print_steps;
-use marking::check::{MAX_LIMIT, Opened, open};
+use marking::check::{MAX_LIMIT, open};
 use programs::printing::print;
+use runs::verdict::Verdict;
 use std::io;
 use terms::areas::WORK_BYTES;
 
 // Lists the steps of a run, or says why the book or the run is refused.
 pub(crate) fn list_run(rt: &impl Print, lent: Lent) -> io::Result<()> {
     let mut work = [0u8; WORK_BYTES];
-    if let Opened::Refused(verdict) = open(lent.book, lent.run, MAX_LIMIT, &mut work) {
+    if let Err(r) = open(lent.book, lent.run, MAX_LIMIT, &mut work) {
         let a = Answer {
-            verdict,
+            verdict: Verdict::Lent(r),
             steps: 0,
             visits: 0,
         };

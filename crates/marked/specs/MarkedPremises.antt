@@ -2,7 +2,7 @@
 -- Which of demand 3's premises each accepted step of K1 to K12 meets, one accepted step of each rule, and others that
 -- tell a stronger or a weaker premise from the right one: even divs, whole numbers, no surplus arguments. Worked out by
 -- hand.
-use Rattle.std.specs.Prelude.{◌≡◌, refl, true, false, List, [], ◌∷◌, pos, negsuc}
+use Rattle.std.specs.Prelude.{◌≡◌, refl, true, false, List, [], ◌∷◌, pos}
 use Rattle.terms.specs.Operator.{Not, And, Or, Equals, LessThan, LessEq, GreaterThan, GreaterEq}
 use Rattle.terms.specs.Operator.{Add, Sub, Mult, IntDiv, RealDiv, BvAdd, BvMul}
 use Rattle.terms.specs.BookExamples.{integer_record, real_record, vector_record, atom_record, operation_record}

@@ -1,5 +1,6 @@
 -- Demand 3's premises cannot be left out: the accepted steps K10 and K11 each break one of them, and their clauses
 -- are not true. K10's is false at x = 1, K11's in SMT-LIB's Ints. MarkedPremises has which premises they break.
+use Rattle.runs.specs.declared.verdict.Verdict.TheVariants.{AllAccepted}
 use Rattle.std.specs.Prelude.{◌≡◌, refl, Bool, true, false, ◌&&◌, List, [], ◌∷◌, ℤ, pos, nat_abs, ◌+ℤ◌, ◌*ℤ◌}
 use Rattle.std.specs.Int.Signed.{le_z, lt_z}
 use Rattle.numbers.specs.Pair.{whole_p, eq_z}
@@ -10,9 +11,7 @@ use Rattle.terms.specs.Term.Term.{integer, op}
 use Rattle.terms.specs.Term.Terms.{nil, ◌▹◌}
 use Rattle.terms.specs.Smtlib.{Assignment, value, meaning, chain, holds}
 use Rattle.terms.specs.BookExamples.{joined, integer_record, real_record, atom_record, operation_record}
-use Rattle.numbers.specs.Rational as Rational
 use Rattle.rules.specs.Limits.{limited}
-use Rattle.runs.specs.Verdict.{Verdict}
 use Rattle.runs.specs.Run.{steps_of}
 use Rattle.marking.specs.Check.{mark}
 use Rattle.marked.specs.Cases.{step_records, marks}
@@ -43,7 +42,7 @@ abbrev all_hold : List (List Term) → List Bool
 all_hold [] = []
 all_hold (c ∷ cs) = holds ρ c ∷ all_hold cs
 
-ten-accepted : (mark (limited 1000) ten_book ten_run).verdict ≡ Verdict.accepted
+ten-accepted : (mark (limited 1000) ten_book ten_run).verdict ≡ AllAccepted
 unfolding marks ten_book ten_run
 ten-accepted = refl
 
@@ -67,7 +66,7 @@ eleven_book =
 eleven_run : Bytes
 eleven_run = step_records 4 [] (5 ∷ []) []
 
-eleven-accepted : (mark (limited 1000) eleven_book eleven_run).verdict ≡ Verdict.accepted
+eleven-accepted : (mark (limited 1000) eleven_book eleven_run).verdict ≡ AllAccepted
 unfolding marks eleven_book eleven_run
 eleven-accepted = refl
 

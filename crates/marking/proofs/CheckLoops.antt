@@ -4,8 +4,10 @@
 --     turn-same, turn-over, turn-answered       the next state
 --     turn-stays, turn-done, turn-refused, turn-accepted       that state by value
 --     OnTheWay, way-begins, way-goes, way-less, way-marking, way-ends       a loop of turns
+use Rattle.runs.specs.declared.verdict.Verdict.{Verdict}
+use Rattle.runs.specs.declared.verdict.Verdict.TheVariants.{Stopped, AllAccepted}
 use mathlib.Core.Path.{◌≡◌, refl, sym, ap, ◌∙◌, subst}
-use mathlib.Core.Bool.{Bool, true, false}
+use mathlib.Core.Bool.{true, false}
 use mathlib.Core.List.{List, [], ◌∷◌, ◌++◌}
 use Rattle.std.specs.Prelude.{Option, Some, None}
 use Prim.Native.Nat.{ℕ, zero, suc, ◌+◌, ◌-◌, ◌≤◌, ◌<◌}
@@ -15,11 +17,10 @@ use lib.ListN.{length, drop, length-append, length-drop}
 use Rattle.numbers.specs.Bytes.{Bytes}
 use Rattle.numbers.proofs.Truths.{never}
 use Rattle.rules.specs.Refusal.{Result}
-use Rattle.std.specs.Prelude.{Ok}
+use Rattle.std.specs.Prelude.{Ok, Err, is_some}
 use Rattle.rules.specs.Limits.{limited}
-use Rattle.rules.specs.Memory.Parts.{Refuses}
+use Rattle.rules.specs.declared.refusal.Refusal.{Refusal}
 use Rattle.rules.proofs.RunParts.{drop_to_end}
-use Rattle.runs.specs.Verdict.{Verdict, verdict_number}
 use Rattle.runs.specs.Run.{Step, read_run, steps_of}
 use Rattle.steps.specs.CheckStep.{Accepted, counter, check_step}
 use Rattle.marking.specs.Check.{State, state, ended, answered, onward, turn, turns, marking_of, check_steps}
@@ -56,12 +57,13 @@ place-few run (suc n) h =
     let passed = passed-next (record { begins = begins; few = place-few run n before }) before refl in
     omega (arith, passed.few, place)
 
-ended_by : (v : Option Verdict) → elim v [ Some w ↦ true | None ↦ false ] ≡ true → (w : Verdict) × (v ≡ Some w)
-ended_by (Some v) e = (v, refl)
+-- what a test of the verdict says
+pub ended_by : {X : Type 0} (o : Option X) → is_some o ≡ true → (x : X) × (o ≡ Some x)
+ended_by (Some x) e = (x, refl)
 ended_by None e = never e
 
-under_by : (v : Option Verdict) → elim v [ Some w ↦ true | None ↦ false ] ≡ false → v ≡ None
-under_by (Some v) e = never (sym e)
+under_by : {X : Type 0} (o : Option X) → is_some o ≡ false → o ≡ None
+under_by (Some x) e = never (sym e)
 under_by None e = refl
 
 -- s is the state σ of a run that was read
@@ -79,23 +81,25 @@ abbrev pub answer_to : Bytes → Bytes → by_value.State → Result Accepted
 answer_to b run s =
     check_step (limited s.counter.limit) (steps_of b run) (step_in b (part_from run s.at)) s.counter.visits
 
--- the marking is ended by a verdict with number c; or m bytes are passed with v visits
-abbrev pub ended_as : by_value.State → ℕ → by_value.State
-ended_as s c = record { at = s.at; steps = s.steps; counter = s.counter; ended = true; verdict = c }
+-- the marking is ended by a verdict; or it is at another byte, with k steps and v visits
+abbrev pub ended_as : by_value.State → Verdict → by_value.State
+ended_as s v = record s { verdict = Some v }
 
 abbrev pub placed : ℕ → ℕ → ℕ → ℕ → by_value.State
 placed at k v limit =
-    record { at = at; steps = k; counter = record { visits = v; limit = limit }; ended = false; verdict = 0 }
+    record { at = at; steps = k; counter = record { visits = v; limit = limit }; verdict = None }
 
 module _ {b run : Bytes} {s : by_value.State} {σ : State} (shows : Shows b run s σ) where
   begins : Begins run s.at (length σ.steps)
   begins = rw (ap (λ x. x.at) shows.is) (place-begins run (length σ.steps))
 
-  pub turn-same : s.ended ≡ true → turn (steps_of b run) σ ≡ σ
-  turn-same e =
-      turn-ended (steps_of b run) σ (ended_by σ.verdict (sym (ap (λ x. x.ended) shows.is) ∙ e)).1
+  pub verdict-same : s.verdict ≡ σ.verdict
+  verdict-same = ap (λ x. x.verdict) shows.is
 
-  pub turn-stays : s.ended ≡ true → s ≡ next_of b run s σ
+  pub turn-same : is_some s.verdict ≡ true → turn (steps_of b run) σ ≡ σ
+  turn-same e = turn-ended (steps_of b run) σ (sym verdict-same ∙ (ended_by s.verdict e).1)
+
+  pub turn-stays : is_some s.verdict ≡ true → s ≡ next_of b run s σ
   turn-stays e = shows.is ∙ ap (state_of run s.counter.limit) (sym (turn-same e))
 
   module _ (h : s.at < length run) where
@@ -112,9 +116,9 @@ module _ {b run : Bytes} {s : by_value.State} {σ : State} (shows : Shows b run 
   pub turn-within : {m : ℕ} → m ≡ bytes_in (part_from run s.at) → s.at + m ≤ length run
   turn-within size = (begins-next begins size).within
 
-  module _ (e : s.ended ≡ false) where
+  module _ (e : is_some s.verdict ≡ false) where
     pub under : σ.verdict ≡ None
-    under = under_by σ.verdict (sym (ap (λ x. x.ended) shows.is) ∙ e)
+    under = sym verdict-same ∙ under_by s.verdict e
 
     onwards :
         (left : List Step) → drop (length σ.steps) (steps_of b run) ≡ left →
@@ -123,17 +127,14 @@ module _ {b run : Bytes} {s : by_value.State} {σ : State} (shows : Shows b run 
     onwards left f = ap (turn_by (steps_of b run) σ) under ∙ ap (onward (steps_of b run) σ) f
 
     ends_as :
-        (v : Verdict) → turn (steps_of b run) σ ≡ ended σ v → {c : ℕ} → c ≡ verdict_number v →
-        ended_as s c ≡ next_of b run s σ
-    ends_as v f {c} c-is =
-        ap (λ x. ended_as x c) shows.is ∙ ap (ended_as (state_of run s.counter.limit σ)) c-is
-        ∙ ap (state_of run s.counter.limit) (sym f)
+        (v : Verdict) → turn (steps_of b run) σ ≡ ended σ v → ended_as s v ≡ next_of b run s σ
+    ends_as v f = ap (λ x. ended_as x v) shows.is ∙ ap (state_of run s.counter.limit) (sym f)
 
-    pub turn-over : length run ≤ s.at → turn (steps_of b run) σ ≡ ended σ Verdict.accepted
+    pub turn-over : length run ≤ s.at → turn (steps_of b run) σ ≡ ended σ AllAccepted
     turn-over h = onwards [] (no_more b run _ shows.read begins h)
 
-    pub turn-done : length run ≤ s.at → ended_as s 0 ≡ next_of b run s σ
-    turn-done h = ends_as Verdict.accepted (turn-over h) refl
+    pub turn-done : length run ≤ s.at → ended_as s AllAccepted ≡ next_of b run s σ
+    turn-done h = ends_as AllAccepted (turn-over h)
 
     module _ (h : s.at < length run) where
       pub turn-answered :
@@ -147,10 +148,9 @@ module _ {b run : Bytes} {s : by_value.State} {σ : State} (shows : Shows b run 
           ∙ ap (λ n. answered σ x (check_step (limited s.counter.limit) ss x n))
           (sym (ap (λ y. y.counter.visits) shows.is))
 
-      pub turn-refused : {c : ℕ} → Refuses c (answer_to b run s) → ended_as s c ≡ next_of b run s σ
-      turn-refused r =
-          ends_as (Verdict.stopped r.reason)
-          (turn-answered ∙ ap (answered σ (step_in b (part_from run s.at))) r.is) r.code
+      pub turn-refused : (r : Refusal) → answer_to b run s ≡ Err r → ended_as s (Stopped r) ≡ next_of b run s σ
+      turn-refused r e =
+          ends_as (Stopped r) (turn-answered ∙ ap (answered σ (step_in b (part_from run s.at))) e)
 
       pub turn-accepted :
           (a : Accepted) → answer_to b run s ≡ Ok a → {v m : ℕ} → v ≡ a.visits → m ≡ bytes_in (part_from run s.at) →
@@ -215,37 +215,11 @@ way-begins {b} {run} {limit} read {s} is =
 
 -- how many turns there are to the end, by value
 abbrev pub turns_in : Bytes → Bytes → by_value.State → ℕ
-turns_in b run s = elim s.ended [ true ↦ 0 | false ↦ suc (length (steps_of b run) - s.steps) ]
-
-turns_in_lem :
-    (b run : Bytes) (limit : ℕ) (σ : State) {s : by_value.State} → s ≡ state_of run limit σ →
-    turns_in b run s ≡ turns_left (steps_of b run) σ
-turns_in_lem b run limit σ is = ap (turns_in b run) is ∙ go σ.verdict
-  where
-    go :
-        (v : Option Verdict) →
-        elim (elim v as (λ x. Bool) [ Some w ↦ true | None ↦ false ]) as (λ x. ℕ) [
-          | true ↦ 0
-          | false ↦ suc (length (steps_of b run) - length σ.steps)
-        ] ≡
-        turns_by (length (steps_of b run)) (length σ.steps) v
-    go (Some v) = refl
-    go None = refl
+turns_in b run s = turns_by (length (steps_of b run)) s.steps s.verdict
 
 -- what is answered at the end
-abbrev pub marked_in : by_value.State → Marked
-marked_in s = record { verdict = s.verdict; steps = s.steps; visits = s.counter.visits }
-
-marked_is : (run : Bytes) (limit : ℕ) (σ : State) → marked_in (state_of run limit σ) ≡ marked_of (marking_of σ)
-marked_is run limit σ =
-    ap (λ v. record { verdict = v; steps = length σ.steps; visits = σ.counter.visits }) (go σ.verdict)
-  where
-    go :
-        (v : Option Verdict) →
-        elim v as (λ x. ℕ) [ Some w ↦ verdict_number w | None ↦ 0 ] ≡
-        verdict_number (elim v [ Some w ↦ w | None ↦ Verdict.accepted ])
-    go (Some v) = refl
-    go None = refl
+abbrev pub marked_in : by_value.State → Verdict → Marked
+marked_in s v = record { verdict = v; steps = s.steps; visits = s.counter.visits }
 
 module _ {b run : Bytes} {limit : ℕ} {s : by_value.State} (way : OnTheWay b run limit s) where
   abbrev pub way-goes : {r : by_value.State} → r ≡ next_of b run s way.state → OnTheWay b run limit r
@@ -258,23 +232,27 @@ module _ {b run : Bytes} {limit : ℕ} {s : by_value.State} (way : OnTheWay b ru
       }
 
   pub way-less :
-      {r : by_value.State} → s.ended ≡ false → r ≡ next_of b run s way.state → turns_in b run r < turns_in b run s
+      {r : by_value.State} → is_some s.verdict ≡ false → r ≡ next_of b run s way.state →
+      turns_in b run r < turns_in b run s
   way-less e f =
       let σ = way.state in
-      let after = turns_in_lem b run s.counter.limit (turn (steps_of b run) σ) f in
-      let before = turns_in_lem b run s.counter.limit σ way.shows.is in
+      let after = ap (turns_in b run) f in
+      let before = ap (turns_in b run) way.shows.is in
       omega (arith, after, before, turn-less (steps_of b run) σ (under way.shows e))
 
-  pub way-marking : s.ended ≡ true → marking_of way.state ≡ check_steps (limited limit) (steps_of b run)
-  unfolding check_steps
-  way-marking e =
-      let ss = steps_of b run in
-      let σ = way.state in
-      let found = ended_by σ.verdict (sym (ap (λ x. x.ended) way.shows.is) ∙ e) in
-      let all : length ss - 0 ≡ length ss = omega arith in
-      ap marking_of (sym (turns-ended (turns_left ss σ) ss σ found.1) ∙ way.end)
-      ∙ ap (λ n. marking_of (turns (suc n) ss (first limit))) all
+  module _ {v : Verdict} (e : s.verdict ≡ Some v) where
+    pub way-marking : marking_of way.state ≡ check_steps (limited limit) (steps_of b run)
+    unfolding check_steps
+    way-marking =
+        let ss = steps_of b run in
+        let σ = way.state in
+        let all : length ss - 0 ≡ length ss = omega arith in
+        ap marking_of (sym (turns-ended (turns_left ss σ) ss σ (sym (verdict-same way.shows) ∙ e)) ∙ way.end)
+        ∙ ap (λ n. marking_of (turns (suc n) ss (first limit))) all
 
-  pub way-ends : s.ended ≡ true → marked_in s ≡ marked_of (check_steps (limited limit) (steps_of b run))
-  way-ends e =
-      ap marked_in way.shows.is ∙ marked_is run s.counter.limit way.state ∙ ap marked_of (way-marking e)
+    pub way-ends : marked_in s v ≡ marked_of (check_steps (limited limit) (steps_of b run))
+    way-ends =
+        let σ = way.state in
+        ap (λ x. marked_in x v) way.shows.is
+        ∙ ap (λ o. marked_of (marking_of (state σ.steps σ.counter o))) (sym e ∙ verdict-same way.shows)
+        ∙ ap marked_of way-marking

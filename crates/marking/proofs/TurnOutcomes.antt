@@ -2,6 +2,8 @@
 --     Turned, turned       it stays, ends or goes on
 --     turn-reached, turn-less, turn-outcome       what each turn keeps, that it has an end, and where that is
 --     turn-ended, turns-ended       a marking that has ended
+use Rattle.runs.specs.declared.verdict.Verdict.{Verdict}
+use Rattle.runs.specs.declared.verdict.Verdict.TheVariants.{Stopped, AllAccepted}
 use mathlib.Core.Path.{◌≡◌, refl, sym, ap, ◌∙◌}
 use mathlib.Core.List.{List, [], ◌∷◌, ◌++◌}
 use Rattle.std.specs.Prelude.{Option, Some, None}
@@ -10,7 +12,6 @@ use native.Mathlib.Omega.{arith}
 use lib.ListN.{length, drop, length-append, length-drop}
 use Rattle.rules.specs.Refusal.{Result}
 use Rattle.std.specs.Prelude.{Ok, Err}
-use Rattle.runs.specs.Verdict.{Verdict}
 use Rattle.runs.specs.Run.{Step}
 use Rattle.steps.specs.CheckStep.{Accepted, check_step}
 use Rattle.marking.specs.Check.{State, ended, answered, onward, turn, turns}
@@ -30,13 +31,13 @@ module _ (run : List Step) (σ : State) where
       by_answer :
           σ.verdict ≡ None → length σ.steps < length run → (x : Step) (d : Result Accepted) →
           Turned (answered σ x d)
-      by_answer e h x (Err r) = ends e (Verdict.stopped r)
+      by_answer e h x (Err r) = ends e (Stopped r)
       by_answer e h x (Ok a) = goes e h x a
 
       by_steps :
           σ.verdict ≡ None → (left : List Step) → drop (length σ.steps) run ≡ left →
           Turned (onward run σ left)
-      by_steps e [] f = ends e Verdict.accepted
+      by_steps e [] f = ends e AllAccepted
       by_steps e (x ∷ left) f =
           by_answer e (omega (arith, ap length f, length-drop (length σ.steps) run)) x
           (check_step σ.counter.limits run x σ.counter.visits)

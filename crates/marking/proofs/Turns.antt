@@ -1,5 +1,8 @@
 -- The turns of a marking, by recursion along the steps (`check_steps_from`): a step that is accepted stands in front of
 -- the marking of the steps behind it.
+use Rattle.runs.specs.declared.verdict.Verdict.{Verdict}
+use Rattle.runs.specs.declared.verdict.Verdict.TheVariants.{Stopped, AllAccepted}
+use Rattle.runs.specs.declared.verdict.LentRefusal.TheVariants.{OfBook}
 use mathlib.Core.Path.{◌≡◌, refl, ap, ◌∙◌}
 use mathlib.Core.List.{List, [], ◌∷◌, ◌++◌, append-nil, append_assoc}
 use Rattle.std.specs.Prelude.{None}
@@ -8,12 +11,11 @@ use native.Mathlib.Omega.{arith}
 use lib.ListN.{length, length-append, drop}
 use Rattle.numbers.specs.Rational.{Rational}
 use Rattle.numbers.specs.Bytes.{Bytes}
-use Rattle.rules.specs.Refusal.{Refusal, Result}
+use Rattle.rules.specs.Refusal.{Result}
+use Rattle.rules.specs.declared.refusal.Refusal.{Refusal}
 use Rattle.std.specs.Prelude.{Ok, Err}
 use Rattle.rules.specs.Limits.{Limits}
 use Rattle.rules.proofs.Yields.{Yields, at_ok}
-use Rattle.runs.specs.Verdict.{Verdict}
-use Rattle.runs.specs.Verdict.LentRefusal.{of_book}
 use Rattle.runs.specs.Run.{Step, read_run, Every, end, also}
 use Rattle.steps.specs.CheckStep.{Accepted, check_step, counter}
 use Rattle.marking.specs.Check.{Marking, marking, check_steps, mark_run, nothing_marked, State}
@@ -25,16 +27,16 @@ abbrev pub before : Step × List Rational → Marking → Marking
 before s m = marking m.verdict (s ∷ m.steps) m.visits
 
 unfoldable pub mark_from : Limits → List Step → List Step → ℕ → Marking
-mark_from l run [] n = marking Verdict.accepted [] n
+mark_from l run [] n = marking AllAccepted [] n
 mark_from l run (s ∷ ss) n = elim (check_step l run s n) [
-  | Err r ↦ marking (Verdict.stopped r) [] n
+  | Err r ↦ marking (Stopped r) [] n
   | Ok a ↦ before (s, a.inferred) (mark_from l run ss a.visits)
 ]
 
 -- by what the first step answers
 abbrev pub next : Limits → List Step → Step → List Step → ℕ → Result Accepted → Marking
 next l run s ss n x = elim x [
-  | Err r ↦ marking (Verdict.stopped r) [] n
+  | Err r ↦ marking (Stopped r) [] n
   | Ok a ↦ before (s, a.inferred) (mark_from l run ss a.visits)
 ]
 
@@ -71,7 +73,7 @@ module _ (l : Limits) (run : List Step) where
   unfolding mark_from
   turns_from [] done n e = ap marking_of (one_turn done n 0 e) ∙ last
     where
-      last : marking_of (turns 0 run (ended (under done n) Verdict.accepted)) ≡ marking Verdict.accepted (done ++ []) n
+      last : marking_of (turns 0 run (ended (under done n) AllAccepted)) ≡ marking AllAccepted (done ++ []) n
       last = rw (ended-stays, append-nil)
   turns_from (s ∷ ss) done n e =
       ap marking_of (one_turn done n (suc (length ss)) e) ∙ go (check_step l run s n) (turns_from ss)
@@ -98,10 +100,10 @@ check_steps_from l run = turns_from l run run [] 0 refl
 
 -- n visits were made before these steps
 pub data Marks (l : Limits) (run : List Step) : List Step → ℕ → Marking → Type 0 where
-  ends : {n : ℕ} → Marks l run [] n (marking Verdict.accepted [] n)
+  ends : {n : ℕ} → Marks l run [] n (marking AllAccepted [] n)
   stops :
       {s : Step} {ss : List Step} {n : ℕ} {r : Refusal} → check_step l run s n ≡ Err r →
-      Marks l run (s ∷ ss) n (marking (Verdict.stopped r) [] n)
+      Marks l run (s ∷ ss) n (marking (Stopped r) [] n)
   goes_on :
       {s : Step} {ss : List Step} {n : ℕ} {a : Accepted} {m : Marking} → check_step l run s n ≡ Ok a →
       Marks l run ss a.visits m → Marks l run (s ∷ ss) n (before (s, a.inferred) m)
@@ -130,4 +132,4 @@ module _ (l : Limits) (run : List Step) where
 -- ---- by what reading the book answers
 
 abbrev pub mark_book : Limits → Bytes → Bytes → BookRead → Marking
-mark_book l book run b = elim b [ Ok n ↦ mark_run l (read_run book run) | Err e ↦ nothing_marked (of_book e.refusal) ]
+mark_book l book run b = elim b [ Ok n ↦ mark_run l (read_run book run) | Err e ↦ nothing_marked (OfBook e.refusal) ]

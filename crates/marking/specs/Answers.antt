@@ -1,7 +1,6 @@
 -- What is answered by value, and the bytes of a lent area afterwards.
 use Rattle.std.specs.Prelude.{◌++◌, ℕ, ◌-◌, length, replicate}
 use Rattle.numbers.specs.Bytes.{Bytes}
-use Rattle.runs.specs.Verdict.{verdict_number}
 use Rattle.marking.specs.Check.{Marking}
 use Rattle.marking.specs.declared.check.Marked.{Marked}
 
@@ -14,4 +13,4 @@ unfoldable pub area : ℕ → Bytes → Bytes
 area n b = b ++ replicate (n - length b) 0
 
 abbrev pub marked_of : Marking → Marked
-marked_of m = record { verdict = verdict_number m.verdict; steps = length m.steps; visits = m.visits }
+marked_of m = record { verdict = m.verdict; steps = length m.steps; visits = m.visits }

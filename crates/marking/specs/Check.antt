@@ -1,16 +1,18 @@
 -- Marking (document 01's word for checking) a run: the steps are checked in turn up to the first that is refused.
 -- Refusals 1 to 7 come first, in document 01's order.
+use Rattle.runs.specs.declared.verdict.LentRefusal.{LentRefusal}
+use Rattle.runs.specs.declared.verdict.Verdict.{Verdict}
+use Rattle.runs.specs.declared.verdict.Verdict.TheVariants.{Stopped, AllAccepted, Lent}
+use Rattle.runs.specs.declared.verdict.LentRefusal.TheVariants.{OfBook, WorkAreaOrLimit}
 use Rattle.std.specs.Prelude.{Bool, true, false, ◌&&◌, List, [], ◌∷◌, ◌++◌, ℕ, zero, suc, eqb, leb, length, drop}
 use Rattle.std.specs.Prelude.{Option, Some, None}
 use Rattle.numbers.specs.Rational.{Rational}
 use Rattle.numbers.specs.Bytes.{Bytes}
 use Rattle.terms.specs.Book.{read_book}
 use Rattle.terms.specs.Format.{work_bytes}
-use Rattle.rules.specs.Refusal.{Refusal}
+use Rattle.rules.specs.declared.refusal.Refusal.{Refusal}
 use Rattle.std.specs.Prelude.{Result, Ok, Err}
 use Rattle.rules.specs.Limits.{Limits, limited}
-use Rattle.runs.specs.Verdict.{LentRefusal, Verdict, lent}
-use Rattle.runs.specs.Verdict.LentRefusal.{work_area_or_limit, of_book}
 use Rattle.runs.specs.Run.{Step, step, read_run}
 use Rattle.steps.specs.CheckStep.{Counter, counter, Accepted, check_step}
 
@@ -31,13 +33,13 @@ ended s v = state s.steps s.counter (Some v)
 
 -- a step's answer
 abbrev pub answered : State → Step → Result Accepted Refusal → State
-answered s step (Err r) = ended s (Verdict.stopped r)
+answered s step (Err r) = ended s (Stopped r)
 answered s step (Ok a) =
     state (s.steps ++ (step, a.inferred) ∷ []) (counter s.counter.limits a.visits) None
 
 -- the steps that are left: their first one is checked
 abbrev pub onward : List Step → State → List Step → State
-onward run s [] = ended s Verdict.accepted
+onward run s [] = ended s AllAccepted
 onward run s (step ∷ left) = answered s step (check_step s.counter.limits run step s.counter.visits)
 
 unfoldable pub turn : List Step → State → State
@@ -58,7 +60,7 @@ marking v s n = record { verdict = v; steps = s; visits = n }
 
 -- what is marked so far
 abbrev pub marking_of : State → Marking
-marking_of s = marking (elim s.verdict [ Some v ↦ v | None ↦ Verdict.accepted ]) s.steps s.counter.visits
+marking_of s = marking (elim s.verdict [ Some v ↦ v | None ↦ AllAccepted ]) s.steps s.counter.visits
 
 -- a turn for each step, and one that finds no step left
 unfoldable pub check_steps : Limits → List Step → Marking
@@ -67,7 +69,7 @@ check_steps l run = marking_of (turns (suc (length run)) run (state [] (counter 
 -- ---- refusals 1 to 7, then the steps
 
 abbrev pub nothing_marked : LentRefusal → Marking
-nothing_marked r = marking (lent r) [] 0
+nothing_marked r = marking (Lent r) [] 0
 
 unfoldable pub mark_run : Limits → Result (List Step) LentRefusal → Marking
 mark_run l (Ok ss) = check_steps l ss
@@ -76,7 +78,7 @@ mark_run l (Err r) = nothing_marked r
 unfoldable pub mark : Limits → Bytes → Bytes → Marking
 mark l book run = elim (read_book book) [
   | Ok n ↦ mark_run l (read_run book run)
-  | Err e ↦ nothing_marked (of_book e.refusal)
+  | Err e ↦ nothing_marked (OfBook e.refusal)
 ]
 
 -- limits are 1 to 1,000,000
@@ -92,5 +94,5 @@ lent_ok work limit = eqb work work_bytes && (leb min_limit limit && leb limit ma
 unfoldable pub check : Bytes → Bytes → ℕ → ℕ → Marking
 check book run limit work = elim (lent_ok work limit) [
   | true ↦ mark (limited limit) book run
-  | false ↦ nothing_marked work_area_or_limit
+  | false ↦ nothing_marked WorkAreaOrLimit
 ]

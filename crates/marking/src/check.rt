@@ -1,7 +1,7 @@
 // Marking (document 01's word for checking) a run with the trace off: the steps are checked in turn up to the first
 // that is refused. Refusals 1 to 7 come first, in document 01's order.
 ghost use Rattle.std.specs.Prelude.{◌≡◌, true, false, [], ◌+◌, ◌<◌, ◌^◌, length};
-ghost use Rattle.std.specs.Prelude.{None};
+ghost use Rattle.std.specs.Prelude.{Some, None};
 ghost use Rattle.numbers.specs.Bytes.{Bytes};
 ghost use Rattle.std.specs.Prelude.{Ok};
 ghost use Rattle.rules.specs.Limits.{limited};
@@ -11,44 +11,33 @@ ghost use Rattle.steps.specs.CheckStep.{counter};
 ghost use Rattle.marking.specs.Check.{state, check_steps, check};
 ghost use Rattle.marking.specs.Answers.{marked_of};
 ghost use Rattle.marking.specs.CheckEntry.{CheckDone};
-ghost use Rattle.marking.specs.Memory.Lent.{opened_refusal, state_of, Underway, Turns};
+ghost use Rattle.marking.specs.Memory.Lent.{state_of, Underway, Turns};
 ghost use Rattle.marking.specs.Memory.Lent.{open_work, Opens};
 
 use numbers::bytes::clear_from;
-use rules::verdict::Verdict;
+use rules::counter::Counter;
 use runs::prepare::prepare;
-use runs::run::{RunRead, args, parts, read_run, run_refusal};
-use steps::check_step::{ACCEPTED, Counter, check_step, verdict_refusal};
+use runs::run::{parts, read_run};
+use runs::verdict::{LentRefusal, Verdict};
+use steps::check_step::check_step;
 use terms::areas::WORK_BYTES;
-use terms::reading::book_number;
-use terms::refusal::WORK_AREA_OR_LIMIT;
 
-// The answer: document 01's number of the refusal, or 0; how many steps were accepted; their visits.
-#[derive(Clone, Copy)]
+// The answer: the verdict, how many steps were accepted, and their visits.
+#[derive(Clone, Copy, Debug, PartialEq, Eq)]
 pub struct Marked {
-    pub verdict: u8,
+    pub verdict: Verdict,
     pub steps: usize,
     pub visits: u32,
 }
 
 // A marking under way: the byte at which the next step begins, the accepted steps, the visits; the verdict once it has
 // ended.
-#[derive(Clone, Copy)]
+#[derive(Clone, Copy, Debug, PartialEq, Eq)]
 pub struct State {
     pub at: usize,
     pub steps: usize,
     pub counter: Counter,
-    pub ended: bool,
-    pub verdict: u8,
-}
-
-// What comes before the first step.
-#[derive(Clone, Copy)]
-pub enum Opened {
-    // Book and run are read, and the work area is ready for the first step.
-    Ready,
-    // Document 01's number of the refusal.
-    Refused(u8),
+    pub verdict: Option<Verdict>,
 }
 
 // The least limit of visits, and the greatest.
@@ -66,30 +55,17 @@ pub fn start(limit: u32) -> State
         at: 0,
         steps: 0,
         counter: Counter { visits: 0, limit },
-        ended: false,
-        verdict: ACCEPTED,
+        verdict: None,
     }
 }
 
 // The marking is over.
-pub fn ended(s: State, verdict: u8) -> State
-    ensures { result ≡ record {
-      at = s.at;
-      steps = s.steps;
-      counter = s.counter;
-      ended = true;
-      verdict = verdict;
-    } }
+pub fn ended(s: State, verdict: Verdict) -> State
+    ensures { result ≡ record s { verdict = Some verdict } }
 {
-    let at = s.at;
-    let steps = s.steps;
-    let counter = s.counter;
     State {
-        at,
-        steps,
-        counter,
-        ended: true,
-        verdict,
+        verdict: Some(verdict),
+        ..s
     }
 }
 
@@ -100,22 +76,17 @@ pub fn advanced(s: State, bytes: usize, visits: u32) -> State
       at = s.at + bytes;
       steps = s.steps + 1;
       counter = record { visits = visits; limit = s.counter.limit };
-      ended = false;
-      verdict = 0;
+      verdict = None;
     } }
 {
-    let at = s.at;
-    let steps = s.steps;
-    let counter = s.counter;
     State {
-        at: at + bytes,
-        steps: steps + 1,
+        at: s.at + bytes,
+        steps: s.steps + 1,
         counter: Counter {
             visits,
-            limit: counter.limit,
+            ..s.counter
         },
-        ended: false,
-        verdict: ACCEPTED,
+        verdict: None,
     }
 }
 
@@ -126,21 +97,18 @@ pub fn turn(book: &[u8], run: &[u8], work: &mut [u8], s: State) -> State
     ensures turns { Turns book.now run.now s result }
     ensures work_unchanged { work.new ≡ work.old }
 {
-    let at = s.at;
-    let counter = s.counter;
-    if s.ended {
+    if s.verdict.is_some() {
         return s;
     }
-    if run.len() <= at {
-        return ended(s, ACCEPTED);
+    if run.len() <= s.at {
+        return ended(s, Verdict::AllAccepted);
     }
-    let step = &run[at..];
+    let step = &run[s.at..];
     let p = parts(step);
-    let answer = check_step(book, work, run, step, p, counter);
-    let Verdict::Accepted(visits) = answer else {
-        return ended(s, verdict_refusal(answer));
-    };
-    advanced(s, p.args, visits)
+    match check_step(book, work, run, step, p, s.counter) {
+        Ok(visits) => advanced(s, p.args, visits),
+        Err(r) => ended(s, Verdict::Stopped(r)),
+    }
 }
 
 // Turns up to the end.
@@ -151,9 +119,9 @@ fn check_steps(book: &[u8], run: &[u8], limit: u32, work: &mut [u8]) -> Marked
 {
     let mut s = start(limit);
     loop {
-        if s.ended {
+        if let Some(verdict) = s.verdict {
             return Marked {
-                verdict: s.verdict,
+                verdict,
                 steps: s.steps,
                 visits: s.counter.visits,
             };
@@ -164,37 +132,15 @@ fn check_steps(book: &[u8], run: &[u8], limit: u32, work: &mut [u8]) -> Marked
 
 // ---- before the first step, and after the last
 
-// The number of a refusal.
-pub fn opened_refusal(x: Opened) -> u8
-    ensures { result ≡ opened_refusal x }
-{
-    match x {
-        Opened::Ready => ACCEPTED,
-        Opened::Refused(code) => code,
-    }
-}
-
-// Refusals 1 to 7.
-pub fn open(book: &[u8], run: &[u8], limit: u32, work: &mut [u8]) -> Opened
+// Refusals 1 to 7; where nothing is refused, the work area is ready for the first step.
+pub fn open(book: &[u8], run: &[u8], limit: u32, work: &mut [u8]) -> Result<(), LentRefusal>
     ensures { Opens book.now run.now limit work.old work.new result }
 {
-    if work.len() != WORK_BYTES {
-        return Opened::Refused(WORK_AREA_OR_LIMIT);
+    if work.len() != WORK_BYTES || limit < MIN_LIMIT || MAX_LIMIT < limit {
+        return Err(LentRefusal::WorkAreaOrLimit);
     }
-    if limit < MIN_LIMIT {
-        return Opened::Refused(WORK_AREA_OR_LIMIT);
-    }
-    if MAX_LIMIT < limit {
-        return Opened::Refused(WORK_AREA_OR_LIMIT);
-    }
-    if let Err(e) = prepare(book, work) {
-        return Opened::Refused(book_number(e.refusal));
-    }
-    let read = read_run(book, work, run);
-    let RunRead::Steps = read else {
-        return Opened::Refused(run_refusal(read));
-    };
-    Opened::Ready
+    prepare(book, work)?;
+    read_run(book, work, run)
 }
 
 // All of `check` but for the clearing of the work area.
@@ -202,15 +148,14 @@ fn check_run(book: &[u8], run: &[u8], limit: u32, work: &mut [u8]) -> Marked
     ensures value { result ≡ marked_of (check book.now run.now limit (length work.old)) }
     ensures work_after { work.new ≡ open_work book.now limit work.old }
 {
-    let answer = open(book, run, limit, work);
-    let Opened::Ready = answer else {
-        return Marked {
-            verdict: opened_refusal(answer),
+    match open(book, run, limit, work) {
+        Ok(()) => check_steps(book, run, limit, work),
+        Err(r) => Marked {
+            verdict: Verdict::Lent(r),
             steps: 0,
             visits: 0,
-        };
-    };
-    check_steps(book, run, limit, work)
+        },
+    }
 }
 
 // Marks a run over a book, under a limit of visits. The work area, whatever its length, is zeros afterwards.

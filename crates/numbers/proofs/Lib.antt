@@ -24,7 +24,6 @@ pub mod LittleEndian
 pub mod ByteArrays
 pub mod TwosComplement
 pub mod StoredNumbers
--- bytes: the same, copied, cleared
+-- bytes that are the same, and bytes that are cleared
 pub mod SameBytes
-pub mod CopiedBytes
 pub mod ClearedBytes

@@ -165,6 +165,8 @@ impl Number {
         self == other
     }
 
+    // `less` and `less_eq` compare values. `PartialOrd` has a law that they can't keep, that it answers Equal just
+    // where `==` holds: 1/2 is not 2/4.
     pub fn less(self, other: Number) -> bool
         requires { Proper self × Proper other }
         ensures { result ≡ less_q self other }

@@ -1,24 +1,23 @@
 -- An inferred number as an argument: what is written behind the run and the tail.
---     inside-tail, tail-stored       the tail that is written, as the front of its area
---     real-full, real_in_book, real_in_tail, real-added       `add_real`: where the areas are full, and by where the constant stands
+--     inside-tail, few_in_tail       the tail that is written is in front of its area, and has 2,048 constants at most
+--     real-full, real_in_book, real_in_tail, real-added       `add_real`: full areas, and by where the constant stands
 use mathlib.Core.Path.{◌≡◌, refl, sym, ap, ap₂, subst, ◌∙◌}
 use mathlib.Core.Bool.{Bool, true, false}
 use mathlib.Core.List.{List, [], ◌∷◌, ◌++◌}
-use Rattle.std.specs.Prelude.{Option, Some, None}
+use Rattle.std.specs.Prelude.{Option, Some, None, IfSome}
 use Prim.Native.Nat.{ℕ, ◌+◌, ◌/◌, ◌≤◌, ◌<◌}
 use native.Mathlib.Omega.{arith}
 use borrow.Author.Tests.{lt-ltb, le-ltb}
 use lib.Dec.{ltb}
-use lib.ListN.{length, take, length-append}
-use Rattle.numbers.specs.Rational.{Rational, Proper}
+use lib.ListN.{length, length-append}
+use Rattle.numbers.specs.Rational.{Rational}
 use Rattle.numbers.specs.Bytes.{Bytes}
 use Rattle.terms.specs.Book.{count}
-use Rattle.runs.specs.Run.{A, Every, record_bytes}
-use Rattle.out_areas.specs.Farkas.{Written, written, find_real, place_in, with_tail, add_real, tail_bytes, fits, place_or}
-use Rattle.out_areas.specs.Memory.OutAreas.{Holds, Writing, Lies, Writes, WritesOne, with_arg, with_constant, more}
+use Rattle.runs.specs.Run.{A, record_bytes}
+use Rattle.out_areas.specs.Farkas.{Written, written, find_real, place_in, with_tail, add_real, fits, place_or}
+use Rattle.out_areas.specs.Memory.OutAreas.{Stored, Holds, Writing, Writes, WritesOne, with_arg, with_constant, more}
 use Rattle.out_areas.specs.Memory.OutAreas.{more_real}
 use Rattle.out_areas.specs.declared.out_areas.Out.{Out}
-use Rattle.out_areas.proofs.FoundReals.{found-real}
 use Rattle.out_areas.proofs.OutAreas.{Fit, fit_of, Longer, holds-stored, stored-holds, writes_then}
 use Rattle.out_areas.proofs.Pieces.{more-full, more_runs, writes_as, writes-full}
 use Rattle.out_areas.proofs.AddedPieces.{arg-longer, constant-longer}
@@ -32,8 +31,10 @@ module _ (b o t : Bytes) (out : Out) (w : Written) (e : out.full ≡ false) (h :
       let f : Fit b (length o) (length t) w = fit_of s.room in
       omega (arith, f.tail, s.tail_size)
 
-  pub tail-stored : (take out.tail t ≡ tail_bytes w.tail) × Every Proper w.tail
-  tail-stored = let s = holds-stored b o t out w e h in (s.tail, s.proper)
+  pub few_in_tail : length w.tail ≤ 2048
+  few_in_tail =
+      let f : Fit b (length o) (length t) w = fit_of (holds-stored b o t out w e h).room in
+      omega (arith, f.book)
 
 -- ---- an inferred number
 
@@ -124,71 +125,67 @@ module _ (b : Bytes) (q : Rational) where
   real-full o t out e =
       writes-full b o t out (λ w. add_real b w q) _ e real-longer (real_stays (fits b (length o) (length t)))
 
-  -- the code counts n records and finds record i
-  module _ (n i : ℕ) (counted : n ≡ count b) (looked : i ≡ place_or (find_real (count b) b q 0) (count b)) where
-    in_book : i < n → found ≡ Some i
+  -- r is what the code finds in the book, n how many records it counts, p what it finds in the tail
+  module _ {r : Option ℕ} (looked : r ≡ find_real (count b) b q 0) where
+    looked_is : {x : Option ℕ} → r ≡ x → found ≡ x
     unfolding found
-    in_book l = go (find_real (count b) b q 0) looked
-      where
-        go : (x : Option ℕ) → i ≡ place_or x (count b) → x ≡ Some i
-        go (Some j) e = ap Some (sym e)
-        go None e = absurd (omega (arith, l, counted, e))
-
-    not_in_book : n ≤ i → found ≡ None
-    unfolding found
-    not_in_book l = go (find_real (count b) b q 0) refl looked
-      where
-        go : (x : Option ℕ) → find_real (count b) b q 0 ≡ x → i ≡ place_or x (count b) → x ≡ None
-        go (Some j) f e = absurd (omega (arith, l, counted, e, (found-real (count b) b q 0 j f).0))
-        go None f e = refl
+    looked_is e = sym looked ∙ e
 
     pub real_in_book :
-        {o o' t : Bytes} {out r : Out} → i < n → WritesOne b o t out o' t r (with_arg i) → WritesReal o t out o' t r
-    real_in_book l x =
-        writes_as x (λ w h. sym (added_is (Some i) (in_book l) w)) (λ s h. sym (pieces_by_lem _ s (in_book l) refl))
+        {i : ℕ} {o o' t : Bytes} {out r' : Out} → r ≡ Some i → WritesOne b o t out o' t r' (with_arg i) →
+        WritesReal o t out o' t r'
+    real_in_book {i} l x =
+        writes_as x (λ w h. sym (added_is (Some i) (looked_is l) w)) (λ s h. sym (pieces_by_lem _ s (looked_is l) refl))
 
-    module _ (l : n ≤ i) (k : ℕ) where
+    module _ (l : r ≡ None) {n : ℕ} (counted : n ≡ count b) where
       lacked :
-          (w : Written) (tail : List Rational) → k ≡ place_in w.tail q → with_tail w.tail q ≡ tail →
+          (k : ℕ) (w : Written) (tail : List Rational) → k ≡ place_in w.tail q → with_tail w.tail q ≡ tail →
           written (w.run ++ record_bytes A 0 (n + k)) tail ≡ add_real b w q
-      lacked w tail e g =
+      lacked k w tail e g =
           ap₂ (λ (m : ℕ) (t : List Rational). written (w.run ++ record_bytes A 0 m) t) (ap₂ ◌+◌ counted e) (sym g)
-          ∙ sym (added_is None (not_in_book l) w)
+          ∙ sym (added_is None (looked_is l) w)
 
-      module _ (o t : Bytes) (out : Out) (e : out.full ≡ false)
-          (placed : (b o : Bytes) (w : Written) → out.full ≡ false → Holds b o t out w → k ≡ place_in w.tail q) where
-        at_place : (s : Writing) → Lies b o t out s → k ≡ place_in s.done.tail q
-        at_place s h = placed b o s.done e (stored-holds b o t out s.done e h.stored)
+      module _ {o t : Bytes} {out : Out} (e : out.full ≡ false) {p : Option ℕ}
+          (placed :
+          (b o : Bytes) (w : Written) → out.full ≡ false → Holds b o t out w →
+          place_or p (length w.tail) ≡ place_in w.tail q) where
+        placed_is :
+            {x : Option ℕ} → p ≡ x → (w : Written) → Stored b o t out w → place_or x (length w.tail) ≡ place_in w.tail q
+        placed_is f w s =
+            ap (λ y. place_or y (length w.tail)) (sym f) ∙ placed b o w e (stored-holds b o t out w e s)
 
         pub real_in_tail :
-            {o' : Bytes} {r : Out} → k < out.tail / 32 → WritesOne b o t out o' t r (with_arg (n + k)) →
-            WritesReal o t out o' t r
-        real_in_tail m x =
+            {k : ℕ} {o' : Bytes} {r : Out} → p ≡ Some k → IfSome p (λ j. j < out.tail / 32) →
+            WritesOne b o t out o' t r (with_arg (n + k)) → WritesReal o t out o' t r
+        real_in_tail {k} f inside x =
+            let m : k < out.tail / 32 = subst (λ y. IfSome y (λ j. j < out.tail / 32)) f inside in
             writes_as x
             (λ w h.
-            let p = placed b o w e h in
             let s = holds-stored b o t out w e h in
-            lacked w w.tail p (tail-same w.tail q (omega (arith, m, p, s.tail_size))))
+            let p : k ≡ place_in w.tail q = placed_is f w s in
+            lacked k w w.tail p (tail-same w.tail q (omega (arith, m, p, s.tail_size))))
             (λ s h.
-            let p = at_place s h in
+            let p : k ≡ place_in s.done.tail q = placed_is f s.done h.stored in
             let inside : place_in s.done.tail q < length s.done.tail = omega (arith, m, p, h.stored.tail_size) in
             let f = fits b (length o) (length t) in
             ap (λ j. more f (with_arg j) s) (ap₂ ◌+◌ counted p)
-            ∙ sym (pieces_by_lem f s (not_in_book l) (lt-ltb _ _ inside)))
+            ∙ sym (pieces_by_lem f s (looked_is l) (lt-ltb _ _ inside)))
 
         pub real-added :
-            {o' t' : Bytes} {r s : Out} → out.tail / 32 ≤ k → WritesOne b o t out o t' r (with_constant q) →
-            WritesOne b o t' r o' t' s (with_arg (n + k)) → WritesReal o t out o' t' s
-        real-added {t' = t'} m x y =
+            {o' t' : Bytes} {r s : Out} → p ≡ None → WritesOne b o t out o t' r (with_constant q) →
+            WritesOne b o t' r o' t' s (with_arg (n + out.tail / 32)) → WritesReal o t out o' t' s
+        real-added {t' = t'} none x y =
             writes_as (writes_then x y)
             (λ w h.
-            let p = placed b o w e h in
             let s = holds-stored b o t out w e h in
-            lacked w (w.tail ++ q ∷ []) p (tail_more w.tail q (omega (arith, m, p, s.tail_size))))
+            let p : length w.tail ≡ place_in w.tail q = placed_is none w s in
+            lacked (out.tail / 32) w (w.tail ++ q ∷ []) (omega (arith, p, s.tail_size))
+            (tail_more w.tail q (omega (arith, p))))
             (λ s h.
-            let p = at_place s h in
-            let past : length s.done.tail ≤ place_in s.done.tail q = omega (arith, m, p, h.stored.tail_size) in
+            let p : length s.done.tail ≡ place_in s.done.tail q = placed_is none s.done h.stored in
+            let end : out.tail / 32 ≡ place_in s.done.tail q = omega (arith, p, h.stored.tail_size) in
             let f = fits b (length o) (length t) in
-            ap (λ c. more (fits b (length o) c) (with_arg (n + k)) (more f (with_constant q) s)) x.tail_length
-            ∙ ap (λ j. more f (with_arg j) (more f (with_constant q) s)) (ap₂ ◌+◌ counted p)
-            ∙ sym (pieces_by_lem f s (not_in_book l) (le-ltb _ _ past)))
+            let first = more f (with_constant q) s in
+            ap (λ c. more (fits b (length o) c) (with_arg (n + out.tail / 32)) first) x.tail_length
+            ∙ ap (λ j. more f (with_arg j) first) (ap₂ ◌+◌ counted end)
+            ∙ sym (pieces_by_lem f s (looked_is l) (le-ltb _ _ (omega (arith, p)))))

@@ -3,6 +3,7 @@
 --     row_back       a row of records, each with its mark and the byte 0, is its numbers as they are written
 --     copied, length-copied       the bytes of a step are its S record and its rows; only the rule differs
 --     add_nothing, add-full, add-copied       the function `add_step`
+use Rattle.runs.specs.declared.rule.Rule.{Rule}
 use mathlib.Core.Path.{◌≡◌, refl, sym, ap, ap₂, ◌∙◌}
 use mathlib.Core.Bool.{Bool, true, false, ◌&&◌}
 use mathlib.Core.List.{List, [], ◌∷◌, ◌++◌}
@@ -20,7 +21,7 @@ use Rattle.terms.proofs.NumberedNodes.{record_number-tree}
 use Rattle.numbers.proofs.LittleEndian.{le_of_two}
 use Rattle.rules.specs.Memory.Parts.{numbers_in, named, terms_in}
 use Rattle.std.specs.Prelude.{is_some}
-use Rattle.runs.specs.Rule.{Rule, rule_number, rule_of}
+use Rattle.runs.specs.Rule.{rule_number, rule_of}
 use Rattle.runs.specs.Run.{Step, Rec, rec, S, P, C, A, recs, leading, all_right, numbers_of, head_rule, record_bytes}
 use Rattle.runs.specs.Run.{premise_bytes, term_bytes}
 use Rattle.runs.specs.Memory.StepParts.{leading_in, after_in, premises_in, clause_in, args_in, bytes_in, head_in, rule_in}
@@ -33,8 +34,7 @@ use Rattle.runs.proofs.RowRecords.{number_bytes, record_numbers, premises-are-nu
 use Rattle.runs.proofs.RowRecords.{length-number_bytes}
 use Rattle.out_areas.proofs.Pieces.{more-full, writes-full, writes-run, unwritten_run}
 use Rattle.out_areas.proofs.OutAreas.{both-le, not-both}
-use Rattle.runs.proofs.Rules.{rule-number}
-use Rattle.runs.proofs.Standing.{Tested, stands-tested, stands_record, stands-rule}
+use Rattle.runs.proofs.Standing.{Tested, stands-tested, stands_record}
 
 abbrev pub Octets : Bytes → Type 0
 Octets p = (j : ℕ) → get_or p j 0 < 256
@@ -176,10 +176,6 @@ module _ {b run part : Bytes} (stands : StandsIn b run part) (small : Octets par
       ∙ length-set (take (bytes_in part) part) 1 rule_byte
       ∙ length-take-le (bytes_in part) part (bytes-within part)
 
-  -- c is the byte that stands there
-  byte-rule : {c : ℕ} → c ≡ get_or part 1 0 → c ≡ rule_number (rule_in part)
-  byte-rule c-is = c-is ∙ sym (rule-number (get_or part 1 0) (rule_in part) (stands-rule stands))
-
 -- ---- the function `add_step`
 
 -- the areas did not take what was written before
@@ -224,15 +220,14 @@ module _ {b run part : Bytes} (stands : StandsIn b run part) (small : Octets par
       (rw size at (not-both (out.run + n) (length o) 16384 goes left))
 
   pub add-copied :
-      r ≡ true → {o₁ : Bytes} → o₁ ≡ paste o out.run (take n part) (length (take n part)) → {rule c : ℕ} →
-      ((x : Rule) → c ≡ rule_number x → rule ≡ rule_number (elaborated_rule x)) → c ≡ get_or part 1 0 →
+      r ≡ true → {o₁ : Bytes} → o₁ ≡ paste o out.run (take n part) (length (take n part)) → {rule : ℕ} →
+      rule ≡ rule_number (elaborated_rule (rule_in part)) →
       WritesOne b o t out (set o₁ (out.run + 1) rule) t
       record { run = out.run + n; tail = out.tail; full = out.full } (with_step s)
-  add-copied taken {o₁} o₁-is {rule} rule_is c-is =
+  add-copied taken {o₁} o₁-is {rule} rule_is =
       let x : Bytes = take n part in
       let room = both-le (out.run + n) (length o) 16384 goes taken in
-      let new = rule_is (rule_in part) (byte-rule stands small c-is) in
-      let same : step_bytes s ≡ set x 1 rule = rw (n-is, new) (copied stands small) in
+      let same : step_bytes s ≡ set x 1 rule = rw (n-is, rule_is) (copied stands small) in
       let long : 1 < length x =
       omega (
         arith,

@@ -1,31 +1,33 @@
 -- Real constants, as elaboration looks for them in the book and in a tail.
 --     is_real, other-kind, no_number       the function `is_real_lem`
---     Searched, searched_none .. searched_end       the loop of `find_real`
+--     FirstReal, first_real       the function `find_real`
 --     found-real       the record that is found is the constant, and is among those that were searched
---     Placed, placed_none .. placed_end       the loop of `place_in`
+--     FoundAt, first_in_tail, tail_bound       the function `place_in`
 use mathlib.Core.Path.{◌≡◌, refl, sym, ap, subst, ◌∙◌}
 use mathlib.Core.Bool.{Bool, true, false}
 use mathlib.Core.List.{List, [], ◌∷◌, ◌++◌}
-use Rattle.std.specs.Prelude.{Option, Some}
-use Prim.Native.Nat.{ℕ, zero, suc, ◌+◌, ◌*◌, ◌-◌, ◌/◌, ◌≤◌, ◌<◌}
-use native.Mathlib.Nat.{zero-add, sub-zero}
-use native.Mathlib.Numerals.{add-one}
+use Rattle.std.specs.Prelude.{Option, Some, None, MatchOption, IfSome}
+use Rattle.std.proofs.Common.{inl, inr}
+use Rattle.std.proofs.lemmas.Bool.{cases_lt}
+use Prim.Native.Nat.{ℕ, zero, suc, ◌+◌, ◌*◌, ◌/◌, ◌≤◌, ◌<◌}
 use native.Mathlib.Omega.{arith}
 use lib.IntN.{pos}
-use lib.ListN.{length, get_or, take, drop, drop_of_length-le}
-use lib.Seq.{take_at, drop-append-add, drop-cons}
+use lib.ListN.{length, get_or, take, drop}
+use lib.Seq.{take_at, drop-append-add}
 use Rattle.numbers.specs.Rational.{Rational, whole, Proper, eq_q}
 use Rattle.numbers.specs.Bytes.{Bytes}
 use Rattle.terms.specs.Term.{Term, Terms}
 use Rattle.terms.specs.Term.Term.{integer, rational, bitvector, atom, op}
-use Rattle.terms.specs.Book.{record_of, kind, tree}
+use Rattle.terms.specs.Book.{count, record_of, rational_of, kind, tree}
 use Rattle.terms.specs.Readers.{as_number, Finds}
+use Rattle.numbers.proofs.Truths.{never}
+use Rattle.terms.proofs.Trees.{record_of-inside}
 use Rattle.terms.proofs.RecordReadings.{Node, record_node}
 use Rattle.terms.proofs.RecordReadings.Node.{an_integer, a_rational, a_bitvector, an_operation, an_atom}
 use Rattle.out_areas.specs.Farkas.{real_record, is_real, find_real, place_in, tail_bytes, place_or}
 use Rattle.runs.specs.Run.{Every}
 use Rattle.out_areas.proofs.Everywhere.{every_at}
-use Rattle.out_areas.proofs.RealRecord.{tail_bytes-length, length-real}
+use Rattle.out_areas.proofs.RealRecord.{tail_bytes-length, length-real, real_of}
 use Rattle.terms.specs.Readers.{Reading}
 use Rattle.std.specs.Prelude.{Ok}
 
@@ -79,39 +81,39 @@ module _ (b : Bytes) (i : ℕ) (q : Rational) where
 
 -- ---- the function `find_real`
 
--- none of the first `id` of n records is the constant q
-pub record Searched (b : Bytes) (q : Rational) (n id : ℕ) : Type 0 where
-  pub most : id ≤ n
-  pub left : find_real n b q 0 ≡ find_real (n - id) b q id
+-- the first of the records from i to before e that is the constant, if one is
+abbrev pub FirstReal : ℕ → Bytes → Rational → ℕ → Option ℕ → Type 0
+FirstReal e b q i r =
+    MatchOption r ((k : ℕ) → i ≤ k → k < e → is_real q (tree b k) ≡ false)
+    (λ j.
+    (i ≤ j) × (j < e) × (is_real q (tree b j) ≡ true)
+    × ((k : ℕ) → i ≤ k → k < j → is_real q (tree b k) ≡ false))
 
-module _ {b : Bytes} {q : Rational} {n : ℕ} where
-  pub searched_none : Searched b q n 0
-  searched_none = record { most = omega arith; left = rw sub-zero }
-
-  module _ {id : ℕ} (s : Searched b q n id) where
-    -- by whether record `id` is the constant
-    found_by :
-        id < n → (t : Bool) → t ≡ is_real q (tree b id) →
-        find_real n b q 0 ≡ elim t [ true ↦ Some id | false ↦ find_real (n - suc id) b q (suc id) ]
-    unfolding find_real
-    found_by h t e =
-        let one : n - id ≡ suc (n - suc id) = omega arith in
-        s.left ∙ ap (λ m. find_real m b q id) one ∙ rw (e, find_real)
-
-    pub searched_more : id < n → {t : Bool} → t ≡ is_real q (tree b id) → t ≡ false → Searched b q n (id + 1)
-    searched_more h t-is left =
-        record { most = omega arith; left = rw add-one (found_by h false (sym left ∙ t-is)) }
-
-    module _ {m : ℕ} (n-is : n ≡ m) where
-      pub searched_found :
-          id < n → {t : Bool} → t ≡ is_real q (tree b id) → t ≡ true → id ≡ place_or (find_real m b q 0) m
-      searched_found h t-is taken = rw (← n-is, found_by h true (sym taken ∙ t-is))
-
-      pub searched_end : n ≤ id → n ≡ place_or (find_real m b q 0) m
-      unfolding find_real
-      searched_end h =
-          let none_left : n - id ≡ 0 = omega arith in
-          rw (← n-is, s.left, none_left, find_real)
+pub first_real :
+    (n : ℕ) (b : Bytes) (q : Rational) (i : ℕ) {e : ℕ} (r : Option ℕ) → e ≡ i + n → FirstReal e b q i r →
+    r ≡ find_real n b q i
+unfolding find_real
+first_real zero b q i None all h = refl
+first_real zero b q i (Some j) all h = absurd (omega (arith, all, h.0, h.1))
+first_real (suc n) b q i {e} r all h =
+    go (λ r. first_real n b q (suc i) r (omega (arith, all))) (is_real q (tree b i)) refl r h
+  where
+    go :
+        ((r : Option ℕ) → FirstReal e b q (suc i) r → r ≡ find_real n b q (suc i)) → (t : Bool) →
+        is_real q (tree b i) ≡ t → (r : Option ℕ) → FirstReal e b q i r →
+        r ≡ elim t [ true ↦ Some i | false ↦ find_real n b q (suc i) ]
+    go rest true is None h = never (sym (h i (omega arith) (omega (arith, all))) ∙ is)
+    go rest true is (Some j) h = elim (cases_lt i j) [
+      | inl l ↦ never (sym (h.3 i (omega arith) l) ∙ is)
+      | inr l ↦ let same : j ≡ i = omega (arith, l, h.0) in ap Some same
+    ]
+    go rest false is None h = rest None (λ k l m. h k (omega arith) m)
+    go rest false is (Some j) h = elim (cases_lt i j) [
+      | inl l ↦ rest (Some j) (l, h.1, h.2, λ k m o. h.3 k (omega arith) o)
+      | inr l ↦
+          let same : j ≡ i = omega (arith, l, h.0) in
+          never (sym is ∙ ap (λ k. is_real q (tree b k)) (sym same) ∙ h.2)
+    ]
 
 pub found-real :
     (k : ℕ) (b : Bytes) (q : Rational) (i j : ℕ) → find_real k b q i ≡ Some j →
@@ -143,56 +145,60 @@ tail_record (q ∷ qs) (suc k) d h =
     ∙ ap (take 32) (drop-append-add (real_record q) (tail_bytes qs) (32 * k))
     ∙ tail_record qs k d (omega (arith, h))
 
-no_place : (q : Rational) → place_in [] q ≡ 0
+-- the number in record k of a tail
+tail_number :
+    (qs : List Rational) (tail : Bytes) (k : ℕ) (d : Rational) → Every Proper qs → tail ≡ tail_bytes qs →
+    length qs ≤ 2048 → k < length qs →
+    rational_of (record_of tail k) ≡ get_or qs k d
+tail_number qs tail k d proper e few h =
+    ap rational_of
+    (record_of-inside tail k (omega (arith, h, few, ap length e, tail_bytes-length qs))
+    ∙ ap (λ l. take 32 (drop (32 * k) l)) e ∙ tail_record qs k d h)
+    ∙ real_of (get_or qs k d) (every_at qs d proper k h)
+
+-- the first constant that is q, or their number
+first_place :
+    (qs : List Rational) (q d : Rational) (i : ℕ) → i ≤ length qs →
+    ((j : ℕ) → j < i → eq_q (get_or qs j d) q ≡ false) → (i < length qs → eq_q (get_or qs i d) q ≡ true) →
+    i ≡ place_in qs q
 unfolding place_in
-no_place q = refl
+first_place [] q d i h before here = omega arith
+first_place (r ∷ qs) q d zero h before here = rw (here (omega arith), place_in) refl
+first_place (r ∷ qs) q d (suc i) h before here =
+    rw (before 0 (omega arith), place_in)
+    (ap suc
+    (first_place qs q d i (omega (arith, h)) (λ j l. before (suc j) (omega arith)) (λ l. here (omega (arith, l)))))
 
--- none of the first k constants of a tail is q
-pub record Placed (tail : Bytes) (q : Rational) (k : ℕ) : Type 0 where
-  pub most : k ≤ length tail / 32
-  pub left :
-      (qs : List Rational) → Every Proper qs → tail ≡ tail_bytes qs → place_in qs q ≡ k + place_in (drop k qs) q
+-- what a search among the records of a tail finds
+abbrev pub FoundAt : Bytes → Rational → Option ℕ → Type 0
+FoundAt tail q r =
+    MatchOption r ((k : ℕ) → 0 ≤ k → k < count tail → eq_q (rational_of (record_of tail k)) q ≡ false)
+    (λ i.
+    (0 ≤ i) × (i < count tail) × (eq_q (rational_of (record_of tail i)) q ≡ true)
+    × ((k : ℕ) → 0 ≤ k → k < i → eq_q (rational_of (record_of tail k)) q ≡ false))
 
--- what `place_in` promises of the place k
-abbrev pub PlaceIs : Bytes → Rational → ℕ → Type 0
-PlaceIs tail q k = (qs : List Rational) → Every Proper qs → tail ≡ tail_bytes qs → k ≡ place_in qs q
+pub first_in_tail :
+    (tail : Bytes) (q : Rational) (r : Option ℕ) → FoundAt tail q r → (qs : List Rational) → Every Proper qs →
+    tail ≡ tail_bytes qs → length qs ≤ 2048 → place_or r (length qs) ≡ place_in qs q
+first_in_tail tail q r found qs proper e few = go r found
+  where
+    d : Rational
+    d = whole (pos 0)
 
--- what `real_at` says of the record from byte `at` on
-abbrev pub ReadAt : Bytes → ℕ → Rational → Type 0
-ReadAt tail at v = (q : Rational) → Proper q → take 32 (drop at tail) ≡ real_record q → v ≡ q
+    all : count tail ≡ length qs
+    all = omega (arith, few, ap length e, tail_bytes-length qs)
 
-module _ {tail : Bytes} {q : Rational} where
-  pub placed_none : Placed tail q 0
-  placed_none = record { most = omega arith; left = λ qs p e. sym (zero-add (place_in qs q)) }
+    test : (k : ℕ) → k < length qs → eq_q (rational_of (record_of tail k)) q ≡ eq_q (get_or qs k d) q
+    test k h = ap (λ x. eq_q x q) (tail_number qs tail k d proper e few h)
 
-  module _ {k : ℕ} (s : Placed tail q k) where
-    module _ (h : k < length tail / 32) {v : Rational} (read : ReadAt tail (32 * k) v) {t : Bool} (is : t ≡ eq_q v q) where
-      -- by whether constant k is q
-      placed_by :
-          (u : Bool) → t ≡ u → (qs : List Rational) → Every Proper qs → tail ≡ tail_bytes qs →
-          place_in qs q ≡ k + (elim u [ true ↦ 0 | false ↦ suc (place_in (drop (suc k) qs) q) ])
-      unfolding place_in
-      placed_by u u-is qs proper e =
-          let inside : k < length qs = omega (arith, h, ap length e, tail_bytes-length qs) in
-          let d : Rational = whole (pos 0) in
-          let same : v ≡ get_or qs k d =
-          read (get_or qs k d) (every_at qs d proper k inside)
-          (ap (λ l. take 32 (drop (32 * k) l)) e ∙ tail_record qs k d inside) in
-          let test : eq_q (get_or qs k d) q ≡ u = ap (λ x. eq_q x q) (sym same) ∙ sym is ∙ u-is in
-          s.left qs proper e ∙ ap (λ n. k + n) (ap (λ l. place_in l q) (drop-cons qs k d inside) ∙ rw (test, place_in))
+    go : (r : Option ℕ) → FoundAt tail q r → place_or r (length qs) ≡ place_in qs q
+    go None f =
+        first_place qs q d (length qs) (omega arith)
+        (λ j l. sym (test j l) ∙ f j (omega arith) (omega (arith, l, all))) (λ l. absurd (omega (arith, l)))
+    go (Some i) f =
+        first_place qs q d i (omega (arith, f.1, all))
+        (λ j l. sym (test j (omega (arith, l, f.1, all))) ∙ f.3 j (omega arith) l) (λ l. sym (test i l) ∙ f.2)
 
-      pub placed-more : t ≡ false → Placed tail q (k + 1)
-      placed-more left =
-          record {
-            most = omega arith;
-            left = λ qs p e. rw add-one (placed_by false left qs p e ∙ omega arith);
-          }
-
-      pub placed-found : t ≡ true → PlaceIs tail q k
-      placed-found taken qs p e = sym (placed_by true taken qs p e ∙ omega arith)
-
-    pub placed_end : length tail / 32 ≤ k → PlaceIs tail q (length tail / 32)
-    placed_end h qs p e =
-        let all : length qs ≤ k = omega (arith, h, ap length e, tail_bytes-length qs) in
-        let last : k + place_in [] q ≡ length tail / 32 = omega (arith, no_place q, s.most, h) in
-        sym (s.left qs p e ∙ ap (λ l. k + place_in l q) (drop_of_length-le qs all) ∙ last)
+pub tail_bound : (tail : Bytes) (q : Rational) (r : Option ℕ) → FoundAt tail q r → IfSome r (λ k. k < length tail / 32)
+tail_bound tail q None f = tt
+tail_bound tail q (Some i) f = omega (arith, f.1)

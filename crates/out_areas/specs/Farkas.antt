@@ -1,6 +1,9 @@
 -- The elaboration of one step, src/elaborator/local/farkas.rs: its records with rule 6 turned to 5, and the numbers
 -- that it inferred appended as A records of real constants. A constant that neither the book nor the tail has is added
 -- to the tail.
+use Rattle.runs.specs.declared.rule.Rule.{Rule}
+use Rattle.runs.specs.declared.rule.Rule.TheVariants.{PolySimpRel, PolySimp, BoundedFarkas, LaGeneric, LaTautology}
+use Rattle.runs.specs.declared.rule.Rule.TheVariants.{LaTotality, LaDisequality, LaRwEq, Assume}
 use Rattle.std.specs.Prelude.{Bool, true, false, ◌&&◌, List, [], ◌∷◌, ◌++◌, ℕ, zero, suc, ◌+◌, ◌*◌, ◌/◌, leb, ltb}
 use Rattle.std.specs.Prelude.{length, replicate}
 use Rattle.std.specs.Prelude.{Option, Some, None}
@@ -11,10 +14,7 @@ use Rattle.terms.specs.Term.Term.{integer, rational, bitvector, atom, op}
 use Rattle.terms.specs.Format as format
 use Rattle.terms.specs.Book.{count, tree}
 use Rattle.terms.specs.Format.{max_run_records, run_record_bytes}
-use Rattle.runs.specs.Rule.{Rule, rule_number}
-use Rattle.runs.specs.Rule.Rule.{assume, la_rw_eq, la_disequality, la_totality, la_tautology, la_generic}
-use Rattle.runs.specs.Rule.Rule.{bounded_farkas}
-use Rattle.runs.specs.Rule.Rule.{poly_simp, poly_simp_rel}
+use Rattle.runs.specs.Rule.{rule_number}
 use Rattle.runs.specs.Run.{Step, S, C, A, record_bytes, premise_bytes, term_bytes}
 
 -- ---- constants
@@ -71,15 +71,15 @@ add_reals book w (q ∷ qs) = add_reals book (add_real book w q) qs
 
 -- bounded_farkas becomes la_generic
 abbrev pub elaborated_rule : Rule → Rule
-elaborated_rule assume = assume
-elaborated_rule la_rw_eq = la_rw_eq
-elaborated_rule la_disequality = la_disequality
-elaborated_rule la_totality = la_totality
-elaborated_rule la_tautology = la_tautology
-elaborated_rule la_generic = la_generic
-elaborated_rule bounded_farkas = la_generic
-elaborated_rule poly_simp = poly_simp
-elaborated_rule poly_simp_rel = poly_simp_rel
+elaborated_rule Assume = Assume
+elaborated_rule LaRwEq = LaRwEq
+elaborated_rule LaDisequality = LaDisequality
+elaborated_rule LaTotality = LaTotality
+elaborated_rule LaTautology = LaTautology
+elaborated_rule LaGeneric = LaGeneric
+elaborated_rule BoundedFarkas = LaGeneric
+elaborated_rule PolySimp = PolySimp
+elaborated_rule PolySimpRel = PolySimpRel
 
 unfoldable pub step_bytes : Step → Bytes
 step_bytes s =

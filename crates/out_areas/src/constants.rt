@@ -1,13 +1,13 @@
 // Real constants: in the book, and in a tail, which is their records one behind the other.
-ghost use Rattle.std.specs.Prelude.{◌≡◌, List, ◌+◌, ◌/◌, ◌≤◌, length, take, drop, replicate, nat_abs};
-ghost use Rattle.numbers.specs.Rational.{Rational, limit, Proper};
+ghost use Rattle.std.specs.Prelude.{◌≡◌, List, ◌+◌, ◌/◌, ◌≤◌, ◌<◌, length, replicate, IfSome};
+ghost use Rattle.numbers.specs.Rational.{Rational, Proper};
 ghost use Rattle.numbers.specs.Bytes.{put, complement};
-ghost use Rattle.terms.specs.Format.{record_bytes};
-ghost use Rattle.terms.specs.Book.{count, tree};
+ghost use Rattle.terms.specs.Format.{max_records, record_bytes};
+ghost use Rattle.terms.specs.Book.{count, rational_of, record_of, tree};
 ghost use Rattle.runs.specs.Run.{Every};
 ghost use Rattle.out_areas.specs.Farkas.{real_record, is_real, find_real, place_in, tail_bytes, place_or};
 
-use numbers::bytes::{byte, complement, read_u64, signed_u64, write_u32};
+use numbers::bytes::{byte, paste, read_u64, signed_u64};
 use numbers::number::Number;
 use terms::format::{FIRST_AT, REAL, RECORD_BYTES, SECOND_AT};
 use terms::records::{count, record};
@@ -24,55 +24,39 @@ fn is_real(book: &[u8], id: usize, q: Number) -> bool
         }
 }
 
-// The record of the real constant q in the book; the number of records where there is none.
-pub(crate) fn find_real(book: &[u8], q: Number) -> usize
-    ensures { result ≡ place_or (find_real (count book.now) book.now q 0) (count
-        book.now) }
+// The record of the real constant q in the book.
+pub(crate) fn find_real(book: &[u8], q: Number) -> Option<usize>
+    ensures { result ≡ find_real (count book.now) book.now q 0 }
 {
-    let n = count(book);
-    for id in 0..n {
-        if is_real(book, id, q) {
-            return id;
-        }
-    }
-    n
+    (0..count(book)).find(|id| is_real(book, *id, q))
 }
 
-// The number in a real constant's record, from byte `at` of a tail on.
-fn real_at(tail: &[u8], at: usize) -> Number
-    requires { at + record_bytes ≤ length tail.now }
-    ensures { (q : Rational) → Proper q →
-        take record_bytes (drop at tail.now) ≡ real_record q → result ≡ q }
+// The number in record k of a tail, as that of a real constant.
+fn real_at(tail: &[u8], k: usize) -> Number
+    ensures { result ≡ rational_of (record_of tail.now k) }
 {
+    let r = record(tail, k);
     Number {
-        num: signed_u64(read_u64(tail, at + FIRST_AT)),
-        den: signed_u64(read_u64(tail, at + SECOND_AT)),
+        num: signed_u64(read_u64(r, FIRST_AT)),
+        den: signed_u64(read_u64(r, SECOND_AT)),
     }
 }
 
-// The place of q among the constants of a tail; their number where it is not among them.
-pub(crate) fn place_in(tail: &[u8], q: Number) -> usize
-    ensures value { (qs : List Rational) → Every Proper qs → tail.now ≡ tail_bytes qs → result ≡ place_in qs q }
-    ensures upper_bound { result ≤ length tail.now / record_bytes }
+// The place of q among the constants of a tail.
+pub(crate) fn place_in(tail: &[u8], q: Number) -> Option<usize>
+    ensures value { (qs : List Rational) → Every Proper qs → tail.now ≡ tail_bytes qs →
+        length qs ≤ max_records → place_or result (length qs) ≡ place_in qs q }
+    ensures upper_bound { IfSome result (λ k. k < length tail.now / record_bytes) }
 {
-    let n = tail.len() / RECORD_BYTES;
-    for k in 0..n {
-        if real_at(tail, RECORD_BYTES * k).eq(q) {
-            return k;
-        }
-    }
-    n
+    (0..count(tail)).find(|k| real_at(tail, *k).eq(q))
 }
 
-// Eight bytes in two's complement, of a number in range.
+// Eight bytes in two's complement.
 fn write_signed(s: &mut [u8], at: usize, n: i64)
-    requires { (nat_abs n ≤ limit) × (at + 8 ≤ length s.old) }
+    requires { at + 8 ≤ length s.old }
     ensures { s.new ≡ put 8 (complement 8 n) s.old at }
 {
-    // The upper half of a negative number is all ones.
-    let sign = if n < 0 { u32::MAX } else { 0 };
-    write_u32(s, at, complement(n));
-    write_u32(s, at + 4, sign);
+    paste(s, at, &n.to_le_bytes());
 }
 
 // The record of the real constant q, in 32 zeros.

@@ -1,24 +1,24 @@
 // The out areas: what is written to them of a step, and the numbers that it infers.
-ghost use Rattle.std.specs.Prelude.{◌≡◌, false, ◌&&◌, ◌+◌, ◌/◌, ◌≤◌, leb, length};
+ghost use Rattle.std.specs.Prelude.{◌≡◌, false, ◌&&◌, ◌+◌, ◌/◌, ◌≤◌, ◌<◌, leb, length, IfSome};
 ghost use Rattle.numbers.specs.Rational.{Proper};
 ghost use Rattle.numbers.specs.Bytes.{Bytes};
 ghost use Rattle.terms.specs.Format.{record_bytes, run_record_bytes};
-ghost use Rattle.runs.specs.Rule.{Rule, rule_number};
 ghost use Rattle.runs.specs.Memory.StepParts.{parts_in, step_in, StandsIn};
-ghost use Rattle.out_areas.specs.Farkas.{place_in, Written, add_real, elaborated_rule, fits};
+ghost use Rattle.out_areas.specs.Farkas.{place_in, place_or, Written, add_real, elaborated_rule, fits};
 ghost use Rattle.out_areas.specs.Memory.OutAreas.{Holds, Writes, WritesOne, with_arg, with_constant, with_step};
 ghost use Rattle.out_areas.specs.Memory.OutAreas.{more_real};
 
 use crate::constants::{find_real, place_in, put_real};
-use numbers::bytes::{byte, paste, room};
+use numbers::bytes::{paste, room};
 use numbers::number::Number;
-use runs::rule::{BOUNDED_FARKAS, LA_GENERIC};
-use runs::run::StepParts;
+use runs::rule::{Rule, rule_number};
+use runs::run::{StepParts, rule_in};
 use terms::format::{ARGUMENT, BYTE_AT, MAX_RUN_BYTES, RECORD_BYTES, RUN_RECORD_BYTES};
 use terms::records::count;
 
-// The bytes written to each out area so far; whether they no longer take what is to be written.
-#[derive(Clone, Copy)]
+// The bytes written to each out area so far; whether they no longer take what is to be written. A flag and no Option:
+// the counts stand also when an area is full, and contracts say by them which bytes are as they were.
+#[derive(Clone, Copy, Debug, PartialEq, Eq)]
 pub struct Out {
     pub run: usize,
     pub tail: usize,
@@ -45,7 +45,8 @@ fn add_arg(outrun: &mut [u8], out: Out, n: usize) -> Out
     if !goes_in(outrun, out.run, RUN_RECORD_BYTES, MAX_RUN_BYTES) {
         return Out { full: true, ..out };
     }
-    let record = [ARGUMENT, 0, (n % 256) as u8, (n / 256 % 256) as u8];
+    let [low, high, ..] = n.to_le_bytes();
+    let record = [ARGUMENT, 0, low, high];
     paste(outrun, out.run, &record);
     Out {
         run: out.run + RUN_RECORD_BYTES,
@@ -75,16 +76,13 @@ fn add_constant(book: &[u8], outtail: &mut [u8], out: Out, q: Number) -> Out
     }
 }
 
-// The place of q in the tail that is written; 0 where nothing is.
-fn place_of(outtail: &[u8], out: Out, q: Number) -> usize
-    ensures value { (b o : Bytes) (w : Written) → out.full ≡ false → Holds b o outtail.now out w → result ≡
-        place_in w.tail q }
-    ensures upper_bound { result ≤ length outtail.now / record_bytes }
+// The place of q in the tail that is written.
+fn place_of(outtail: &[u8], out: Out, q: Number) -> Option<usize>
+    ensures value { (b o : Bytes) (w : Written) → out.full ≡ false → Holds b o outtail.now out w →
+        place_or result (length w.tail) ≡ place_in w.tail q }
+    ensures upper_bound { IfSome result (λ k. k < out.tail / record_bytes) }
 {
-    if outtail.len() < out.tail {
-        return 0;
-    }
-    place_in(&outtail[..out.tail], q)
+    place_in(outtail.get(..out.tail)?, q)
 }
 
 // An inferred number as an argument; a constant that neither the book nor the tail has is added to the tail.
@@ -98,27 +96,24 @@ pub fn add_real(book: &[u8], outrun: &mut [u8], outtail: &mut [u8], out: Out, q:
     if out.full {
         return out;
     }
-    let n = count(book);
-    let i = find_real(book, q);
-    if i < n {
+    if let Some(i) = find_real(book, q) {
         return add_arg(outrun, out, i);
     }
-    let k = place_of(outtail, out, q);
-    if k < out.tail / RECORD_BYTES {
+    let n = count(book);
+    if let Some(k) = place_of(outtail, out, q) {
         return add_arg(outrun, out, n + k);
     }
     let grown = add_constant(book, outtail, out, q);
-    add_arg(outrun, grown, n + k)
+    add_arg(outrun, grown, n + out.tail / RECORD_BYTES)
 }
 
 // `bounded_farkas` becomes `la_generic`.
-fn elaborated_rule(rule: u8) -> u8
-    ensures { (x : Rule) → rule ≡ rule_number x → result ≡ rule_number (elaborated_rule x) }
+fn elaborated_rule(rule: Rule) -> Rule
+    ensures { result ≡ elaborated_rule rule }
 {
-    if rule == BOUNDED_FARKAS {
-        LA_GENERIC
-    } else {
-        rule
+    match rule {
+        Rule::BoundedFarkas => Rule::LaGeneric,
+        other => other,
     }
 }
 
@@ -135,7 +130,7 @@ pub fn add_step(outrun: &mut [u8], out: Out, step: &[u8], p: StepParts) -> Out
         return Out { full: true, ..out };
     }
     paste(outrun, out.run, &step[..p.args]);
-    outrun[out.run + BYTE_AT] = elaborated_rule(byte(step, BYTE_AT));
+    outrun[out.run + BYTE_AT] = rule_number(elaborated_rule(rule_in(step)));
     Out {
         run: out.run + p.args,
         ..out

@@ -1,5 +1,6 @@
 -- `poly_simp` on a prepared work area: the equality's sides are records of the book, its sort is found in the work
 -- area, and what stands behind the sorts is lent as an empty stack and comes back as it was.
+use Rattle.std.specs.Prelude.{Option, Some, Ok}
 use mathlib.Core.Path.{◌≡◌, refl, sym, ap, subst, ◌∙◌}
 use mathlib.Core.Bool.{true}
 use mathlib.Core.List.{List, [], ◌∷◌, ◌++◌}
@@ -20,24 +21,20 @@ use Rattle.terms.proofs.Readings.{binary-shape}
 use Rattle.terms.proofs.RecordReadings.{arguments_of_record}
 use Rattle.terms.proofs.RecordBytes.{earlier-before}
 use Rattle.numbers.proofs.Truths.{both}
-use Rattle.rules.specs.Refusal.{Refusal, ◌>>=◌, assert, number}
-use Rattle.std.specs.Prelude.{Ok, Err}
-use Rattle.rules.specs.Refusal.Refusal.{polynomials_not_equal}
+use Rattle.rules.specs.Refusal.{Result, ◌>>=◌, assert}
+use Rattle.rules.specs.declared.refusal.Refusal.TheVariants.{PolynomialsNotEqual}
 use Rattle.rules.specs.Limits.{Limits}
 use Rattle.index_map.specs.IndexMap.{sub}
 use Rattle.rules.specs.Shapes.{Clause, only_literal, binary_err}
 use Rattle.rules.specs.Memory.ShapeRecords.{pair_of}
-use Rattle.rules.specs.Memory.Parts.{named, numbers_in, Inside, verdict_of, Laid, Ready}
+use Rattle.rules.specs.Memory.Parts.{named, numbers_in, Inside, Laid, Ready}
 use Rattle.polynomial.specs.Polynomial.{Polynomial, monomials, is_nought}
 use Rattle.polynomial_walk.specs.PolynomialTerms.{from_term}
 use Rattle.poly_simp.specs.PolySimp.{reduced, poly_simp}
 use Rattle.poly_simp.specs.Memory.PolynomialSteps.{reduced_by, differs, equal_sides}
-use Rattle.rules.specs.declared.verdict.Verdict.{Verdict}
-use Rattle.rules.specs.declared.verdict.Verdict.TheVariants as verdict
 use Rattle.book.proofs.ArgumentsBelow.{args-below}
 use Rattle.rules.proofs.ShapeSteps.{OnlyIn, literal_is}
 use Rattle.poly_simp.proofs.SortBounds.{sort-small, reduced_is}
-use Rattle.std.specs.Prelude.{Option, Some}
 
 -- ---- the records
 
@@ -77,8 +74,8 @@ two-below b i x y (a ∷ c ∷ l) h e =
     )
 
 pub sides-inside :
-    (b : Bytes) (i o : ℕ) {w : Option (ℕ × ℕ)} {x y : ℕ} → Children b i w (binary o (tree b i)) → w ≡ Some (x, y) → Laid b →
-    i < count b → (x < count b) × (y < count b)
+    (b : Bytes) (i o : ℕ) {w : Option (ℕ × ℕ)} {x y : ℕ} → Children b i w (binary o (tree b i)) → w ≡ Some (x, y) →
+    Laid b → i < count b → (x < count b) × (y < count b)
 unfolding as_op
 sides-inside b i o {x = x} {y = y} c e laid inside =
     let args = arg_bytes (record_of b i) in
@@ -107,40 +104,27 @@ lent_same w is =
 
 -- ---- the verdict
 
-module _ (l : Limits) (n : ℕ) (conclusion : Clause) where
-  pub no_clause :
-      {r : Refusal} → only_literal conclusion ≡ Err r →
-      verdict.Refused (number r) ≡ verdict_of (poly_simp l conclusion n)
-  unfolding poly_simp ◌>>=◌
-  no_clause e = rw e
+module _
+    (l : Limits) (n : ℕ) (conclusion : Clause) {phi : Term} (literal : only_literal conclusion ≡ Ok phi) (b : Bytes)
+    (t s : ℕ) (pair : binary_err Equals phi ≡ Ok (pair_of b t s)) where
+  sides-are :
+      Laid b → t < count b →
+      poly_simp l conclusion n ≡ equal_sides l (sort_code (sort (tree b t))) (tree b t) (tree b s) n
+  unfolding poly_simp equal_sides differs ◌>>=◌
+  sides-are laid inside =
+      let same : reduced (sort (tree b t)) ≡ reduced_by (sort_code (sort (tree b t))) =
+      λ i p. reduced_is b laid t inside p i in
+      rw (literal, pair)
+      (ap
+      (λ (f : Polynomial → Polynomial).
+      from_term l (tree b t) n >>= λ p. from_term l (tree b s) p.visits >>= λ q.
+      sub monomials l (f p.sum) (f q.sum) >>= λ d.
+      assert (is_nought d) PolynomialsNotEqual >>= λ u. Ok q.visits)
+      same)
 
-  module _ {phi : Term} (literal : only_literal conclusion ≡ Ok phi) where
-    pub no_equality :
-        {r : Refusal} → binary_err Equals phi ≡ Err r →
-        verdict.Refused (number r) ≡ verdict_of (poly_simp l conclusion n)
-    unfolding poly_simp ◌>>=◌
-    no_equality e = rw (literal, e)
-
-    module _ (b : Bytes) (t s : ℕ) (pair : binary_err Equals phi ≡ Ok (pair_of b t s)) where
-      sides-are :
-          Laid b → t < count b →
-          poly_simp l conclusion n ≡ equal_sides l (sort_code (sort (tree b t))) (tree b t) (tree b s) n
-      unfolding poly_simp equal_sides differs ◌>>=◌
-      sides-are laid inside =
-          let same : reduced (sort (tree b t)) ≡ reduced_by (sort_code (sort (tree b t))) =
-          λ i p. reduced_is b laid t inside p i in
-          rw (literal, pair)
-          (ap
-          (λ (f : Polynomial → Polynomial).
-          from_term l (tree b t) n >>= λ p. from_term l (tree b s) p.visits >>= λ q.
-          sub monomials l (f p.sum) (f q.sum) >>= λ d.
-          assert (is_nought d) polynomials_not_equal >>= λ u. Ok q.visits)
-          same)
-
-      pub sides-verdict :
-          {w : Bytes} → Ready b w → t < count b → {x : Verdict} {sort' : ℕ} → sort' ≡ get_or w t 0 →
-          x ≡ verdict_of (equal_sides l sort' (tree b t) (tree b s) n) → x ≡ verdict_of (poly_simp l conclusion n)
-      sides-verdict ready inside {x} {sort'} is made =
-          let code : sort' ≡ sort_code (sort (tree b t)) = is ∙ ready.sorts.held t inside in
-          made ∙ ap (λ k. verdict_of (equal_sides l k (tree b t) (tree b s) n)) code
-          ∙ ap verdict_of (sym (sides-are ready.sorts.laid inside))
+  pub sides-verdict :
+      {w : Bytes} → Ready b w → t < count b → {x : Result ℕ} {sort' : ℕ} → sort' ≡ get_or w t 0 →
+      x ≡ equal_sides l sort' (tree b t) (tree b s) n → x ≡ poly_simp l conclusion n
+  sides-verdict ready inside {x} {sort'} is made =
+      let code : sort' ≡ sort_code (sort (tree b t)) = is ∙ ready.sorts.held t inside in
+      made ∙ ap (λ k. equal_sides l k (tree b t) (tree b s) n) code ∙ sym (sides-are ready.sorts.laid inside)

@@ -12,8 +12,8 @@ use Rattle.numbers.specs.Bytes.{Bytes}
 use Rattle.terms.specs.Term.{Sort, Term, sort, sorts, sort_code, gives, first}
 use Rattle.numbers.specs.Choice.{when◌then◌else◌}
 use Rattle.terms.specs.Term.Sort.{bool, int, real, bits}
-use Rattle.terms.specs.Book.{record_of, sort_byte, field2, operator, is_width, atom_ok, atom_sort, unused, layout_ok, numbers}
-use Rattle.terms.specs.Book.{arg_bytes, arguments, node, forest, tree, all_below, count}
+use Rattle.terms.specs.Book.{record_of, sort_byte, field2, operator, is_width, atom_ok, atom_sort, unused, layout_ok}
+use Rattle.terms.specs.Book.{numbers, arg_bytes, arguments, node, forest, tree, all_below, count}
 use Rattle.terms.proofs.Trees.{tree-node}
 use Rattle.numbers.proofs.Truths.{both}
 use Rattle.terms.proofs.Nodes.{Laid, an_integer, a_rational, a_vector, an_atom, an_operation, laid, node-integer}

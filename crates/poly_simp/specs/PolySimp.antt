@@ -6,7 +6,7 @@ use Rattle.terms.specs.Term.{Sort, sort}
 use Rattle.terms.specs.Term.Sort.{bool, int, real, bits}
 use Rattle.rules.specs.Refusal.{Result, ◌>>=◌, assert}
 use Rattle.std.specs.Prelude.{Ok}
-use Rattle.rules.specs.Refusal.Refusal.{polynomials_not_equal}
+use Rattle.rules.specs.declared.refusal.Refusal.TheVariants.{PolynomialsNotEqual}
 use Rattle.rules.specs.Limits.{Limits}
 use Rattle.index_map.specs.IndexMap.{Map, combination, sub}
 use Rattle.rules.specs.Shapes.{Clause, only_literal, binary_err}
@@ -35,5 +35,5 @@ poly_simp l conclusion n = do
   p ← from_term l t n
   q ← from_term l s p.visits
   d ← sub monomials l (reduced (sort t) p.sum) (reduced (sort t) q.sum)
-  _ ← assert (is_nought d) polynomials_not_equal
+  _ ← assert (is_nought d) PolynomialsNotEqual
   Ok q.visits

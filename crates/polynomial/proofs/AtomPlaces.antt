@@ -34,7 +34,8 @@ atom_of b [] t s a = a.0
 atom_of b (u ∷ f) t s a = atom_of b f t s a.1
 
 -- an atom more
-pub atoms_with : (b : Bytes) (f : Monomial) {t : Term} (s : Monomial) → Atom b t → Atoms b (f ++ s) → Atoms b (f ++ t ∷ s)
+pub atoms_with :
+    (b : Bytes) (f : Monomial) {t : Term} (s : Monomial) → Atom b t → Atoms b (f ++ s) → Atoms b (f ++ t ∷ s)
 unfolding Atoms
 atoms_with b [] s a h = (a, h)
 atoms_with b (u ∷ f) s a h = (h.0, atoms_with b f s a h.1)

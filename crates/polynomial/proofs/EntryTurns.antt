@@ -1,6 +1,7 @@
 -- A loop over the entries of a map, each of which is worked into an area of a stack: with the first k of n entries
 -- worked in, what is left makes the whole (`Looping`). This is the loop of `mul_each`, `mul_left` and `insert_scaled`;
 -- what each of them works in, and for which stacks, is a family of tasks.
+use Rattle.std.specs.Prelude.{Ok, Err}
 use mathlib.Core.Path.{◌≡◌, refl, sym, ◌∙◌, ap, subst}
 use mathlib.Core.List.{List, [], ◌∷◌}
 use Prim.Native.Nat.{ℕ, ◌+◌, ◌≤◌, ◌<◌}
@@ -10,14 +11,11 @@ use lib.Seq.{drop-cons, set-set}
 use Rattle.numbers.specs.Rational.{Rational}
 use Rattle.numbers.specs.Bytes.{Bytes}
 use Rattle.rules.specs.Refusal.{Result, ◌>>=◌}
-use Rattle.std.specs.Prelude.{Ok}
+use Rattle.rules.specs.declared.refusal.Refusal.{Refusal}
 use Rattle.index_map.specs.IndexMap.{Map}
 use Rattle.polynomial.specs.Polynomial.{Monomial}
-use Rattle.polynomial.specs.Memory.PolynomialArea.{places, Stacked, InsertsAt, Few, no_entry}
-use Rattle.rules.specs.Memory.Parts.{Refuses}
-use Rattle.polynomial.specs.declared.monomials.Inserted.{Inserted}
-use Rattle.polynomial.specs.declared.monomials.Inserted.TheVariants.{Length, Refused}
-use Rattle.rules.proofs.Results.{refused-then}
+use Rattle.polynomial.specs.Memory.PolynomialArea.{places, Stacked, InsertsAt, no_entry}
+use Rattle.rules.proofs.Results.{ends}
 
 abbrev pub Turn : Type 0
 Turn = Monomial × Rational → Map Monomial → Result (Map Monomial)
@@ -37,7 +35,7 @@ pub record Task : Type 0 where
   pub whole : Result (Map Monomial)
 
 -- the answer r and the bytes w are those of the task
-abbrev pub Does : Task → Bytes → Inserted → Type 0
+abbrev pub Does : Task → Bytes → Result ℕ → Type 0
 Does t w r = InsertsAt t.book w t.areas t.into r t.whole
 
 -- the area has len entries, and the turns from entry k on make the whole of them
@@ -48,7 +46,7 @@ pub record Left (t : Task) (w : Bytes) (len k : ℕ) : Type 0 where
   pub is : turns t.turn (drop k t.all) map ≡ t.whole
 
 -- the turn of entry k answers r
-abbrev pub Turned : {t : Task} {w : Bytes} {len k : ℕ} → Left t w len k → Bytes → Inserted → Type 0
+abbrev pub Turned : {t : Task} {w : Bytes} {len k : ℕ} → Left t w len k → Bytes → Result ℕ → Type 0
 Turned {t} {k = k} left w r =
     InsertsAt t.book w (set t.areas t.into left.map) t.into r
     (t.turn (get_or t.all k no_entry) left.map)
@@ -70,7 +68,7 @@ module _ {t : Task} {w : Bytes} {len k : ℕ} (left : Left t w len k) where
   at_once {w'} m h = subst (Stacked t.book w') (set-set t.areas t.into left.map m) h
 
   left-more :
-      {w' : Bytes} {longer : ℕ} → k < length t.all → Turned left w' (Length longer) → Left t w' longer (k + 1)
+      {w' : Bytes} {longer : ℕ} → k < length t.all → Turned left w' (Ok longer) → Left t w' longer (k + 1)
   unfolding ◌>>=◌
   left-more h made =
       record {
@@ -80,15 +78,15 @@ module _ {t : Task} {w : Bytes} {len k : ℕ} (left : Left t w len k) where
         is = rw made.is.0 at (next h);
       }
 
-  left-refused : {w' : Bytes} {c : ℕ} → k < length t.all → Turned left w' (Refused c) → Does t w' (Refused c)
-  left-refused {c = c} h made =
+  left-refused : {w' : Bytes} {r : Refusal} → k < length t.all → Turned left w' (Err r) → Does t w' (Err r)
+  left-refused h made =
       record {
         map = made.map;
         held = at_once made.map made.held;
-        is = (subst (Refuses c) (next h) (refused-then _ made.is.0), made.is.1);
+        is = (sym (next h) ∙ ends _ made.is.0, made.is.1);
       }
 
-  left_none : length t.all ≤ k → Does t w (Length len)
+  left_none : length t.all ≤ k → Does t w (Ok len)
   unfolding turns
   left_none h =
       record {
@@ -113,26 +111,23 @@ module _ {I : Type 0} {task : I → Task} {w₀ : Bytes} {n : ℕ} where
   loop_begin few left = record { few = few; size = refl; left = left }
 
   module _ (many : (i : I) → n ≡ length (task i).all) {w : Bytes} {len k : ℕ} (loop : Looping task w₀ n w len k) where
-    module _
-        (h : k < n)
-        (w' : Bytes)
-        (size : length w' ≡ length w)
-        (r : Inserted)
-        (few : Few r)
-        (turned : (i : I) → Turned (loop.left i) w' r) where
+    module _ (h : k < n) where
       here : (i : I) → k < length (task i).all
       here i = subst (λ z. k < z) (many i) h
 
-      pub loop_more : (longer : ℕ) → r ≡ Length longer → Looping task w₀ n w' longer (k + 1)
-      loop_more longer e =
+      pub loop_more :
+          {w' : Bytes} {longer : ℕ} → length w' ≡ length w → longer ≤ places →
+          ((i : I) → Turned (loop.left i) w' (Ok longer)) → Looping task w₀ n w' longer (k + 1)
+      loop_more size few turned =
           record {
-            few = rw e at few;
+            few = few;
             size = size ∙ loop.size;
-            left = λ i. left-more (loop.left i) (here i) (rw e at (turned i));
+            left = λ i. left-more (loop.left i) (here i) (turned i);
           }
 
-      pub loop_refused : (c : ℕ) → r ≡ Refused c → (i : I) → Does (task i) w' r
-      loop_refused c e i = rw e (left-refused (loop.left i) (here i) (rw e at (turned i)))
+      pub loop_refused :
+          {w' : Bytes} {r : Refusal} → ((i : I) → Turned (loop.left i) w' (Err r)) → (i : I) → Does (task i) w' (Err r)
+      loop_refused turned i = left-refused (loop.left i) (here i) (turned i)
 
-    pub loop_done : n ≤ k → (i : I) → Does (task i) w (Length len)
+    pub loop_done : n ≤ k → (i : I) → Does (task i) w (Ok len)
     loop_done h i = left_none (loop.left i) (subst (λ z. z ≤ k) (many i) h)

@@ -87,7 +87,9 @@ module _ (b : Bytes) where
       rest : ℕ → Bytes
       rest k = replicate (2 * (8 - k)) 0
 
-      go : (t : Bool) → eqb (length m) (length n) ≡ t → same_bytes (monomial_bytes m) (monomial_bytes n) ≡ same_monomial m n
+      go :
+          (t : Bool) → eqb (length m) (length n) ≡ t →
+          same_bytes (monomial_bytes m) (monomial_bytes n) ≡ same_monomial m n
       go true e =
           let size : length m ≡ length n = eqb-true (length m) (length n) e in
           ap (λ (k : ℕ). same_bytes (k ∷ (atom_bytes m ++ rest k)) (monomial_bytes n)) size

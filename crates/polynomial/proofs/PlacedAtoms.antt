@@ -1,6 +1,6 @@
 -- Atoms that are put into a monomial in its 17 bytes.
---     Shifted       the invariant of the loop of `put_atom`: the atoms from k on stand one place further up, and there is
---                   a gap at k
+--     Shifted       the invariant of the loop of `put_atom`: the atoms from k on stand one place further up, and there
+--                   is a gap at k
 --     Joining       that of `join`: the atoms before k are placed
 use mathlib.Core.Path.{◌≡◌, refl, sym, ap, ◌∙◌, subst}
 use mathlib.Core.Bool.{Bool, true, false}
@@ -18,8 +18,8 @@ use Rattle.polynomial.specs.Polynomial.{Monomial, place, joined}
 use Rattle.polynomial.specs.Memory.PolynomialArea.{atom_bytes, monomial_bytes, first_above, Atom, Atoms, Key}
 use Rattle.index_map.proofs.Zeros.{zeros-join}
 use Rattle.index_map.proofs.NumberBytes.{length-bytes_of}
-use Rattle.polynomial.proofs.AtomPlaces.{small, atom_of, atoms_with, front, read_at, write_at, front-more, key-parts, Turn}
-use Rattle.polynomial.proofs.AtomPlaces.{at, past, last, above-here, above-past, key-count}
+use Rattle.polynomial.proofs.AtomPlaces.{small, atom_of, atoms_with, front, read_at, write_at, front-more, key-parts}
+use Rattle.polynomial.proofs.AtomPlaces.{Turn, at, past, last, above-here, above-past, key-count}
 
 -- ---- an atom more
 
@@ -164,7 +164,8 @@ module _ {w₀ : Bytes} {at : ℕ} where
       s.parts b m h room (take at m) (drop at m) (sym (take-append-drop at m)) (omega (arith, s.above)) in
       let same : set w' 0 (get_or w₀ 0 0 + 1) ≡ set (put 2 (record_number t) w (2 * at + 1)) 0 (length m + 1) =
       cc (key-count h) in
-      rw same (filled (take at m) (drop at m) (take-append-drop at m) h room a g here (spot ∙ ap (first_above m) number))
+      rw same
+      (filled (take at m) (drop at m) (take-append-drop at m) h room a g here (spot ∙ ap (first_above m) number))
 
 pub shifted-more :
     {w₀ : Bytes} {at : ℕ} {w w' : Bytes} {k x : ℕ} → Shifted w₀ at w k → k ≤ get_or w₀ 0 0 → at < k →

@@ -1,5 +1,6 @@
 -- The tasks of the loops of `mul_each`, `mul_left` and `insert_scaled`, for the loop of EntryTurns: for which stacks
 -- each of them promises something, and that a turn is what the called function promises.
+use Rattle.std.specs.Prelude.{Ok, Err}
 use mathlib.Core.Path.{◌≡◌, refl, sym, ◌∙◌, subst}
 use mathlib.Core.Logic.{◌≢◌}
 use mathlib.Core.List.{List, [], ◌∷◌}
@@ -11,13 +12,12 @@ use Rattle.numbers.specs.Rational.{Rational}
 use Rattle.numbers.specs.Bytes.{Bytes}
 use Rattle.terms.specs.Readers.{within}
 use Rattle.rules.specs.Refusal.{Result, assert}
-use Rattle.rules.specs.Refusal.Refusal.{polynomial_size}
+use Rattle.rules.specs.declared.refusal.Refusal.{Refusal}
+use Rattle.rules.specs.declared.refusal.Refusal.TheVariants.{PolynomialSize}
 use Rattle.rules.specs.Limits.{Limits, limited, times}
 use Rattle.index_map.specs.IndexMap.{Map, combination, insert}
 use Rattle.polynomial.specs.Polynomial.{Monomial, Polynomial, monomials, joined, mul_each, mul_left, insert_scaled}
-use Rattle.polynomial.specs.Memory.PolynomialArea.{places, Key, Stacked, Few, enter_product, mul_entry, enter_scaled}
-use Rattle.polynomial.specs.declared.monomials.Inserted.{Inserted}
-use Rattle.polynomial.specs.declared.monomials.Inserted.TheVariants.{Length, Refused}
+use Rattle.polynomial.specs.Memory.PolynomialArea.{places, Key, Stacked, enter_product, mul_entry, enter_scaled}
 use Rattle.rules.proofs.Results.{bind_assoc, bind-same}
 use Rattle.polynomial.proofs.EntryTurns.{turns, Task, Does, Turned, Looping, loop_begin, loop_more, loop_refused}
 use Rattle.polynomial.proofs.EntryTurns.{loop_done}
@@ -33,7 +33,7 @@ unfolding turns mul_each enter_product
 each-turns l x c [] m = refl
 each-turns l x c (e ∷ r) m =
     let K : Map Monomial → Result (Map Monomial) = turns (enter_product l x c) r in
-    let short : Result (Unit {0}) = assert (within l.atoms (length x + length e.0)) polynomial_size in
+    let short : Result (Unit {0}) = assert (within l.atoms (length x + length e.0)) PolynomialSize in
     bind_assoc short _ K ∙ bind-same short λ z.
     bind_assoc (times l c e.1) _ K ∙ bind-same (times l c e.1) λ v.
     bind-same (insert monomials l m (joined x e.0) v) (each-turns l x c r)
@@ -77,7 +77,7 @@ module _ {w₀ x : Bytes} {c : Rational} {n m : ℕ} where
       }
 
   told :
-      {w : Bytes} {r : Inserted} → ((i : EachCase w₀ x c n m) → Does (each_task i) w r) → EachSays w₀ x c n m w r
+      {w : Bytes} {r : Result ℕ} → ((i : EachCase w₀ x c n m) → Does (each_task i) w r) → EachSays w₀ x c n m w r
   told does b p q s y stack many size key l =
       does (record {
         book = b;
@@ -93,26 +93,23 @@ module _ {w₀ x : Bytes} {c : Rational} {n m : ℕ} where
       })
 
   module _ {w : Bytes} {len k : ℕ} (loop : Multiplying w₀ x c n m w len k) where
-    module _
-        (h : k < n)
-        (w' : Bytes)
-        (size : length w' ≡ length w)
-        (r : Inserted)
-        (few : Few r)
-        (says : ProductSays w x c k len w' r) where
-      turned : (i : EachCase w₀ x c n m) → Turned (loop.left i) w' r
-      turned i =
+    module _ (h : k < n) {w' : Bytes} where
+      turned :
+          {r : Result ℕ} → ProductSays w x c k len w' r → (i : EachCase w₀ x c n m) → Turned (loop.left i) w' r
+      turned says i =
           let left = loop.left i in
           says i.book i.left i.right left.map i.monomial left.held
           (subst (λ z. k < z) i.many h) left.size i.key i.limit
 
-      pub each_more : (longer : ℕ) → r ≡ Length longer → Multiplying w₀ x c n m w' longer (k + 1)
-      each_more = loop_more (λ i. i.many) loop h w' size r few turned
+      pub each_more :
+          {longer : ℕ} → length w' ≡ length w → longer ≤ places → ProductSays w x c k len w' (Ok longer) →
+          Multiplying w₀ x c n m w' longer (k + 1)
+      each_more size few says = loop_more (λ i. i.many) loop h size few (turned says)
 
-      pub each-refused : (code : ℕ) → r ≡ Refused code → EachSays w₀ x c n m w' r
-      each-refused code e = told (loop_refused (λ i. i.many) loop h w' size r few turned code e)
+      pub each-refused : {r : Refusal} → ProductSays w x c k len w' (Err r) → EachSays w₀ x c n m w' (Err r)
+      each-refused says = told (loop_refused (λ i. i.many) loop h (turned says))
 
-    pub each-done : n ≤ k → EachSays w₀ x c n m w (Length len)
+    pub each-done : n ≤ k → EachSays w₀ x c n m w (Ok len)
     each-done h = told (loop_done (λ i. i.many) loop h)
 
 -- ---- mul_left
@@ -165,32 +162,30 @@ module _ {w₀ : Bytes} {p n : ℕ} {constant : Rational} where
       }
 
   told-left :
-      {w : Bytes} {r : Inserted} → ((i : LeftCase w₀ p n constant) → Does (left_task i) w r) →
+      {w : Bytes} {r : Result ℕ} → ((i : LeftCase w₀ p n constant) → Does (left_task i) w r) →
       LeftSays w₀ p n constant w r
   told-left does b u q stack many size l =
       does (record { book = b; left = u; right = q; stack = stack; many = many; size = size; limit = l })
 
   module _ {w : Bytes} {len k : ℕ} (loop : MultiplyingLeft w₀ p n constant w len k) where
-    module _
-        (h : k < p)
-        (w' : Bytes)
-        (size : length w' ≡ length w)
-        (r : Inserted)
-        (few : Few r)
-        (says : EntrySays w k n constant len w' r) where
-      turned_left : (i : LeftCase w₀ p n constant) → Turned (loop.left i) w' r
-      turned_left i =
+    module _ (h : k < p) {w' : Bytes} where
+      turned_left :
+          {r : Result ℕ} → EntrySays w k n constant len w' r → (i : LeftCase w₀ p n constant) →
+          Turned (loop.left i) w' r
+      turned_left says i =
           let left = loop.left i in
           says i.book i.left i.right left.map left.held
           (subst (λ z. k < z) i.many h) i.size left.size i.limit
 
-      pub left-more : (longer : ℕ) → r ≡ Length longer → MultiplyingLeft w₀ p n constant w' longer (k + 1)
-      left-more = loop_more (λ i. i.many) loop h w' size r few turned_left
+      pub left-more :
+          {longer : ℕ} → length w' ≡ length w → longer ≤ places → EntrySays w k n constant len w' (Ok longer) →
+          MultiplyingLeft w₀ p n constant w' longer (k + 1)
+      left-more size few says = loop_more (λ i. i.many) loop h size few (turned_left says)
 
-      pub left-refused : (code : ℕ) → r ≡ Refused code → LeftSays w₀ p n constant w' r
-      left-refused code e = told-left (loop_refused (λ i. i.many) loop h w' size r few turned_left code e)
+      pub left-refused : {r : Refusal} → EntrySays w k n constant len w' (Err r) → LeftSays w₀ p n constant w' (Err r)
+      left-refused says = told-left (loop_refused (λ i. i.many) loop h (turned_left says))
 
-    pub left-done : p ≤ k → LeftSays w₀ p n constant w (Length len)
+    pub left-done : p ≤ k → LeftSays w₀ p n constant w (Ok len)
     left-done h = told-left (loop_done (λ i. i.many) loop h)
 
 -- ---- insert_scaled
@@ -242,7 +237,7 @@ module _ {w₀ : Bytes} {j n : ℕ} {q : Rational} {t m : ℕ} where
       }
 
   told-scaled :
-      {w : Bytes} {r : Inserted} → ((i : ScaledCase w₀ j n q t m) → Does (scaled_task i) w r) →
+      {w : Bytes} {r : Result ℕ} → ((i : ScaledCase w₀ j n q t m) → Does (scaled_task i) w r) →
       AllScaledSays w₀ j n q t m w r
   told-scaled does b ms stack from into apart many size l =
       does (record {
@@ -258,15 +253,10 @@ module _ {w₀ : Bytes} {j n : ℕ} {q : Rational} {t m : ℕ} where
       })
 
   module _ {w : Bytes} {len k : ℕ} (loop : Scaling w₀ j n q t m w len k) where
-    module _
-        (h : k < n)
-        (w' : Bytes)
-        (size : length w' ≡ length w)
-        (r : Inserted)
-        (few : Few r)
-        (says : ScaledSays w j k q t len w' r) where
-      turned-scaled : (i : ScaledCase w₀ j n q t m) → Turned (loop.left i) w' r
-      turned-scaled i =
+    module _ (h : k < n) {w' : Bytes} where
+      turned-scaled :
+          {r : Result ℕ} → ScaledSays w j k q t len w' r → (i : ScaledCase w₀ j n q t m) → Turned (loop.left i) w' r
+      turned-scaled says i =
           let left = loop.left i in
           let ms : List (Map Monomial) = set i.areas t left.map in
           let other : get_or ms j [] ≡ get_or i.areas j [] = get_or-set_other i.areas t j left.map [] i.apart in
@@ -277,11 +267,13 @@ module _ {w₀ : Bytes} {j n : ℕ} {q : Rational} {t m : ℕ} where
           (says i.book ms left.held (rw long i.from) (rw long i.into) i.apart
           (rw other here) (rw same left.size) i.limit)
 
-      pub scaling_more : (longer : ℕ) → r ≡ Length longer → Scaling w₀ j n q t m w' longer (k + 1)
-      scaling_more = loop_more (λ i. i.many) loop h w' size r few turned-scaled
+      pub scaling_more :
+          {longer : ℕ} → length w' ≡ length w → longer ≤ places → ScaledSays w j k q t len w' (Ok longer) →
+          Scaling w₀ j n q t m w' longer (k + 1)
+      scaling_more size few says = loop_more (λ i. i.many) loop h size few (turned-scaled says)
 
-      pub scaling_refused : (code : ℕ) → r ≡ Refused code → AllScaledSays w₀ j n q t m w' r
-      scaling_refused code e = told-scaled (loop_refused (λ i. i.many) loop h w' size r few turned-scaled code e)
+      pub scaling_refused : {r : Refusal} → ScaledSays w j k q t len w' (Err r) → AllScaledSays w₀ j n q t m w' (Err r)
+      scaling_refused says = told-scaled (loop_refused (λ i. i.many) loop h (turned-scaled says))
 
-    pub scaling_done : n ≤ k → AllScaledSays w₀ j n q t m w (Length len)
+    pub scaling_done : n ≤ k → AllScaledSays w₀ j n q t m w (Ok len)
     scaling_done h = told-scaled (loop_done (λ i. i.many) loop h)

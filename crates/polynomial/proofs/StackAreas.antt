@@ -1,6 +1,6 @@
--- A stack of areas of polynomials in lent bytes: its areas one by one, and what lies above an area. A stack is its lowest
--- area and, above it, a stack (`stack-lowest`, `stack_above`, `stack_cons`); the laws go by that. Last, what a function leaves
--- that is lent an area.
+-- A stack of areas of polynomials in lent bytes: its areas one by one, and what lies above an area. A stack is its
+-- lowest area and, above it, a stack (`stack-lowest`, `stack_above`, `stack_cons`); the laws go by that. Last, what a
+-- function leaves that is lent an area.
 use mathlib.Core.Path.{◌≡◌, sym, ap, subst, ◌∙◌}
 use mathlib.Core.List.{List, [], ◌∷◌, ◌++◌, append_assoc}
 use Prim.Native.Nat.{ℕ, zero, suc, ◌+◌, ◌*◌, ◌-◌, ◌≤◌, ◌<◌}
@@ -12,9 +12,8 @@ use Rattle.rules.specs.Refusal.{Result}
 use Rattle.index_map.specs.IndexMap.{Map}
 use Rattle.index_map.specs.Memory.StoredMaps as maps
 use Rattle.polynomial.specs.Polynomial.{Monomial}
-use Rattle.polynomial.specs.Memory.PolynomialArea.{places, stored, blanked, Held, Inserts, stack_bytes, AllGood, part_at, Stacked}
-use Rattle.polynomial.specs.Memory.PolynomialArea.{InsertsAt}
-use Rattle.polynomial.specs.declared.monomials.Inserted.{Inserted}
+use Rattle.polynomial.specs.Memory.PolynomialArea.{places, stored, blanked, Held, Inserts, stack_bytes, AllGood}
+use Rattle.polynomial.specs.Memory.PolynomialArea.{part_at, Stacked, InsertsAt}
 use Rattle.index_map.proofs.Zeros.{zeros, zeros-join}
 use Rattle.polynomial.proofs.StoredMonomials.{goods, stored-length, held-length, clear_all}
 
@@ -64,7 +63,7 @@ module _ {b w : Bytes} {m : Map Monomial} {ms : List (Map Monomial)} (t : Stacke
   above_bytes =
       ap (drop 1600) t.bytes ∙ drop_at (stored places m) (stack_bytes ms (length w - 1600)) 1600 lowest-length
 
-  pub stack-lowest : Held b (take 1600 w) m
+  stack-lowest : Held b (take 1600 w) m
   unfolding AllGood
   stack-lowest = record { bytes = lowest-bytes; good = t.good.0 }
 
@@ -77,7 +76,7 @@ module _ {b w : Bytes} {m : Map Monomial} {ms : List (Map Monomial)} (t : Stacke
       sym (ap length (take-append-drop 1600 w)) ∙ length-append (take 1600 w) (drop 1600 w)
       ∙ ap (λ n. n + length (drop 1600 w)) (ap length lowest-bytes ∙ lowest-length)
 
-pub stack_cons :
+stack_cons :
     {b x v : Bytes} {m : Map Monomial} {ms : List (Map Monomial)} → Held b x m → Stacked b v ms →
     Stacked b (x ++ v) (m ∷ ms)
 unfolding stack_bytes AllGood
@@ -181,5 +180,5 @@ module _ {b w : Bytes} {ms : List (Map Monomial)} (t : Stacked b w ms) {j : ℕ}
   lent_clear {y} size e = lent-put {y = y} (rw (e, size) (clear_all (get_or ms j []) lent-held))
 
   pub lent-enter :
-      {y : Bytes} {r : Inserted} {d : Result (Map Monomial)} → Inserts b y r d → InsertsAt b (lent_back j y w) ms j r d
+      {y : Bytes} {r : Result ℕ} {d : Result (Map Monomial)} → Inserts b y r d → InsertsAt b (lent_back j y w) ms j r d
   lent-enter e = record { map = e.map; held = lent-put e.held; is = e.is }

@@ -17,8 +17,8 @@ use Rattle.index_map.proofs.HeldEntries.{Goods}
 use Rattle.index_map.proofs.MapEnds.{length-middle, all_join, all_cut, all_map}
 use Rattle.index_map.proofs.StoredBytes.{Fit, length-stored}
 use Rattle.polynomial.specs.Polynomial.{Monomial, same_monomial}
-use Rattle.polynomial.specs.Memory.PolynomialArea.{places, monomial_bytes, pasted, polynomials, stored, key_at, put_entry}
-use Rattle.polynomial.specs.Memory.PolynomialArea.{blanked, Key, Entry, Good, Held}
+use Rattle.polynomial.specs.Memory.PolynomialArea.{places, monomial_bytes, pasted, polynomials, stored, key_at}
+use Rattle.polynomial.specs.Memory.PolynomialArea.{put_entry, blanked, Key, Entry, Good, Held}
 use Rattle.polynomial.proofs.MonomialBytes.{length-monomial, same_bytes_lem}
 
 -- ---- the encoding

@@ -6,7 +6,7 @@ use Rattle.terms.specs.Term.{Term, same, record_number}
 use Rattle.terms.specs.Readers.{within}
 use Rattle.rules.specs.Refusal.{Result, ◌>>=◌, assert}
 use Rattle.std.specs.Prelude.{Ok}
-use Rattle.rules.specs.Refusal.Refusal.{polynomial_size}
+use Rattle.rules.specs.declared.refusal.Refusal.TheVariants.{PolynomialSize}
 use Rattle.rules.specs.Limits.{Limits, times}
 use Rattle.index_map.specs.IndexMap.{Map, Combination, Keys, combination, insert, is_empty}
 
@@ -41,7 +41,7 @@ monomials = record { same = same_monomial; most = λ l. l.monomials }
 unfoldable pub mul_each : Limits → Monomial → Rational → Map Monomial → Map Monomial → Result (Map Monomial)
 mul_each l x1 c1 [] m = Ok m
 mul_each l x1 c1 (e ∷ r) m = do
-  _ ← assert (within l.atoms (length x1 + length e.0)) polynomial_size
+  _ ← assert (within l.atoms (length x1 + length e.0)) PolynomialSize
   c ← times l c1 e.1
   m' ← insert monomials l m (joined x1 e.0) c
   mul_each l x1 c1 r m'

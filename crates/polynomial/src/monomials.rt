@@ -1,7 +1,7 @@
 // `IndexMap<Monomial, Rational>` of src/checker/rules/polynomial.rs: up to 64 entries in the order of insertion, in an
 // area of 1,600 bytes. A monomial is 17 bytes: how many atoms it has, and eight record numbers, of which those not used
 // are 0; so monomials are equal where their bytes are. A refusal leaves the area empty.
-ghost use Rattle.std.specs.Prelude.{◌≡◌, ℕ, ◌+◌, ◌*◌, ◌≤◌, ◌<◌, length, get_or};
+ghost use Rattle.std.specs.Prelude.{◌≡◌, ℕ, ◌+◌, ◌*◌, ◌≤◌, ◌<◌, length, get_or, MatchOption};
 ghost use Rattle.numbers.specs.Rational.{Makes};
 ghost use Rattle.numbers.specs.Bytes.{Bytes, number_at};
 ghost use Rattle.terms.specs.Term.{Term, record_number};
@@ -9,34 +9,17 @@ ghost use Rattle.rules.specs.Limits.{limited};
 ghost use Rattle.index_map.specs.IndexMap.{Map, insert};
 ghost use Rattle.polynomial.specs.Polynomial.{Monomial, monomials, place, joined};
 ghost use Rattle.polynomial.specs.Memory.PolynomialArea as area;
-ghost use Rattle.polynomial.specs.Memory.PolynomialArea.{first_above, key_at, keys_of, put_entry, blank_key, blanked};
-ghost use Rattle.polynomial.specs.Memory.PolynomialArea.{inserted_refusal, swapped, Atom, Key, Held, Inserts, Few};
+ghost use Rattle.polynomial.specs.Memory.PolynomialArea.{first_above, key_at, keys_of, put_entry, blanked};
+ghost use Rattle.polynomial.specs.Memory.PolynomialArea.{Atom, Key, Held, Inserts, Few};
 ghost use Rattle.polynomial.specs.Memory.PolynomialArea.{MonomialPlace, MonomialCount, NewMonomial};
 ghost use Rattle.polynomial.specs.Memory.PolynomialArea.{places, max_atoms, key_size, place_size, area_size};
-ghost use Rattle.rules.specs.Memory.Parts.{blank};
+ghost use Rattle.polynomial.specs.Memory.PolynomialArea.{polynomials};
 
-use numbers::bytes::{read_u16, same_bytes, write_u16};
+use index_map::stored_map::StoredMap;
+use numbers::bytes::{read_u16, write_u16};
 use numbers::number::Number;
+use rules::refusal::Refusal;
 use terms::areas::{MAX_MONOMIALS, MONOMIAL_BYTES, PLACE_BYTES};
-use terms::refusal::{NUMBER_RANGE, POLYNOMIAL_SIZE};
-
-// How many entries there are after an entry.
-#[derive(Clone, Copy)]
-pub enum Inserted {
-    Length(usize),
-    // Refusal 11 or 12.
-    Refused(u8),
-}
-
-// The number of an insertion's refusal; 0 where there is none.
-pub fn inserted_refusal(x: Inserted) -> u8
-    ensures { result ≡ inserted_refusal x }
-{
-    match x {
-        Inserted::Length(_) => 0,
-        Inserted::Refused(code) => code,
-    }
-}
 
 // ---- monomials
 
@@ -87,13 +70,15 @@ pub fn join(key: &mut [u8], other: &[u8])
 
 // ---- entries
 
-// Copies the monomial of entry k.
-pub fn copy_key(entries: &[u8], k: usize, key: &mut [u8])
-    requires { MonomialPlace k entries.now key.old }
-    ensures { key.new ≡ key_at entries.now k }
+// The monomial of entry k.
+pub fn key_at(entries: &[u8], k: usize) -> [u8; MONOMIAL_BYTES]
+    requires { (length entries.now ≡ area_size) × (k < places) }
+    ensures { result ≡ key_at entries.now k }
 {
     let start = PLACE_BYTES * k;
+    let mut key = [0u8; MONOMIAL_BYTES];
     key.copy_from_slice(&entries[start..start + MONOMIAL_BYTES]);
+    key
 }
 
 // The coefficient of entry k.
@@ -115,26 +100,43 @@ pub fn put_entry(entries: &mut [u8], k: usize, key: &[u8], value: Number)
     value.write(entries, end);
 }
 
-fn blank_entry(entries: &mut [u8], k: usize)
-    requires { (length entries.old ≡ area_size) × (k < places) }
-    ensures { entries.new ≡ put_entry entries.old k blank_key blank }
-{
-    let key = [0u8; MONOMIAL_BYTES];
-    put_entry(entries, k, &key, Number { num: 0, den: 0 });
+// Polynomials are maps of monomials.
+struct Polynomials;
+
+impl StoredMap for Polynomials {
+    type Key = [u8; MONOMIAL_BYTES];
+
+    ghost Of = { Monomial };
+
+    ghost encoding = { polynomials };
+
+    ghost room = { λ l k. (l ≡ area_size) × (k < places) };
+
+    #[tactic(auto, unfolding(crate::specs::Memory::PolynomialArea::key_at))]
+    fn key_at(entries: &[u8], k: usize) -> [u8; MONOMIAL_BYTES] {
+        key_at(entries, k)
+    }
+
+    fn value_at(entries: &[u8], k: usize) -> Number {
+        value_at(entries, k)
+    }
+
+    fn put_entry(entries: &mut [u8], k: usize, key: &[u8; MONOMIAL_BYTES], value: Number) {
+        put_entry(entries, k, key, value)
+    }
+
+    fn blank_entry(entries: &mut [u8], k: usize) {
+        put_entry(entries, k, &[0; MONOMIAL_BYTES], Number { num: 0, den: 0 })
+    }
 }
 
-// The place of the entry with a monomial; n where none of the n entries has it.
-fn find(entries: &[u8], n: usize, key: &[u8]) -> usize
+// The place of the entry with a monomial. The compiler compares parts of known length without a call.
+fn find(entries: &[u8], n: usize, key: &[u8; MONOMIAL_BYTES]) -> Option<usize>
     requires { MonomialCount n entries.now }
-    ensures { result ≡ area.place (keys_of entries.now n) key.now }
+    ensures { MatchOption result (n ≡ area.place (keys_of entries.now n) key.now)
+        (λ k. (k < n) × (k ≡ area.place (keys_of entries.now n) key.now)) }
 {
-    for k in 0..n {
-        let start = PLACE_BYTES * k;
-        if same_bytes(&entries[start..start + MONOMIAL_BYTES], key) {
-            return k;
-        }
-    }
-    n
+    (0..n).find(|k| key_at(entries, *k) == *key)
 }
 
 // Empties an area of n entries.
@@ -142,26 +144,12 @@ pub fn clear(entries: &mut [u8], n: usize)
     requires { MonomialCount n entries.old }
     ensures { entries.new ≡ blanked n entries.old }
 {
-    for k in 0..n {
-        blank_entry(entries, k);
-    }
+    Polynomials::clear(entries, n)
 }
 
-// The last of n entries takes the place of entry k.
-fn swap_remove(entries: &mut [u8], n: usize, k: usize)
-    requires { (length entries.old ≡ area_size) × ((n ≤ places) × (k < n)) }
-    ensures { entries.new ≡ swapped n k entries.old }
-{
-    let last = n - 1;
-    let mut key = [0u8; MONOMIAL_BYTES];
-    copy_key(entries, last, &mut key);
-    let value = value_at(entries, last);
-    put_entry(entries, k, &key, value);
-    blank_entry(entries, last);
-}
-
-// Adds to the entry that has the monomial, or enters another, up to 64; an entry that becomes 0 is removed.
-pub fn insert(entries: &mut [u8], n: usize, key: &[u8], value: Number) -> Inserted
+// Adds to the entry that has the monomial, or enters another, up to 64; an entry that becomes 0 is removed. How many
+// entries there are then.
+pub fn insert(entries: &mut [u8], n: usize, key: &[u8], value: Number) -> Result<usize, Refusal>
     requires { NewMonomial n key.now value entries.old }
     ensures few { Few result }
     ensures inserts { (b : Bytes) (p : Map Monomial) (m : Monomial) → Held b entries.old p → n ≡ length p →
@@ -169,25 +157,17 @@ pub fn insert(entries: &mut [u8], n: usize, key: &[u8], value: Number) -> Insert
         Inserts b entries.new result (insert monomials (limited l) p m value) }
 {
     if value.is_zero() {
-        return Inserted::Length(n);
+        return Ok(n);
     }
-    let k = find(entries, n, key);
-    if n <= k {
+    let mut sought = [0u8; MONOMIAL_BYTES];
+    sought.copy_from_slice(key);
+    let Some(k) = find(entries, n, &sought) else {
         if MAX_MONOMIALS <= n {
             clear(entries, n);
-            return Inserted::Refused(POLYNOMIAL_SIZE);
+            return Err(Refusal::PolynomialSize);
         }
         put_entry(entries, n, key, value);
-        return Inserted::Length(n + 1);
-    }
-    let Some(sum) = value_at(entries, k).add(value) else {
-        clear(entries, n);
-        return Inserted::Refused(NUMBER_RANGE);
+        return Ok(n + 1);
     };
-    if sum.is_zero() {
-        swap_remove(entries, n, k);
-        return Inserted::Length(n - 1);
-    }
-    put_entry(entries, k, key, sum);
-    Inserted::Length(n)
+    Polynomials::add(entries, n, k, &sought, value)
 }

@@ -1,6 +1,9 @@
 // `impl Polynomial` of src/checker/rules/polynomial.rs. A polynomial is its monomials, in an area of a stack of areas
 // (`stack`), and by value their number and the constant. The lowest area is the one that is filled; what lies above it
 // is free, and 0. A refusal leaves the stack empty.
+ghost use Rattle.std.specs.Prelude.{Err};
+ghost use Rattle.index_map.specs.Memory.Answers.{comb_with};
+ghost use Rattle.index_map.specs.Memory.Answers.{Has};
 ghost use Rattle.std.specs.Prelude.{◌≡◌, ◌≢◌, List, [], ◌∷◌, ℕ, ◌+◌, ◌*◌, ◌≤◌, ◌<◌, length, get_or, set};
 ghost use Rattle.numbers.specs.Rational.{Proper};
 ghost use Rattle.numbers.specs.Bytes.{Bytes};
@@ -10,55 +13,17 @@ ghost use Rattle.polynomial.specs.Polynomial.{Monomial, monomials, mul_each, mul
 ghost use Rattle.polynomial.specs.Memory.PolynomialArea as area;
 ghost use Rattle.polynomial.specs.Memory.PolynomialArea.{places, key_size, part_at, Key, Few, Stacked, StackHas};
 ghost use Rattle.polynomial.specs.Memory.PolynomialArea.{InsertsAt, AtCount, AtNew, AtScaled, AtProduct};
-ghost use Rattle.polynomial.specs.Memory.PolynomialArea.{PolyHas, poly_with, no_entry, enter_product, mul_entry};
-ghost use Rattle.polynomial.specs.Memory.PolynomialArea.{enter_scaled, combined_refusal, walk_refusal};
-ghost use Rattle.polynomial.specs.declared.polynomial.Combined.TheVariants as combined;
+ghost use Rattle.polynomial.specs.Memory.PolynomialArea.{no_entry, enter_product, mul_entry};
+ghost use Rattle.polynomial.specs.Memory.PolynomialArea.{enter_scaled};
 
-use crate::monomials::{Inserted, clear, copy_key, insert, inserted_refusal, join, value_at};
+use crate::monomials::{clear, insert, join, key_at, value_at};
+use index_map::combination::Combination;
 use numbers::number::Number;
+use rules::refusal::Refusal;
 use terms::areas::{MAX_ATOMS, MONOMIAL_BYTES, POLYNOMIAL_BYTES};
-use terms::refusal::{NUMBER_RANGE, POLYNOMIAL_SIZE};
 
-#[derive(Clone, Copy)]
-pub struct Polynomial {
-    // The number of entries.
-    pub len: usize,
-    pub constant: Number,
-}
-
-#[derive(Clone, Copy)]
-pub enum Combined {
-    Is(Polynomial),
-    // Refusal 11 or 12.
-    Refused(u8),
-}
-
-// What a walk has filled and the visits made so far.
-#[derive(Clone, Copy)]
-pub enum Walk {
-    Done(Polynomial, u32),
-    // Refusal 10, 11 or 12.
-    Refused(u8),
-}
-
-// The number of a refusal; 0 where there is none.
-pub fn combined_refusal(x: Combined) -> u8
-    ensures { result ≡ combined_refusal x }
-{
-    match x {
-        Combined::Is(_) => 0,
-        Combined::Refused(code) => code,
-    }
-}
-
-pub fn walk_refusal(x: Walk) -> u8
-    ensures { result ≡ walk_refusal x }
-{
-    match x {
-        Walk::Done(_, _) => 0,
-        Walk::Refused(code) => code,
-    }
-}
+// A combination of monomials.
+pub type Polynomial = Combination;
 
 // ---- one area of a stack
 
@@ -82,7 +47,13 @@ pub fn clear_at(stack: &mut [u8], j: usize, n: usize)
 }
 
 // Enters a monomial into area j.
-pub fn insert_at(stack: &mut [u8], j: usize, n: usize, key: &[u8], value: Number) -> Inserted
+pub fn insert_at(
+    stack: &mut [u8],
+    j: usize,
+    n: usize,
+    key: &[u8],
+    value: Number,
+) -> Result<usize, Refusal>
     requires { AtNew j n key.now value stack.old }
     ensures few { Few result }
     ensures inserts_at { (b : Bytes) (ms : List (Map Monomial)) (x : Monomial) → Stacked b stack.old ms →
@@ -97,7 +68,13 @@ pub fn insert_at(stack: &mut [u8], j: usize, n: usize, key: &[u8], value: Number
 
 // One monomial x of the left against entry k of the right, in area 1, into area 2: length, then coefficient, then
 // entry.
-fn enter_product(stack: &mut [u8], x: &[u8], c: Number, k: usize, m: usize) -> Inserted
+fn enter_product(
+    stack: &mut [u8],
+    x: &[u8],
+    c: Number,
+    k: usize,
+    m: usize,
+) -> Result<usize, Refusal>
     requires { StackHas 2 stack.old × ((length x.now ≡ key_size) × (Proper c × ((k < places) × (m ≤ places)))) }
     ensures few { Few result }
     ensures inserts_at { (b : Bytes) (p q s : Map Monomial) (y : Monomial) →
@@ -105,16 +82,15 @@ fn enter_product(stack: &mut [u8], x: &[u8], c: Number, k: usize, m: usize) -> I
         Key b x.now y → (l : ℕ) →
         InsertsAt b stack.new (p ∷ q ∷ s ∷ []) 2 result (enter_product (limited l) y c (get_or q k no_entry) s) }
 {
-    let mut other = [0u8; MONOMIAL_BYTES];
-    copy_key(area_at(stack, 1), k, &mut other);
+    let other = key_at(area_at(stack, 1), k);
     let d = value_at(area_at(stack, 1), k);
     if MAX_ATOMS < x[0] as usize + other[0] as usize {
         clear_at(stack, 2, m);
-        return Inserted::Refused(POLYNOMIAL_SIZE);
+        return Err(Refusal::PolynomialSize);
     }
     let Some(value) = c.mul(d) else {
         clear_at(stack, 2, m);
-        return Inserted::Refused(NUMBER_RANGE);
+        return Err(Refusal::NumberRange);
     };
     let mut key = [0u8; MONOMIAL_BYTES];
     key.copy_from_slice(x);
@@ -123,7 +99,7 @@ fn enter_product(stack: &mut [u8], x: &[u8], c: Number, k: usize, m: usize) -> I
 }
 
 // One monomial x of the left against each of the n of the right.
-fn mul_each(stack: &mut [u8], x: &[u8], c: Number, n: usize, m: usize) -> Inserted
+fn mul_each(stack: &mut [u8], x: &[u8], c: Number, n: usize, m: usize) -> Result<usize, Refusal>
     requires { StackHas 2 stack.old × ((length x.now ≡ key_size) × (Proper c × ((n ≤ places) × (m ≤ places)))) }
     ensures few { Few result }
     ensures inserts_at { (b : Bytes) (p q s : Map Monomial) (y : Monomial) →
@@ -133,17 +109,19 @@ fn mul_each(stack: &mut [u8], x: &[u8], c: Number, n: usize, m: usize) -> Insert
 {
     let mut len = m;
     for k in 0..n {
-        let answer = enter_product(stack, x, c, k, len);
-        let Inserted::Length(longer) = answer else {
-            return answer;
-        };
-        len = longer;
+        len = enter_product(stack, x, c, k, len)?;
     }
-    Inserted::Length(len)
+    Ok(len)
 }
 
 // Entry k of the left against the right and its constant.
-fn mul_entry(stack: &mut [u8], k: usize, n: usize, constant: Number, m: usize) -> Inserted
+fn mul_entry(
+    stack: &mut [u8],
+    k: usize,
+    n: usize,
+    constant: Number,
+    m: usize,
+) -> Result<usize, Refusal>
     requires { StackHas 2 stack.old × (Proper constant × ((k < places) × ((n ≤ places) × (m ≤ places)))) }
     ensures few { Few result }
     ensures inserts_at { (b : Bytes) (p q s : Map Monomial) → Stacked b stack.old (p ∷ q ∷ s ∷ []) →
@@ -151,23 +129,19 @@ fn mul_entry(stack: &mut [u8], k: usize, n: usize, constant: Number, m: usize) -
         InsertsAt b stack.new (p ∷ q ∷ s ∷ []) 2 result
         (mul_entry (limited l) (get_or p k no_entry) (combination q constant) s) }
 {
-    let mut key = [0u8; MONOMIAL_BYTES];
-    copy_key(area_at(stack, 0), k, &mut key);
+    let key = key_at(area_at(stack, 0), k);
     let c = value_at(area_at(stack, 0), k);
-    let answer = mul_each(stack, &key, c, n, m);
-    let Inserted::Length(len) = answer else {
-        return answer;
-    };
+    let len = mul_each(stack, &key, c, n, m)?;
     let Some(value) = c.mul(constant) else {
         clear_at(stack, 2, len);
-        return Inserted::Refused(NUMBER_RANGE);
+        return Err(Refusal::NumberRange);
     };
     insert_at(stack, 2, len, &key, value)
 }
 
 // Each of the p monomials of the left, in area 0, against the right, in area 1, and its constant, into area 2, which is
 // empty before.
-fn mul_left(stack: &mut [u8], p: usize, n: usize, constant: Number) -> Inserted
+fn mul_left(stack: &mut [u8], p: usize, n: usize, constant: Number) -> Result<usize, Refusal>
     requires { StackHas 2 stack.old × (Proper constant × ((p ≤ places) × (n ≤ places))) }
     ensures few { Few result }
     ensures inserts_at { (b : Bytes) (u q : Map Monomial) → Stacked b stack.old (u ∷ q ∷ [] ∷ []) →
@@ -177,17 +151,20 @@ fn mul_left(stack: &mut [u8], p: usize, n: usize, constant: Number) -> Inserted
 {
     let mut len = 0;
     for k in 0..p {
-        let answer = mul_entry(stack, k, n, constant, len);
-        let Inserted::Length(longer) = answer else {
-            return answer;
-        };
-        len = longer;
+        len = mul_entry(stack, k, n, constant, len)?;
     }
-    Inserted::Length(len)
+    Ok(len)
 }
 
 // Entry k of area j, times a number, into area t.
-fn enter_scaled(stack: &mut [u8], j: usize, k: usize, q: Number, t: usize, m: usize) -> Inserted
+fn enter_scaled(
+    stack: &mut [u8],
+    j: usize,
+    k: usize,
+    q: Number,
+    t: usize,
+    m: usize,
+) -> Result<usize, Refusal>
     requires { (StackHas j stack.old × StackHas t stack.old) × (Proper q × ((k < places) × (m ≤ places))) }
     ensures few { Few result }
     ensures inserts_at { (b : Bytes) (ms : List (Map Monomial)) → Stacked b stack.old ms → j < length ms →
@@ -195,12 +172,11 @@ fn enter_scaled(stack: &mut [u8], j: usize, k: usize, q: Number, t: usize, m: us
         InsertsAt b stack.new ms t result
         (enter_scaled (limited l) (get_or (get_or ms j []) k no_entry) q (get_or ms t [])) }
 {
-    let mut key = [0u8; MONOMIAL_BYTES];
-    copy_key(area_at(stack, j), k, &mut key);
+    let key = key_at(area_at(stack, j), k);
     let c = value_at(area_at(stack, j), k);
     let Some(value) = c.mul(q) else {
         clear_at(stack, t, m);
-        return Inserted::Refused(NUMBER_RANGE);
+        return Err(Refusal::NumberRange);
     };
     insert_at(stack, t, m, &key, value)
 }
@@ -213,7 +189,7 @@ pub fn insert_scaled(
     q: Number,
     t: usize,
     m: usize,
-) -> Inserted
+) -> Result<usize, Refusal>
     requires { AtScaled j n t m q stack.old }
     ensures few { Few result }
     ensures inserts_at { (b : Bytes) (ms : List (Map Monomial)) → Stacked b stack.old ms → j < length ms →
@@ -222,13 +198,9 @@ pub fn insert_scaled(
 {
     let mut len = m;
     for k in 0..n {
-        let answer = enter_scaled(stack, j, k, q, t, len);
-        let Inserted::Length(longer) = answer else {
-            return answer;
-        };
-        len = longer;
+        len = enter_scaled(stack, j, k, q, t, len)?;
     }
-    Inserted::Length(len)
+    Ok(len)
 }
 
 // The bytes of area 2 go to area 0.
@@ -242,39 +214,39 @@ fn move_down(stack: &mut [u8])
 }
 
 // Empties areas 0 and 1.
-fn refuse(stack: &mut [u8], n: usize, m: usize, code: u8) -> Combined
+fn refuse(stack: &mut [u8], n: usize, m: usize, r: Refusal) -> Result<Polynomial, Refusal>
     requires { StackHas 1 stack.old × ((n ≤ places) × (m ≤ places)) }
-    ensures value { result ≡ combined.Refused code }
+    ensures value { result ≡ Err r }
     ensures stacked { (b : Bytes) (p q : Map Monomial) (ms : List (Map Monomial)) →
         Stacked b stack.old (p ∷ q ∷ ms) → n ≡ length p → m ≡ length q →
         Stacked b stack.new ([] ∷ [] ∷ ms) }
 {
     clear_at(stack, 0, n);
     clear_at(stack, 1, m);
-    Combined::Refused(code)
+    Err(r)
 }
 
 // The product of the polynomials of areas 0 and 1, in area 0; the others are empty afterwards.
-pub fn mul(stack: &mut [u8], p: Polynomial, q: Polynomial) -> Combined
+pub fn mul(stack: &mut [u8], p: Polynomial, q: Polynomial) -> Result<Polynomial, Refusal>
     requires { AtProduct p q stack.old }
-    ensures { (b : Bytes) (u v : Map Monomial) → Stacked b stack.old (u ∷ v ∷ []) → PolyHas p u →
-        PolyHas q v → (l : ℕ) →
-        area.Combines b stack.new result (mul (limited l) (poly_with p u) (poly_with q v)) }
+    ensures { (b : Bytes) (u v : Map Monomial) → Stacked b stack.old (u ∷ v ∷ []) → Has p u →
+        Has q v → (l : ℕ) →
+        area.Combines b stack.new result (mul (limited l) (comb_with p u) (comb_with q v)) }
 {
-    let left = mul_left(stack, p.len, q.len, q.constant);
-    let Inserted::Length(len) = left else {
-        return refuse(stack, p.len, q.len, inserted_refusal(left));
+    let len = match mul_left(stack, p.len, q.len, q.constant) {
+        Ok(n) => n,
+        Err(r) => return refuse(stack, p.len, q.len, r),
     };
-    let scaled = insert_scaled(stack, 1, q.len, p.constant, 2, len);
-    let Inserted::Length(k) = scaled else {
-        return refuse(stack, p.len, q.len, inserted_refusal(scaled));
+    let k = match insert_scaled(stack, 1, q.len, p.constant, 2, len) {
+        Ok(n) => n,
+        Err(r) => return refuse(stack, p.len, q.len, r),
     };
     let Some(constant) = p.constant.mul(q.constant) else {
         clear_at(stack, 2, k);
-        return refuse(stack, p.len, q.len, NUMBER_RANGE);
+        return refuse(stack, p.len, q.len, Refusal::NumberRange);
     };
     move_down(stack);
     clear_at(stack, 1, q.len);
     clear_at(stack, 2, k);
-    Combined::Is(Polynomial { len: k, constant })
+    Ok(Polynomial { len: k, constant })
 }

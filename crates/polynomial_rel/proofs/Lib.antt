@@ -1,4 +1,2 @@
-pub mod ExpectedAnswers
-pub mod ScaledPremises
 pub mod ScaledSides
 pub mod ScaledRelations

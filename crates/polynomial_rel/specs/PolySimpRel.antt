@@ -9,23 +9,23 @@ use Rattle.terms.specs.Term.{Term, Terms, unary, binary}
 use Rattle.terms.specs.Term.Terms.{nil, ◌▹◌}
 use Rattle.rules.specs.Refusal.{Result, ◌>>=◌, assert, or_else}
 use Rattle.std.specs.Prelude.{Ok, Err}
-use Rattle.rules.specs.Refusal.Refusal.{wrong_number_of_premises, wrong_length_of_premise_clause}
-use Rattle.rules.specs.Refusal.Refusal.{coeff_is_zero, coeff_different_signums, coeff_even, invalid_operators}
-use Rattle.rules.specs.Refusal.Refusal.{term_of_wrong_form}
+use Rattle.rules.specs.declared.refusal.Refusal.TheVariants.{WrongNumberOfPremises, WrongLengthOfPremiseClause}
+use Rattle.rules.specs.declared.refusal.Refusal.TheVariants.{CoeffIsZero, CoeffDifferentSignums, CoeffEven}
+use Rattle.rules.specs.declared.refusal.Refusal.TheVariants.{InvalidOperators, TermOfWrongForm}
 use Rattle.rules.specs.Limits.{Limits, fraction_err, bitvector_err, op_err}
 use Rattle.rules.specs.Shapes.{Clause, only_literal, binary_err, is_relation, assert_eq, Form, Names, matches, ◌≔◌of◌}
 
 -- get_premise_term
 abbrev pub premise_term : Clause → Result Term
-premise_term [] = Err wrong_length_of_premise_clause
+premise_term [] = Err WrongLengthOfPremiseClause
 premise_term (t ∷ []) = Ok t
-premise_term (t ∷ u ∷ ts) = Err wrong_length_of_premise_clause
+premise_term (t ∷ u ∷ ts) = Err WrongLengthOfPremiseClause
 
 -- assert_num_premises(premises, 1)
 abbrev pub only_premise : List Clause → Result Clause
-only_premise [] = Err wrong_number_of_premises
+only_premise [] = Err WrongNumberOfPremises
 only_premise (c ∷ []) = Ok c
-only_premise (c ∷ d ∷ cs) = Err wrong_number_of_premises
+only_premise (c ∷ d ∷ cs) = Err WrongNumberOfPremises
 
 -- c1, (x1, x2), c2, (y1, y2)
 abbrev pub Scaled : Type 0
@@ -50,9 +50,9 @@ difference d t = when eqb d Sub then elim (unary ToReal t) [ Some u ↦ binary d
 -- (= (o c1 xs) (o c2 ys)), where xs and ys are differences by d
 unfoldable pub scaled : ℕ → ℕ → Term → Result Scaled
 scaled o d t = do
-  p ← or_else (equated o t) term_of_wrong_form
-  x ← or_else (difference d p.0.1) term_of_wrong_form
-  y ← or_else (difference d p.1.1) term_of_wrong_form
+  p ← or_else (equated o t) TermOfWrongForm
+  x ← or_else (difference d p.0.1) TermOfWrongForm
+  y ← or_else (difference d p.1.1) TermOfWrongForm
   Ok (p.0.0, x, p.1.0, y)
 
 unfoldable pub assert_sides : Term × Term → Term × Term → Scaled → Result (Unit {0})
@@ -65,35 +65,35 @@ assert_sides l r p = do
 abbrev pub assert_odd : Term → Result (Unit {0})
 assert_odd t = do
   (c, _) ← bitvector_err t
-  assert (eqb (c % 2) 1) coeff_even
+  assert (eqb (c % 2) 1) CoeffEven
 
 unfoldable pub bitvector_case : Scaled → Term → Result (Unit {0})
 bitvector_case p phi = do
   _ ← assert_odd p.0
   _ ← assert_odd p.2
-  q ← or_else (equated Equals phi) term_of_wrong_form
+  q ← or_else (equated Equals phi) TermOfWrongForm
   assert_sides q.0 q.1 p
 
 -- two arguments, or InvalidOperators
 abbrev pub operands : Terms → Result (Term × Term)
-operands nil = Err invalid_operators
-operands (a ▹ nil) = Err invalid_operators
+operands nil = Err InvalidOperators
+operands (a ▹ nil) = Err InvalidOperators
 operands (a ▹ b ▹ nil) = Ok (a, b)
-operands (a ▹ b ▹ c ▹ ts) = Err invalid_operators
+operands (a ▹ b ▹ c ▹ ts) = Err InvalidOperators
 
 unfoldable pub number_case : Limits → Scaled → Term → Result (Unit {0})
 number_case l p phi = do
   c1 ← fraction_err l p.0
   c2 ← fraction_err l p.2
-  _ ← assert (not (is_zero c1)) coeff_is_zero
-  _ ← assert (not (is_zero c2)) coeff_is_zero
+  _ ← assert (not (is_zero c1)) CoeffIsZero
+  _ ← assert (not (is_zero c2)) CoeffIsZero
   (left, right) ← binary_err Equals phi
   (o1, args1) ← op_err left
   (o2, args2) ← op_err right
-  _ ← assert (is_relation o1 && eqb o1 o2) invalid_operators
+  _ ← assert (is_relation o1 && eqb o1 o2) InvalidOperators
   x ← operands args1
   y ← operands args2
-  _ ← assert (eqb o1 Equals || beq (is_positive c1) (is_positive c2)) coeff_different_signums
+  _ ← assert (eqb o1 Equals || beq (is_positive c1) (is_positive c2)) CoeffDifferentSignums
   assert_sides x y p
 
 unfoldable pub poly_simp_rel : Limits → Clause → List Clause → Result (Unit {0})

@@ -7,7 +7,7 @@ use Prim.Native.Nat.{ℕ}
 use Rattle.numbers.specs.Rational.{Rational, Lowest}
 use Rattle.terms.specs.Term.{Term}
 use Rattle.terms.specs.Readers.{unbounded, as_fraction}
-use Rattle.numbers.proofs.Ring.{◌⊕◌, ◌⊗◌, 𝟙, ◌≐◌, ◌·◌, ◌and◌, ◌from◌, derive}
+use Rattle.numbers.proofs.Ring.{◌⊕◌, ◌⊗◌, 𝟙, ◌≐◌, ◌·◌, ◌from◌, derive}
 use Rattle.book.proofs.Fractions.{as_fraction-value}
 use Rattle.book.proofs.BookTerms.{Closed}
 use Rattle.rules.specs.Limits.{Limits}

@@ -10,7 +10,8 @@ use lib.IntN.{nat_abs}
 use Rattle.numbers.specs.Rational.{Rational, neg_q, is_zero}
 use Rattle.terms.specs.Readers.{Bound, unbounded, within, bounded}
 use Rattle.numbers.proofs.Truths.{if_either, never}
-use Rattle.rules.specs.Refusal.{Refusal, Result, ◌>>=◌, assert}
+use Rattle.rules.specs.Refusal.{Result, ◌>>=◌, assert}
+use Rattle.rules.specs.declared.refusal.Refusal.{Refusal}
 use Rattle.std.specs.Prelude.{Ok, Err}
 use Rattle.rules.specs.Limits.{Limits, the_rust, in_limit, ranged, plus, times, over}
 use Rattle.index_map.specs.IndexMap as IndexMap

@@ -14,11 +14,12 @@ use Rattle.numbers.specs.Rational.{Rational, Lowest, whole, is_zero, modulo}
 use Rattle.terms.specs.Operator.{Equals}
 use Rattle.terms.specs.Term.{Sort, Term, sort, binary}
 use Rattle.terms.specs.Term.Sort.{bool, int, real, bits}
-use Rattle.numbers.proofs.Ring.{◌⊖◌, neg, 𝟘, 𝟙, ◌≐◌, ◌·◌, ◌and◌, ◌from◌, derive}
+use Rattle.numbers.proofs.Ring.{◌⊖◌, 𝟘, 𝟙, ◌≐◌, ◌·◌, ◌and◌, ◌from◌, derive}
 use Rattle.numbers.proofs.Truths.{never}
 use Rattle.book.proofs.BookTerms.{Closed}
-use Rattle.rules.specs.Refusal.{Refusal, Result, ◌>>=◌, assert, or_else}
-use Rattle.rules.specs.Refusal.Refusal.{polynomials_not_equal}
+use Rattle.rules.specs.Refusal.{Result, ◌>>=◌, assert, or_else}
+use Rattle.rules.specs.declared.refusal.Refusal.{Refusal}
+use Rattle.rules.specs.declared.refusal.Refusal.TheVariants.{PolynomialsNotEqual}
 use Rattle.std.specs.Prelude.{Ok, Err}
 use Rattle.rules.specs.Limits.{Limits, the_rust}
 use Rattle.index_map.specs.IndexMap.{Map, combination, Walked}
@@ -188,7 +189,7 @@ module _ {P : Term → Type 0} (closed : Closed P) where
       let w = at_ok (sub-amounts S the_rust (reduced a p.sum) (reduced a q.sum) gp gq) d.is in
       goes_on _ ep ∙ goes_on _ eq ∙ goes_on _ d.is
       ∙ goes_on _
-      (ap (λ (b : Bool). assert b polynomials_not_equal)
+      (ap (λ (b : Bool). assert b PolynomialsNotEqual)
       (difference-nought (reduced a p.sum) (reduced a q.sum) d.value gp gq kp kq d.holds w
       (λ ts. reduced-collects closed a p.sum h ts ∙ e ts ∙ sym (reduced-collects closed a q.sum j ts))))
 

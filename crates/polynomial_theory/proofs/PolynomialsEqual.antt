@@ -12,7 +12,7 @@ use lib.IntN.{pos, nat_abs}
 use Rattle.numbers.specs.Pair.{◌≈◌}
 use Rattle.numbers.specs.Rational.{Rational, Lowest, modulo}
 use Rattle.terms.specs.Operator.{Equals}
-use Rattle.terms.specs.Term.{Sort, Term, sort, sorts, is_numeric, is_bits, binary, record_number}
+use Rattle.terms.specs.Term.{Sort, Term, sort, is_numeric, is_bits, binary, record_number}
 use Rattle.terms.specs.Term.Sort.{bool, int, real, bits}
 use Rattle.terms.specs.Term.Terms.{nil, ◌▹◌}
 use Rattle.terms.specs.Smtlib.{Assignment, Meant, as_pair, value}
@@ -26,7 +26,7 @@ use Rattle.numbers.proofs.Quotient.{≈_of_mk-eq}
 use Rattle.numbers.proofs.Residues.{residue-eq, cong_of_residue-eq}
 use Rattle.book.proofs.Vectors.{width_positive, vector-value, equal-vectors}
 use Rattle.rules.specs.Refusal.{Result, ◌>>=◌, assert, or_else}
-use Rattle.rules.specs.Refusal.Refusal.{polynomials_not_equal, term_of_wrong_form}
+use Rattle.rules.specs.declared.refusal.Refusal.TheVariants.{PolynomialsNotEqual, TermOfWrongForm}
 use Rattle.std.specs.Prelude.{Ok}
 use Rattle.rules.specs.Limits.{Limits}
 use Rattle.index_map.specs.IndexMap.{Map, combination, sub}
@@ -46,7 +46,7 @@ use Rattle.rules_theory.proofs.IndexMaps.{Values, total, worth, Amounts, sub-amo
 use Rattle.polynomial_theory.proofs.NumberReadings.{number_reading, number_no_vector}
 use Rattle.polynomial_theory.proofs.VectorReadings.{vector_reading}
 use Rattle.polynomial_theory.proofs.ProductRing.{product_ring, constants}
-use Rattle.polynomial_theory.proofs.Expansions.{amount, expands_comes}
+use Rattle.polynomial_theory.proofs.Expansions.{expands_comes}
 use Rattle.polynomial_theory.proofs.WrittenOut.{expansion}
 use Rattle.polynomial_theory.proofs.Coefficients.{coefficients-equal}
 use Rattle.polynomial_theory.proofs.GroupedProducts.{amounts-equal}
@@ -64,7 +64,7 @@ compared l a t s n = do
   p ← from_term l t n
   q ← from_term l s p.visits
   d ← sub monomials l (reduced a p.sum) (reduced a q.sum)
-  _ ← assert (is_nought d) polynomials_not_equal
+  _ ← assert (is_nought d) PolynomialsNotEqual
   Ok q.visits
 
 module _ {P : Term → Type 0} (closed : Closed P) where
@@ -157,7 +157,7 @@ module _ {P : Term → Type 0} (closed : Closed P) where
     where
       go :
           (o : Option (Term × Term)) → binary Equals phi ≡ o →
-          (or_else o term_of_wrong_form >>= λ (t, s). compared l (sort t) t s n) ≡ Ok m → PolySimp carcara phi
+          (or_else o TermOfWrongForm >>= λ (t, s). compared l (sort t) t s n) ≡ Ok m → PolySimp carcara phi
       go (Some (t, s)) b e =
           let i = record_number phi in
           let shape = binary-shape Equals phi (t, s) b in

@@ -15,9 +15,10 @@ use Rattle.terms.specs.Operator.{Equals, Sub, Mult, BvSub, BvMul}
 use Rattle.terms.specs.Term.{Term, Terms, unary, binary}
 use Rattle.terms.specs.Term.Term.{bitvector}
 use Rattle.terms.specs.Readers.{as_bitvector, as_op}
-use Rattle.rules.specs.Refusal.{Refusal, Result, ◌>>=◌, or_else}
+use Rattle.rules.specs.Refusal.{Result, ◌>>=◌, or_else}
+use Rattle.rules.specs.declared.refusal.Refusal.{Refusal}
 use Rattle.std.specs.Prelude.{Ok, Err}
-use Rattle.rules.specs.Refusal.Refusal.{term_of_wrong_form, expected_operation_term}
+use Rattle.rules.specs.declared.refusal.Refusal.TheVariants.{TermOfWrongForm, ExpectedOperationTerm}
 use Rattle.rules.specs.Limits.{Limits, the_rust, bitvector_err, op_err}
 use Rattle.rules.specs.Shapes.{only_literal, is_relation, assert_eq, bind, bind_all, solve, solve_all}
 use Rattle.polynomial_rel.specs.PolySimpRel.{Scaled, equated, difference, scaled, assert_sides, assert_odd, bitvector_case}
@@ -45,7 +46,7 @@ difference_of_lem (real_difference g (is i) (is j)) = refl
 operation_err_of :
     {o : ℕ} {ts : Terms} {t : Term} → Is o ts t → op_err t ≡ Ok (o, ts)
 unfolding op_err or_else
-operation_err_of h = ap (λ o. or_else o expected_operation_term) (operation_of_lem h)
+operation_err_of h = ap (λ o. or_else o ExpectedOperationTerm) (operation_of_lem h)
 
 relation-accepted : {o : ℕ} → IsRelation o → is_relation o ≡ true
 relation-accepted equals = refl
@@ -56,7 +57,7 @@ relation-accepted greater_eq = refl
 
 equated_of :
     {o : ℕ} {a b c d left right t : Term} → Is2 Equals left right t → Is2 o a b left → Is2 o c d right →
-    or_else (equated o t) term_of_wrong_form ≡ Ok ((a, b), (c, d))
+    or_else (equated o t) TermOfWrongForm ≡ Ok ((a, b), (c, d))
 unfolding equated solve_all solve bind_all bind as_op or_else when◌then◌else◌
 equated_of {o} (is i) (is j) (is k) =
     rw (eq-eqb o o refl, equated, solve_all, solve, bind_all, bind, eq-eqb o o refl)
@@ -72,7 +73,7 @@ scaled_of_lem o d e l r a b = next _ (equated_of e l r) ∙ rw (a, b)
 -- a product by * is none of bit-vectors
 no_vectors :
     {a b left right t : Term} → Is2 Equals left right t → Is2 Mult a b left →
-    scaled BvMul BvSub t ≡ Err term_of_wrong_form
+    scaled BvMul BvSub t ≡ Err TermOfWrongForm
 unfolding scaled equated solve_all solve bind_all bind as_op or_else when◌then◌else◌ ◌>>=◌
 no_vectors (is i) (is j) = refl
 

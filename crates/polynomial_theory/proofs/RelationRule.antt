@@ -15,7 +15,8 @@ use Rattle.terms.specs.Term.{Term}
 use Rattle.terms.specs.Term.Terms.{nil, ◌▹◌}
 use Rattle.numbers.proofs.Truths.{both, never}
 use Rattle.book.proofs.BookTerms.{Closed}
-use Rattle.rules.specs.Refusal.{Refusal, ◌>>=◌}
+use Rattle.rules.specs.Refusal.{◌>>=◌}
+use Rattle.rules.specs.declared.refusal.Refusal.{Refusal}
 use Rattle.std.specs.Prelude.{Ok, Err}
 use Rattle.rules.specs.Limits.{Limits}
 use Rattle.rules.specs.Shapes.{Clause, only_literal, is_relation}

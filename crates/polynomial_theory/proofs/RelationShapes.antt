@@ -16,9 +16,10 @@ use Rattle.terms.specs.Term.Term.{integer, rational, bitvector, atom, op}
 use Rattle.terms.specs.Term.Terms.{nil, ◌▹◌}
 use Rattle.terms.specs.Readers.{as_bitvector, as_op}
 use Rattle.book.proofs.BookTerms.{Closed}
-use Rattle.rules.specs.Refusal.{Refusal, Result, ◌>>=◌, or_else}
+use Rattle.rules.specs.Refusal.{Result, ◌>>=◌, or_else}
+use Rattle.rules.specs.declared.refusal.Refusal.{Refusal}
 use Rattle.std.specs.Prelude.{Ok, Err}
-use Rattle.rules.specs.Refusal.Refusal.{term_of_wrong_form}
+use Rattle.rules.specs.declared.refusal.Refusal.TheVariants.{TermOfWrongForm}
 use Rattle.rules.specs.Limits.{bitvector_err, op_err}
 use Rattle.rules.specs.Shapes.{Names, matches}
 use Rattle.polynomial_rel.specs.PolySimpRel.{Scaled, equated_form, equated_in, equated, difference, scaled, assert_sides}
@@ -113,13 +114,13 @@ module _ {P : Term → Type 0} (closed : Closed P) where
   found_of {o} {ts} (is i) p = record { shape = is i; inside = closed.below i o ts p }
 
   pub equated-found :
-      (o : ℕ) → 0 < o → (t : Term) → P t → Yields (Equated P o t) (or_else (equated o t) term_of_wrong_form)
+      (o : ℕ) → 0 < o → (t : Term) → P t → Yields (Equated P o t) (or_else (equated o t) TermOfWrongForm)
   unfolding equated or_else
   equated-found o h t p = go (matches (equated_form o) t) refl
     where
       go :
           (m : Option Names) → matches (equated_form o) t ≡ m →
-          Yields (Equated P o t) (or_else (equated_in m) term_of_wrong_form)
+          Yields (Equated P o t) (or_else (equated_in m) TermOfWrongForm)
       go (Some σ) e =
           let f = form-found closed (equated_form o) t σ p e in
           let equation : Is2 Equals (σ.at 1) (σ.at 2) t = rw f.whole at f.holds.0 in

@@ -19,7 +19,7 @@ use Rattle.terms.specs.Readers.{unbounded, as_number, quotient_of, as_unsigned_f
 use Rattle.terms.specs.Book.{count_ok}
 use Rattle.terms.specs.Smtlib.{Assignment, as_vector, sum_z, product_z, difference_z, opposite_z, width_of, meaning, value}
 use Rattle.terms.specs.Smtlib.{values}
-use Rattle.numbers.proofs.Ring.{neg, Ring}
+use Rattle.numbers.proofs.Ring.{Ring}
 use Rattle.numbers.proofs.Truths.{both}
 use Rattle.book.proofs.WellFormed.{WellFormed, Operation}
 use Rattle.terms.proofs.Readings.{not-number}

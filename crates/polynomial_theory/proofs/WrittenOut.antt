@@ -6,7 +6,7 @@ use Prim.Native.Nat.{ℕ, suc, ◌≤◌}
 use native.Mathlib.Omega.{arith}
 use borrow.Author.Tests.{eqb-true}
 use lib.ListN.{length}
-use Rattle.numbers.specs.Rational.{Rational, whole, is_zero}
+use Rattle.numbers.specs.Rational.{Rational, is_zero}
 use Rattle.terms.specs.Operator.{Sub, RealDiv, ToReal, BvSub, BvNeg}
 use Rattle.terms.specs.Term.{Sort, Term, Terms, sorts}
 use Rattle.numbers.specs.Choice.{when◌then◌else◌}

@@ -1,5 +1,7 @@
 -- The answers of `look` of the polynomial walk and of the functions that it calls are the definition's nodes: a lemma
 -- for each answer, from what the callees have promised.
+use Rattle.std.specs.Prelude.{Option, Some, None, Ok, Err}
+use Rattle.std.specs.Option.{ok_or}
 use mathlib.Core.Path.{◌≡◌, refl, sym, ◌∙◌, ap}
 use mathlib.Core.Bool.{Bool, true, false, ◌&&◌, cond}
 use mathlib.Core.Logic.{◌⊎◌, ⊎_elim}
@@ -14,53 +16,64 @@ use lib.ListN.{length, get_or}
 use lib.Pow.{pow_mono}
 use mir.Syntax.{w64}
 use mir.Val.{SFits}
-use Rattle.numbers.specs.Rational.{Rational, Proper, Divisor, Gives, Makes, limit, whole, mul_q, div_q, neg_q, is_zero}
-use Rattle.numbers.specs.Rational.{checked}
+use Rattle.numbers.specs.Rational.{Rational, Proper, Gives, Makes, limit, whole, mul_q, div_q, neg_q, is_zero}
+use Rattle.numbers.specs.Rational.{checked, Checked}
 use Rattle.numbers.specs.Bytes.{Bytes}
 use Rattle.terms.specs.Operator.{Add, Sub, Mult, RealDiv, ToReal, BvAdd, BvSub, BvNeg, BvMul}
 use Rattle.terms.specs.Term.{Term, Terms}
 use Rattle.numbers.specs.Choice.{when◌then◌else◌}
 use Rattle.terms.specs.Term.Term.{integer, rational, bitvector, atom, op}
-use Rattle.terms.specs.Book.{record_of, kind, field1, field2, is_width, is_vector, numbers, nothing, arguments, argument_at}
-use Rattle.terms.specs.Book.{forest, tree}
-use Rattle.terms.specs.Readers.{Finds, ranged, as_fraction, as_bitvector, as_op, operator_of, arguments_of}
+use Rattle.terms.specs.Book.{record_of, kind, field1, field2, is_width, is_vector, numbers, nothing, arguments}
+use Rattle.terms.specs.Book.{argument_at, forest, tree}
+use Rattle.terms.specs.Readers.{Reading, Finds, ranged, as_fraction, as_bitvector, as_op, operator_of}
+use Rattle.terms.specs.Readers.{arguments_of}
 use Rattle.numbers.proofs.Truths.{both}
 use Rattle.terms.proofs.NumberedNodes.{record_number-tree}
 use Rattle.terms.proofs.Layouts.{width-bounded}
 use Rattle.numbers.proofs.Machine.{R}
 use Rattle.terms.proofs.RecordBytes.{argument_of_arguments}
 use Rattle.terms.proofs.RecordReadings.{as_bitvector_of, record_node}
+use Rattle.rules.specs.Refusal.{Result, ◌>>=◌, or_else}
+use Rattle.rules.specs.declared.refusal.Refusal.{Refusal}
+use Rattle.rules.specs.declared.refusal.Refusal.TheVariants.{NumberRange}
 use Rattle.rules.specs.Shapes.{size}
+use Rattle.rules.proofs.Results.{stops, none-refused}
 use Rattle.polynomial_walk.specs.PolynomialTerms.{arm_of}
 use Rattle.polynomial_walk.specs.PolynomialTerms.Arm.{leaf}
-use Rattle.polynomial_walk.specs.Memory.PolynomialNodes.{NodeIs, NodeProper, constant_node, constant_of, leaf_node}
+use Rattle.polynomial_walk.specs.Memory.PolynomialNodes.{NodeIs, NodeProper, constant_of, leaf_node}
 use Rattle.polynomial_walk.specs.Memory.PolynomialNodes.{divided_node, divisor_node, quotient_node, quotient_of}
 use Rattle.polynomial_walk.specs.Memory.PolynomialNodes.{operation_node, node_of}
 use Rattle.polynomial_walk.specs.declared.polynomial_walk.Node.{Node}
 use Rattle.polynomial_walk.specs.declared.polynomial_walk.Node.TheVariants as node
 use Rattle.rules.proofs.ArgumentsLeft.{arguments-count, by_operator}
 use Rattle.index_map.proofs.CheckedNumbers.{whole-proper, small-fits, small-back}
-use Rattle.numbers.specs.Rational.{Checked}
-use Rattle.terms.specs.Readers.{Reading}
-use Rattle.std.specs.Prelude.{Ok, Err, Option, Some, None}
 use Rattle.terms.specs.declared.term.NotRead.TheVariants.{NotNumber, OutOfRange}
 
-node_is : {r d : Node} → NodeProper r → r ≡ d → NodeIs r d
+node_is : {r d : Result Node} → NodeProper r → r ≡ d → NodeIs r d
 node_is p e = record { is = e; proper = p }
 
-node_of_lem : {r d e : Node} → NodeIs r d → d ≡ e → NodeIs r e
+node_of_lem : {r d e : Result Node} → NodeIs r d → d ≡ e → NodeIs r e
 node_of_lem n e = node_is n.proper (n.is ∙ e)
 
 -- ---- constant
 
-module _ (q coeff : Rational) {a : Checked} (g : Gives a (checked (mul_q q coeff))) where
-  pub scaled : {c : Rational} → a ≡ Some c → NodeIs (node.Constant c) (constant_of q coeff)
-  unfolding constant_of
-  scaled e = node_is (g.proper _ e) (ap constant_node (sym e ∙ g.is))
+-- a node that is made of a number in range
+module _ (make : Rational → Node) {a p : Checked} (g : Gives a p) where
+  made_of : {c : Rational} → a ≡ Some c → Ok (make c) ≡ (or_else p NumberRange >>= λ c. Ok (make c))
+  unfolding or_else ◌>>=◌
+  made_of e = rw (← g.is, e)
 
-  pub scaled-outside : a ≡ None → NodeIs node.OutOfRange (constant_of q coeff)
+  made-outside : {r : Refusal} → Err r ≡ ok_or a NumberRange → Err r ≡ (or_else p NumberRange >>= λ c. Ok (make c))
+  made-outside e = stops _ (none-refused (λ (o : Checked). o) a NumberRange g.is refl e)
+
+module _ (q coeff : Rational) {a : Checked} (g : Gives a (checked (mul_q q coeff))) where
+  pub scaled : {c : Rational} → a ≡ Some c → NodeIs (Ok (node.Constant c)) (constant_of q coeff)
   unfolding constant_of
-  scaled-outside e = node_is tt (ap constant_node (sym e ∙ g.is))
+  scaled e = node_is (g.proper _ e) (made_of (λ c. node.Constant c) g e)
+
+  pub scaled-outside : {r : Refusal} → Err r ≡ ok_or a NumberRange → NodeIs (Err r) (constant_of q coeff)
+  unfolding constant_of
+  scaled-outside e = node_is tt (made-outside (λ c. node.Constant c) g e)
 
 -- ---- leaf
 
@@ -82,12 +95,11 @@ module _ (b : Bytes) (i : ℕ) {v w : ℕ} where
       rw (← same) (vector-small r (both (eqb (kind r) 3) (is_vector r) e).1)
   read_small r false e is = let z : ◌≡◌ {A = ℕ} 0 1 = cc in absurd (omega arith)
 
-  module _ {x : Option (ℕ × ℕ)} (x-is : x ≡ as_bitvector (tree b i)) (e : x ≡ Some (v, w)) where
+  module _ (e : Some (v, w) ≡ as_bitvector (tree b i)) where
     pub bits_small : v ≤ limit
     bits_small =
         let r = record_of b i in
-        read_small r (eqb (kind r) 3 && is_vector r) refl
-        (sym (as_bitvector_of r (record_node b i refl)) ∙ sym x-is ∙ e)
+        read_small r (eqb (kind r) 3 && is_vector r) refl (sym (as_bitvector_of r (record_node b i refl)) ∙ sym e)
 
     pub bits_fit : SFits w64 (pos v)
     bits_fit = small-fits (pos v) bits_small
@@ -99,30 +111,29 @@ module _ (b : Bytes) (i : ℕ) {v w : ℕ} where
     pub bits-proper : {q : Rational} → q ≡ whole (R (pos v)) → Proper q
     bits-proper is = rw (bits-whole is) (whole-proper (pos v) bits_small)
 
-module _ (t : Term) (coeff : Rational) {r : Reading} (f : Finds r (as_fraction ranged t)) where
-  pub leaf-number : {q : Rational} {n : Node} → r ≡ Ok q → NodeIs n (constant_of q coeff) → NodeIs n (leaf_node t coeff)
+module _ (t : Term) (coeff : Rational) where
+  pub leaf-number :
+      {q : Rational} {n : Result Node} → Finds (Ok q) (as_fraction ranged t) → NodeIs n (constant_of q coeff) →
+      NodeIs n (leaf_node t coeff)
   unfolding leaf_node
-  leaf-number e n = node_of_lem n (rw (← f.is, leaf_node, e))
+  leaf-number f n = node_of_lem n (rw (← f.is, leaf_node))
 
-  pub leaf-outside : r ≡ Err OutOfRange → NodeIs node.OutOfRange (leaf_node t coeff)
+  pub leaf-outside : Finds (Err OutOfRange) (as_fraction ranged t) → NodeIs (Err NumberRange) (leaf_node t coeff)
   unfolding leaf_node
-  leaf-outside e = node_is tt (rw (← f.is, leaf_node, e))
+  leaf-outside f = node_is tt (rw (← f.is, leaf_node))
 
-  module _ (r-is : r ≡ Err NotNumber) {x : Option (ℕ × ℕ)} (x-is : x ≡ as_bitvector t) where
+  module _ (f : Finds (Err NotNumber) (as_fraction ranged t)) where
     pub leaf-vector :
-        {v w : ℕ} {q : Rational} {n : Node} → x ≡ Some (v, w) → q ≡ whole (pos v) → NodeIs n (constant_of q coeff) →
-        NodeIs n (leaf_node t coeff)
+        {v w : ℕ} {q : Rational} {n : Result Node} → Some (v, w) ≡ as_bitvector t → q ≡ whole (pos v) →
+        NodeIs n (constant_of q coeff) → NodeIs n (leaf_node t coeff)
     unfolding leaf_node
-    leaf-vector e q-is n = node_of_lem n (rw (← f.is, leaf_node, r-is, ← x-is, e, q-is))
+    leaf-vector e q-is n = node_of_lem n (rw (← f.is, leaf_node, ← e, q-is))
 
-    pub leaf-atom : x ≡ None → NodeIs node.Atom (leaf_node t coeff)
+    pub leaf-atom : None ≡ as_bitvector t → NodeIs (Ok node.Atom) (leaf_node t coeff)
     unfolding leaf_node
-    leaf-atom e = node_is tt (rw (← f.is, leaf_node, r-is, ← x-is, e))
+    leaf-atom e = node_is tt (rw (← f.is, leaf_node, ← e))
 
 -- ---- quotient
-
-pub a_divisor : {r a : Reading} {q : Rational} → Finds r a → r ≡ Ok q → is_zero q ≡ false → Divisor q
-a_divisor f e z = record { proper = f.proper _ e; nonzero = z }
 
 module _ (t : Term) (coeff : Rational) (f : ℕ → Term) where
   few : (l : List ℕ) → length l < 2 → quotient_node t (forest f l) coeff ≡ leaf_node t coeff
@@ -143,51 +154,55 @@ module _ (t : Term) (coeff : Rational) (f : ℕ → Term) where
 module _
     (b : Bytes) (i : ℕ) (coeff : Rational) (args : Bytes)
     (args_are : forest (tree b) (arguments i (numbers args)) ≡ arguments_of (tree b i)) where
-  of_sides : quotient_node (tree b i) (forest (tree b) (arguments i (numbers args))) coeff ≡ quotient_of (tree b i) coeff
+  of_sides :
+      quotient_node (tree b i) (forest (tree b) (arguments i (numbers args))) coeff ≡ quotient_of (tree b i) coeff
   unfolding quotient_of
   of_sides = rw args_are
 
   pub few-sides :
-      {n : Node} → length args / 2 < 2 → NodeIs n (leaf_node (tree b i) coeff) → NodeIs n (quotient_of (tree b i) coeff)
-  few-sides h n = node_of_lem n (sym (few (tree b i) coeff (tree b) _ (omega (arith, arguments-count i args))) ∙ of_sides)
+      {n : Result Node} → length args / 2 < 2 → NodeIs n (leaf_node (tree b i) coeff) →
+      NodeIs n (quotient_of (tree b i) coeff)
+  few-sides h n =
+      node_of_lem n (sym (few (tree b i) coeff (tree b) _ (omega (arith, arguments-count i args))) ∙ of_sides)
 
   -- y is the divisor, read as r
-  module _ (h : 2 ≤ length args / 2) {y : ℕ} (y-is : y ≡ argument_at args 1 i) {r : Reading}
-      (f : Finds r (as_fraction ranged (tree b y))) where
-    read-node : divisor_node (tree b i) (tree b (argument_at args 0 i)) r coeff ≡ quotient_of (tree b i) coeff
-    read-node =
+  module _ (h : 2 ≤ length args / 2) {y : ℕ} (y-is : y ≡ argument_at args 1 i) where
+    at :
+        {r : Reading} → Finds r (as_fraction ranged (tree b y)) →
+        divisor_node (tree b i) (tree b (argument_at args 0 i)) r coeff ≡ quotient_of (tree b i) coeff
+    at f =
         rw (f.is, y-is, ← argument_of_arguments i args 0, ← argument_of_arguments i args 1)
         (sym (many (tree b i) coeff (tree b) _ (omega (arith, arguments-count i args))) ∙ of_sides)
 
-    at :
-        {s : Reading} → r ≡ s →
-        divisor_node (tree b i) (tree b (argument_at args 0 i)) s coeff ≡ quotient_of (tree b i) coeff
-    at e = rw (← e) read-node
-
-    pub divisor-outside : r ≡ Err OutOfRange → NodeIs node.OutOfRange (quotient_of (tree b i) coeff)
-    divisor-outside e = node_is tt (at e)
+    pub divisor-outside :
+        Finds (Err OutOfRange) (as_fraction ranged (tree b y)) →
+        NodeIs (Err NumberRange) (quotient_of (tree b i) coeff)
+    divisor-outside f = node_is tt (at f)
 
     pub no_divisor :
-        {n : Node} → r ≡ Err NotNumber → NodeIs n (leaf_node (tree b i) coeff) → NodeIs n (quotient_of (tree b i) coeff)
-    no_divisor e n = node_of_lem n (at e)
+        {n : Result Node} → Finds (Err NotNumber) (as_fraction ranged (tree b y)) →
+        NodeIs n (leaf_node (tree b i) coeff) → NodeIs n (quotient_of (tree b i) coeff)
+    no_divisor f n = node_of_lem n (at f)
 
-    module _ {q : Rational} (e : r ≡ Ok q) where
+    module _ {q : Rational} (f : Finds (Ok q) (as_fraction ranged (tree b y))) where
       pub zero-divisor :
-          {n : Node} → is_zero q ≡ true → NodeIs n (leaf_node (tree b i) coeff) → NodeIs n (quotient_of (tree b i) coeff)
-      zero-divisor z n = node_of_lem n (rw (z, divisor_node) at (at e))
+          {n : Result Node} → is_zero q ≡ true → NodeIs n (leaf_node (tree b i) coeff) →
+          NodeIs n (quotient_of (tree b i) coeff)
+      zero-divisor z n = node_of_lem n (rw (z, divisor_node) at (at f))
 
-      module _ (z : is_zero q ≡ false) where
-        module _ {a : Checked} (g : Gives a (checked (div_q coeff q))) where
-          divided-node : divided_node (argument_at args 0 i) a ≡ quotient_of (tree b i) coeff
-          divided-node = rw (g.is, ← record_number-tree b (argument_at args 0 i)) (rw (z, divisor_node) at (at e))
+      module _ (z : is_zero q ≡ false) {a : Checked} (g : Gives a (checked (div_q coeff q))) where
+        divided-node : divided_node (argument_at args 0 i) (checked (div_q coeff q)) ≡ quotient_of (tree b i) coeff
+        divided-node = rw (← record_number-tree b (argument_at args 0 i)) (rw (z, divisor_node) at (at f))
 
-          pub quotient-outside : a ≡ None → NodeIs node.OutOfRange (quotient_of (tree b i) coeff)
-          quotient-outside out = node_is tt (rw out at divided-node)
+        pub quotient-outside :
+            {r : Refusal} → Err r ≡ ok_or a NumberRange → NodeIs (Err r) (quotient_of (tree b i) coeff)
+        quotient-outside e = node_is tt (made-outside (λ c. node.Quotient _ c) g e ∙ divided-node)
 
-          pub quotient-found :
-              {x : ℕ} {c : Rational} → x ≡ argument_at args 0 i → a ≡ Some c →
-              NodeIs (node.Quotient x c) (quotient_of (tree b i) coeff)
-          quotient-found x-is value = node_is (g.proper _ value) (rw x-is (rw value at divided-node))
+        pub quotient-found :
+            {x : ℕ} {c : Rational} → x ≡ argument_at args 0 i → a ≡ Some c →
+            NodeIs (Ok (node.Quotient x c)) (quotient_of (tree b i) coeff)
+        quotient-found x-is value =
+            node_is (g.proper _ value) (rw x-is (made_of (λ c. node.Quotient _ c) g value ∙ divided-node))
 
 -- ---- look
 
@@ -210,39 +225,40 @@ module _ (t : Term) (coeff : Rational) where
   unfolding node_of
   at_operator o = by_operator (λ k ts. operation_node t k ts coeff) (leaf_node t coeff) o (as_op t)
 
-  pub sum-node : operator_of t ≡ Add → Proper coeff → NodeIs (node.Args coeff coeff) (node_of t coeff)
+  pub sum-node : operator_of t ≡ Add → Proper coeff → NodeIs (Ok (node.Args coeff coeff)) (node_of t coeff)
   unfolding operation_node arm_of when◌then◌else◌
   sum-node e p = node_is (p, p) (sym (at_operator 8 e))
 
   -- ToReal and BvAdd
   pub sums-node :
       ToReal ≤ operator_of t → operator_of t < suc BvAdd → Proper coeff →
-      NodeIs (node.Args coeff coeff) (node_of t coeff)
+      NodeIs (Ok (node.Args coeff coeff)) (node_of t coeff)
   unfolding operation_node arm_of when◌then◌else◌
   sums-node h k p =
       node_is (p, p)
       (sym (⊎_elim (at_operator 14) (λ l. at_operator 13 (omega (arith, h, l))) (eq-or-lt_of_le (omega (arith, k)))))
 
-  pub product-node : (operator_of t ≡ Mult) ⊎ (operator_of t ≡ BvMul) → NodeIs node.Product (node_of t coeff)
+  pub product-node : (operator_of t ≡ Mult) ⊎ (operator_of t ≡ BvMul) → NodeIs (Ok node.Product) (node_of t coeff)
   unfolding operation_node arm_of when◌then◌else◌
   product-node h = node_is tt (sym (⊎_elim (at_operator 10) (at_operator 17) h))
 
   pub quotient-node :
-      {n : Node} → operator_of t ≡ RealDiv → NodeIs n (quotient_of t coeff) → NodeIs n (node_of t coeff)
+      {n : Result Node} → operator_of t ≡ RealDiv → NodeIs n (quotient_of t coeff) → NodeIs n (node_of t coeff)
   unfolding operation_node arm_of when◌then◌else◌ quotient_of
   quotient-node e n = node_of_lem n (sym (at_operator 12 e))
 
   module _ {minus : Rational} (m : Makes minus (neg_q coeff)) where
-    pub opposite-node : operator_of t ≡ BvNeg → NodeIs (node.Args minus minus) (node_of t coeff)
+    pub opposite-node : operator_of t ≡ BvNeg → NodeIs (Ok (node.Args minus minus)) (node_of t coeff)
     unfolding operation_node arm_of when◌then◌else◌
     opposite-node e = node_is (m.proper, m.proper) (sym (at_operator 16 e ∙ rw m.is))
 
-    pub vector-difference-node : operator_of t ≡ BvSub → Proper coeff → NodeIs (node.Args coeff minus) (node_of t coeff)
+    pub vector-difference-node :
+        operator_of t ≡ BvSub → Proper coeff → NodeIs (Ok (node.Args coeff minus)) (node_of t coeff)
     unfolding operation_node arm_of when◌then◌else◌
     vector-difference-node e p = node_is (p, m.proper) (sym (at_operator 15 e ∙ rw m.is))
 
     pub negation-node :
-        operator_of t ≡ Sub → size (arguments_of t) ≡ 1 → NodeIs (node.Args minus minus) (node_of t coeff)
+        operator_of t ≡ Sub → size (arguments_of t) ≡ 1 → NodeIs (Ok (node.Args minus minus)) (node_of t coeff)
     unfolding operation_node arm_of when◌then◌else◌
     negation-node e n =
         node_is (m.proper, m.proper)
@@ -250,7 +266,7 @@ module _ (t : Term) (coeff : Rational) where
 
     pub difference-node :
         operator_of t ≡ Sub → (size (arguments_of t) ≡ 1 → ⊥) → Proper coeff →
-        NodeIs (node.Args coeff minus) (node_of t coeff)
+        NodeIs (Ok (node.Args coeff minus)) (node_of t coeff)
     unfolding operation_node arm_of when◌then◌else◌
     difference-node e n p =
         node_is (p, m.proper)
@@ -283,6 +299,6 @@ leaf_of_lem (atom i s n) coeff h out = refl
 leaf_of_lem (op i o ts) coeff h out = rw (leaf_arm o ts h out, operation_node)
 
 pub leaf-node :
-    (t : Term) (coeff : Rational) {o : ℕ} {n : Node} → o ≡ operator_of t → OtherOperator o → OutOfSums o →
+    (t : Term) (coeff : Rational) {o : ℕ} {n : Result Node} → o ≡ operator_of t → OtherOperator o → OutOfSums o →
     NodeIs n (leaf_node t coeff) → NodeIs n (node_of t coeff)
 leaf-node t coeff e h out n = node_of_lem n (sym (leaf_of_lem t coeff (rw e at h) (rw e at out)))

@@ -1,8 +1,9 @@
 -- The first factor of a product, which is walked in the lowest area of an empty stack, and the answers of the product
 -- of a record's arguments.
 --     rest_of, rest-length, left-rest, rest_below       the arguments behind the first, as the part that is lent
---     empty_poly, none_held, none_has, none_pre, none_fills       a walk from nothing
+--     from_none, none_held, none_has, none_pre, none_fills       a walk from nothing
 --     no_factors, first_below, first_pre, first_refused, others_pre, first_made       the first factor
+use Rattle.std.specs.Prelude.{Ok, Err}
 use mathlib.Core.Path.{◌≡◌, refl, ◌∙◌, ap}
 use mathlib.Core.Bool.{true}
 use mathlib.Core.List.{List, [], ◌∷◌}
@@ -17,22 +18,23 @@ use Rattle.numbers.specs.Bytes.{Bytes}
 use Rattle.terms.specs.Term.{Term, Terms}
 use Rattle.terms.specs.Term.Terms.{◌▹◌}
 use Rattle.terms.specs.Book.{count, tree, numbers, argument_at, all_below}
-use Rattle.rules.specs.Refusal.{Refusal, Result, ◌>>=◌}
-use Rattle.std.specs.Prelude.{Ok, Err}
+use Rattle.rules.specs.Refusal.{Result}
+use Rattle.rules.specs.declared.refusal.Refusal.{Refusal}
 use Rattle.rules.specs.Limits.{Limits, limited}
+use Rattle.index_map.specs.declared.combination.Walked as by_value
 use Rattle.index_map.specs.IndexMap.{Map, Walked, walked, new}
+use Rattle.index_map.specs.Memory.Answers.{Has, nothing, walked_with}
 use Rattle.polynomial.specs.Polynomial.{Monomial}
 use Rattle.polynomial_walk.specs.PolynomialTerms.{add_term, first_factor, other_factors}
-use Rattle.polynomial.specs.Memory.PolynomialArea.{Stacked, Poly, PolyHas, poly_with, Walks}
+use Rattle.polynomial.specs.Memory.PolynomialArea.{Stacked, Walks}
 use Rattle.rules.specs.Memory.Parts.{Laid}
 use Rattle.polynomial_walk.specs.Memory.PolynomialNodes.{Room, TermPre, FactorsPre, OthersPre, TermWalks}
-use Rattle.polynomial.specs.declared.polynomial.Walk.{Walk}
-use Rattle.polynomial.specs.declared.polynomial.Walk.TheVariants.{Done, Refused}
 use Rattle.numbers.proofs.Truths.{both}
 use Rattle.index_map.proofs.CheckedNumbers.{whole-proper}
 use Rattle.polynomial.proofs.StackAreas.{stack-more}
 use Rattle.rules.proofs.ArgumentsLeft.{args_from, left_none, left-next, next-below}
-use Rattle.polynomial_walk.proofs.PolynomialSums.{refuses-same}
+use Rattle.rules.proofs.Results.{next, ends}
+use Rattle.polynomial_walk.proofs.PolynomialSums.{refused}
 
 -- ---- the rest of the arguments
 
@@ -65,57 +67,55 @@ unfolding all_below
 below-behind n [] h = h
 below-behind n (i ∷ l) h = (both (ltb i n) (all_below n l) h).1
 
-pub rest_below : (n : ℕ) (args : Bytes) → all_below n (numbers args) ≡ true → all_below n (numbers (rest_of args)) ≡ true
+pub rest_below :
+    (n : ℕ) (args : Bytes) → all_below n (numbers args) ≡ true → all_below n (numbers (rest_of args)) ≡ true
 rest_below n args h = rw (rest-numbers args) (below-behind n (numbers args) h)
 
 -- ---- nothing, and one
 
--- a polynomial of no entries
-abbrev pub empty_poly : Rational → Poly
-empty_poly q = record { len = 0; constant = q }
+-- a walk that begins with nothing
+abbrev pub from_none : ℕ → by_value.Walked
+from_none v = record { sum = nothing; visits = v }
 
--- a walk from nothing in an empty stack
+-- in an empty stack; what the code has for it
 module _
-    {b w : Bytes} (empty : Stacked b w []) (room : 1600 ≤ length w) {none : Rational} (zero : none ≡ whole (pos 0)) where
-  pub none_held : Stacked b w ([] ∷ [])
+    {b w : Bytes} (empty : Stacked b w []) (room : 1600 ≤ length w) {begun : by_value.Walked} {v : ℕ}
+    (none : begun ≡ from_none v) where
+  none_held : Stacked b w ([] ∷ [])
   none_held = stack-more empty room
 
-  pub none_has : PolyHas (empty_poly none) []
-  none_has = record { size = refl; proper = rw zero (whole-proper (pos 0) (omega arith)) }
+  none_has : Has {K = Monomial} begun.sum []
+  none_has = rw none (record { size = refl; proper = whole-proper (pos 0) (omega arith) })
 
-  pub none_pre :
-      Laid b → {id x d : ℕ} → id < count b → x < id → Room (length w) d → {one : Rational} → one ≡ whole (pos 1) →
-      TermPre b w x one (empty_poly none) d
-  none_pre laid inside below r e =
-      record {
-        laid = laid;
-        inside = omega (arith, inside, below);
-        proper = rw e (whole-proper (pos 1) (omega arith));
-        room = r;
-        filling = record { map = []; held = none_held; has = none_has };
-      }
+  module _ {one : Rational} (unit : one ≡ whole (pos 1)) where
+    pub none_pre : Laid b → {x d : ℕ} → x < count b → Room (length w) d → TermPre b w x one begun.sum d
+    none_pre laid inside r =
+        record {
+          laid = laid;
+          inside = inside;
+          proper = rw unit (whole-proper (pos 1) (omega arith));
+          room = r;
+          filling = record { map = []; held = none_held; has = none_has };
+        }
 
-  pub none_fills :
-      {one : Rational} → one ≡ whole (pos 1) → (x limit d v : ℕ) {w' : Bytes} {answer : Walk} →
-      TermWalks b w w' x one (empty_poly none) v limit d answer →
-      Walks b w' answer (add_term (tree b x) (limited limit) d (whole (pos 1)) (walked new v))
-  none_fills e x limit d v fills = rw (e, zero) at (fills [] none_held none_has)
+    pub none_fills :
+        (x limit d : ℕ) {w' : Bytes} {answer : Result by_value.Walked} → TermWalks b w w' x one begun limit d answer →
+        Walks b w' answer (add_term (tree b x) (limited limit) d (whole (pos 1)) (walked new v))
+    none_fills x limit d fills = rw (unit, none) at (fills [] none_held none_has)
 
 -- ---- the definition
 
-module _ (t : Term) (ts : Terms) (l : Limits) (d : ℕ) where
-  module _ (n : ℕ) where
-    first_stops :
-        {r : Refusal} → add_term t l d (whole (pos 1)) (walked new n) ≡ Err r →
-        first_factor (t ▹ ts) l d n ≡ Err r
-    unfolding add_term ◌>>=◌
-    first_stops e = rw e
+module _ (t : Term) (ts : Terms) (l : Limits) (d n : ℕ) where
+  first_stops :
+      {r : Refusal} → add_term t l d (whole (pos 1)) (walked new n) ≡ Err r → first_factor (t ▹ ts) l d n ≡ Err r
+  unfolding add_term
+  first_stops e = ends _ e
 
-    first_goes :
-        {p : Walked Monomial} → add_term t l d (whole (pos 1)) (walked new n) ≡ Ok p →
-        first_factor (t ▹ ts) l d n ≡ other_factors ts l d p
-    unfolding add_term ◌>>=◌
-    first_goes e = rw e
+  first_goes :
+      {p : Walked Monomial} → add_term t l d (whole (pos 1)) (walked new n) ≡ Ok p →
+      first_factor (t ▹ ts) l d n ≡ other_factors ts l d p
+  unfolding add_term
+  first_goes e = next _ e
 
 -- ---- the first factor
 
@@ -123,65 +123,65 @@ module _ (t : Term) (ts : Terms) (l : Limits) (d : ℕ) where
 abbrev pub product_of : Bytes → Bytes → ℕ → ℕ → ℕ → ℕ → Result (Walked Monomial)
 product_of b args id limit d v = first_factor (args_from b id args 0) (limited limit) d v
 
--- the numbers that the code has for 0 and 1
-module _ {none one : Rational} (zero : none ≡ whole (pos 0)) (unit : one ≡ whole (pos 1)) where
-  module _ {b w args : Bytes} {id d : ℕ} (pre : FactorsPre b w args id d) where
-    room : 1600 ≤ length w
-    room = omega (arith, pre.deep, pre.high)
+module _
+    {b w args : Bytes} {id d : ℕ} (pre : FactorsPre b w args id d) (limit : ℕ) {begun : by_value.Walked} {v : ℕ}
+    (none : begun ≡ from_none v) where
+  room : 1600 ≤ length w
+  room = omega (arith, pre.deep, pre.high)
 
-    pub no_factors :
-        (limit v : ℕ) → length args / 2 ≤ 0 → Walks b w (Done (empty_poly none) v) (product_of b args id limit d v)
-    unfolding add_term
-    no_factors limit v h =
-        record {
-          map = [];
-          held = none_held pre.empty room zero;
-          is = (rw (left_none b id args 0 h, zero), none_has pre.empty room zero);
-        }
+  pub no_factors : length args / 2 ≤ 0 → Walks b w (Ok begun) (product_of b args id limit d v)
+  unfolding add_term
+  no_factors h =
+      record {
+        map = [];
+        held = none_held pre.empty room none;
+        is = (rw (left_none b id args 0 h, none), none_has pre.empty room none);
+      }
 
-    -- x is the first argument
-    module _ (h : 0 < length args / 2) {x : ℕ} (is : x ≡ argument_at args 0 id) where
+  -- x is the first argument, and one the number that the code has for 1
+  module _
+      (h : 0 < length args / 2) {x : ℕ} (is : x ≡ argument_at args 0 id) {one : Rational} (unit : one ≡ whole (pos 1))
+    where
       pub first_below : x < id
       first_below = next-below args id h is pre.below
 
-      pub first_pre : TermPre b w x one (empty_poly none) d
+      pub first_pre : TermPre b w x one begun.sum d
       first_pre =
-          none_pre pre.empty room zero pre.laid pre.inside first_below
-          (record { deep = pre.deep; high = omega (arith, pre.high) }) unit
+          none_pre pre.empty room none unit pre.laid (omega (arith, pre.inside, first_below))
+          (record { deep = pre.deep; high = omega (arith, pre.high) })
 
-      module _
-          (limit v : ℕ) {w' : Bytes} {answer : Walk}
-          (fills : TermWalks b w w' x one (empty_poly none) v limit d answer) where
-        first : Walks b w' answer (add_term (tree b x) (limited limit) d (whole (pos 1)) (walked new v))
-        first = none_fills pre.empty room zero unit x limit d v fills
+      first :
+          {w' : Bytes} {answer : Result by_value.Walked} → TermWalks b w w' x one begun limit d answer →
+          Walks b w' answer (add_term (tree b x) (limited limit) d (whole (pos 1)) (walked new v))
+      first fills = none_fills pre.empty room none unit x limit d fills
 
-        pub first_refused : {c : ℕ} → answer ≡ Refused c → Walks b w' answer (product_of b args id limit d v)
-        first_refused e =
-            let f = rw e at first in
-            rw e (refuses-same (rw (← f.is.1) f.held) f.is.0 _
-            (rw (left-next args id h is b) (first_stops _ _ _ _ _ f.is.0.is)))
+      pub first_refused :
+          {w' : Bytes} {r : Refusal} → TermWalks b w w' x one begun limit d (Err r) →
+          Walks b w' (Err r) (product_of b args id limit d v)
+      first_refused fills =
+          let f = first fills in
+          refused (rw (← f.is.1) f.held) (rw (left-next args id h is b) (first_stops _ _ _ _ _ f.is.0))
 
-        module _ {p : Poly} {v' : ℕ} (e : answer ≡ Done p v') where
-          pub others_pre : length w' ≡ length w → OthersPre b w' (rest_of args) id p d
-          others_pre long =
-              let f = rw e at first in
-              record {
-                laid = pre.laid;
-                inside = pre.inside;
-                below = rest_below id args pre.below;
-                deep = pre.deep;
-                high = omega (arith, pre.high, long);
-                filling = record { map = f.map; held = f.held; has = f.is.1 };
-              }
+      module _ {w' : Bytes} {p : by_value.Walked} (fills : TermWalks b w w' x one begun limit d (Ok p)) where
+        pub others_pre : length w' ≡ length w → OthersPre b w' (rest_of args) id p.sum d
+        others_pre long =
+            let f = first fills in
+            record {
+              laid = pre.laid;
+              inside = pre.inside;
+              below = rest_below id args pre.below;
+              deep = pre.deep;
+              high = omega (arith, pre.high, long);
+              filling = record { map = f.map; held = f.held; has = f.is.1 };
+            }
 
-          -- the others are walked after it
-          pub first_made :
-              {w'' : Bytes} {answer' : Walk} →
-              ((m : Map Monomial) → Stacked b w' (m ∷ []) → PolyHas p m →
-              Walks b w'' answer'
-              (other_factors (args_from b id (rest_of args) 0) (limited limit) d (walked (poly_with p m) v'))) →
-              Walks b w'' answer' (product_of b args id limit d v)
-          first_made others =
-              let f = rw e at first in
-              let goes = first_goes (tree b x) (args_from b id (rest_of args) 0) (limited limit) d v f.is.0 in
-              rw (left-rest args id h is b, goes) (others f.map f.held f.is.1)
+        -- the others are walked after it
+        pub first_made :
+            {w'' : Bytes} {answer : Result by_value.Walked} →
+            ((m : Map Monomial) → Stacked b w' (m ∷ []) → Has p.sum m →
+            Walks b w'' answer (other_factors (args_from b id (rest_of args) 0) (limited limit) d (walked_with p m))) →
+            Walks b w'' answer (product_of b args id limit d v)
+        first_made others =
+            let f = first fills in
+            let goes = first_goes (tree b x) (args_from b id (rest_of args) 0) (limited limit) d v f.is.0 in
+            rw (left-rest args id h is b, goes) (others f.map f.held f.is.1)

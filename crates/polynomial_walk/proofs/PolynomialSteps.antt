@@ -4,21 +4,20 @@
 use mathlib.Core.Path.{◌≡◌, refl, sym, ap, subst}
 use mathlib.Core.Bool.{Bool, true, false}
 use mathlib.Core.List.{[], ◌∷◌}
-use Rattle.std.specs.Prelude.{Option, Some, None}
+use Rattle.std.specs.Prelude.{Option, Some, None, Ok, Err}
 use Prim.Native.Nat.{ℕ, suc, ◌<◌}
 use lib.IntN.{pos}
-use Rattle.numbers.specs.Rational.{Rational, whole, mul_q, div_q, neg_q, is_zero, checked}
+use Rattle.numbers.specs.Rational.{Rational, whole, mul_q, div_q, neg_q, is_zero, checked, Checked}
 use Rattle.numbers.specs.Bytes.{Bytes}
 use Rattle.terms.specs.Term.{Term, Terms, record_number}
 use Rattle.terms.specs.Term.Term.{integer, rational, bitvector, atom, op}
 use Rattle.terms.specs.Term.Terms.{nil, ◌▹◌}
 use Rattle.terms.specs.Book.{record_of, tree, layout_ok}
-use Rattle.terms.specs.Readers.{within, ranged, as_fraction, as_bitvector, as_op, arguments_of}
+use Rattle.terms.specs.Readers.{within, ranged, as_fraction, as_bitvector, as_op, arguments_of, Reading}
 use Rattle.book.proofs.BookTerms.{Each}
 use Rattle.terms.proofs.RecordReadings.{arguments_of_record}
-use Rattle.rules.specs.Refusal.{Result, ◌>>=◌, assert}
-use Rattle.std.specs.Prelude.{Ok, Err}
-use Rattle.rules.specs.Refusal.Refusal.{number_range, polynomial_size}
+use Rattle.rules.specs.Refusal.{Result, ◌>>=◌, assert, or_else}
+use Rattle.rules.specs.declared.refusal.Refusal.TheVariants.{NumberRange, PolynomialSize}
 use Rattle.rules.specs.Limits.{Limits, limited, number_or, times, over, fraction_of}
 use Rattle.index_map.specs.IndexMap.{Walked, walked, combination, visit, add_entry, add_constant}
 use Rattle.polynomial_walk.specs.PolynomialTerms as definition-walk
@@ -27,53 +26,53 @@ use Rattle.polynomial_walk.specs.PolynomialTerms.{arm_of, add_leaf, nonzero, div
 use Rattle.polynomial_walk.specs.PolynomialTerms.{add_difference, add_first, first_factor}
 use Rattle.polynomial_walk.specs.PolynomialTerms.Arm.{sum, negation, difference, product, quotient, leaf}
 use Rattle.polynomial.specs.Memory.PolynomialArea.{add_scaled}
-use Rattle.polynomial_walk.specs.Memory.PolynomialNodes.{constant_node, constant_of, leaf_node, divided_node, divisor_node}
-use Rattle.polynomial_walk.specs.Memory.PolynomialNodes.{quotient_node, operation_node, node_of, add_each, add_product}
+use Rattle.polynomial_walk.specs.Memory.PolynomialNodes.{constant_node, constant_of, leaf_node, divided_node}
+use Rattle.polynomial_walk.specs.Memory.PolynomialNodes.{divisor_node, quotient_node, operation_node, node_of}
+use Rattle.polynomial_walk.specs.Memory.PolynomialNodes.{add_each, add_product}
 use Rattle.polynomial_walk.specs.declared.polynomial_walk.Node.{Node}
 use Rattle.polynomial_walk.specs.declared.polynomial_walk.Node.TheVariants as node
-use Rattle.index_map.proofs.CheckedNumbers.{over-value, over_out, on_answer, on_product}
+use Rattle.index_map.proofs.CheckedNumbers.{quotient-asked, on_answer, on_product}
 use Rattle.rules.proofs.Results.{bind-same}
 use Rattle.book.proofs.ArgumentsBelow.{Own, Below, forest-own, arguments-below}
-use Rattle.numbers.specs.Rational.{Checked}
-use Rattle.terms.specs.Readers.{Reading}
 use Rattle.terms.specs.declared.term.NotRead.TheVariants.{NotNumber, OutOfRange}
 
 -- what the walk does at a node of the term t, under d products and after the visit
-abbrev pub act : Bytes → Limits → ℕ → Term → Rational → Node → Walked Monomial → Result (Walked Monomial)
-act b l d t coeff (node.Args p q) w = add_each (arguments_of t) l d p q w
-act b l d t coeff node.Product w = add_product (arguments_of t) l d coeff w
-act b l d t coeff (node.Quotient x c) w = add_term (tree b x) l d c w
-act b l d t coeff (node.Constant q) w = add_constant l q w
-act b l d t coeff node.Atom w = add_entry monomials l (t ∷ []) coeff w
-act b l d t coeff node.OutOfRange w = Err number_range
+abbrev pub act : Bytes → Limits → ℕ → Term → Rational → Result Node → Walked Monomial → Result (Walked Monomial)
+act b l d t coeff (Ok (node.Args p q)) w = add_each (arguments_of t) l d p q w
+act b l d t coeff (Ok node.Product) w = add_product (arguments_of t) l d coeff w
+act b l d t coeff (Ok (node.Quotient x c)) w = add_term (tree b x) l d c w
+act b l d t coeff (Ok (node.Constant q)) w = add_constant l q w
+act b l d t coeff (Ok node.Atom) w = add_entry monomials l (t ∷ []) coeff w
+act b l d t coeff (Err r) w = Err r
 
 -- ---- the definition's cases, by their names
 
 -- a leaf's node, by what the leaf is read as, as a number and as a bit-vector
-abbrev bits_node : Rational → Option (ℕ × ℕ) → Node
-bits_node coeff v = elim v [ Some (v, n) ↦ constant_of (whole (pos v)) coeff | None ↦ node.Atom ]
+abbrev bits_node : Rational → Option (ℕ × ℕ) → Result Node
+bits_node coeff v = elim v [ Some (v, n) ↦ constant_of (whole (pos v)) coeff | None ↦ Ok node.Atom ]
 
-abbrev read_node : Rational → Reading → Option (ℕ × ℕ) → Node
+abbrev read_node : Rational → Reading → Option (ℕ × ℕ) → Result Node
 read_node coeff r v = elim r [
   | Ok q ↦ constant_of q coeff
   | Err NotNumber ↦ bits_node coeff v
-  | Err OutOfRange ↦ node.OutOfRange
+  | Err OutOfRange ↦ Err NumberRange
 ]
 
 -- an operation's node, by its arm
-abbrev arm_node : Term → Terms → Rational → definition-walk.Arm → Node
+abbrev arm_node : Term → Terms → Rational → definition-walk.Arm → Result Node
 arm_node t ts coeff m = elim m [
-  | sum ↦ node.Args coeff coeff
-  | negation ↦ node.Args (neg_q coeff) (neg_q coeff)
-  | difference ↦ node.Args coeff (neg_q coeff)
-  | product ↦ node.Product
+  | sum ↦ Ok (node.Args coeff coeff)
+  | negation ↦ Ok (node.Args (neg_q coeff) (neg_q coeff))
+  | difference ↦ Ok (node.Args coeff (neg_q coeff))
+  | product ↦ Ok node.Product
   | quotient ↦ quotient_node t ts coeff
   | leaf ↦ leaf_node t coeff
 ]
 
 -- ---- the arms
 
-args-each :
+-- after the first argument all are walked with one coefficient
+pub args-each :
     (ts : Terms) (l : Limits) (d : ℕ) (coeff : Rational) (w : Walked Monomial) →
     add_args ts l d coeff w ≡ add_each ts l d coeff coeff w
 unfolding add_term add_each
@@ -92,7 +91,7 @@ module _ (b : Bytes) (n d : ℕ) (t : Term) (coeff : Rational) (w : Walked Monom
       (q : Rational) →
       (times (limited n) q coeff >>= λ r. add_constant (limited n) r w)
       ≡ act b (limited n) d t coeff (constant_of q coeff) w
-  unfolding constant_of
+  unfolding constant_of or_else ◌>>=◌
   constant-walk q =
       on_product n q coeff (λ r. add_constant (limited n) r w)
       (λ r. act b (limited n) d t coeff (constant_node r) w) (λ q. refl) refl
@@ -130,8 +129,9 @@ module _ (b : Bytes) (n d : ℕ) (t : Term) (coeff : Rational) (w : Walked Monom
       (q : Rational) (a : Term) → Own b a →
       (over (limited n) coeff q >>= λ c. add_term a (limited n) d c w)
       ≡ act b (limited n) d t coeff (divided_node (record_number a) (checked (div_q coeff q))) w
+  unfolding or_else ◌>>=◌
   divided-walk q a own =
-      on_answer (over (limited n) coeff q) (checked (div_q coeff q)) (over-value n coeff q) (over_out n coeff q)
+      on_answer (checked (div_q coeff q)) (quotient-asked n coeff q refl)
       (λ c. add_term a (limited n) d c w)
       (λ r. act b (limited n) d t coeff (divided_node (record_number a) r) w)
       (λ c. ap (λ (v : Term). add_term v (limited n) d c w) (sym own)) refl
@@ -190,7 +190,7 @@ module _ (b : Bytes) (n d : ℕ) (coeff : Rational) (w : Walked Monomial) where
             | negation ↦ add_args ts (limited n) d (neg_q coeff) w
             | difference ↦ add_difference ts (limited n) d coeff w
             | product ↦ (do
-              _ ← assert (within (limited n).depth (suc d)) polynomial_size
+              _ ← assert (within (limited n).depth (suc d)) PolynomialSize
               r ← first_factor ts (limited n) (suc d) w.visits
               m ← insert_scaled (limited n) r.sum.entries coeff w.sum.entries
               c ← times (limited n) coeff r.sum.constant
@@ -220,17 +220,13 @@ walk-node b id n d coeff w =
 -- ---- what the walk goes on to lies below
 
 -- a term's dividend is one of its arguments
-abbrev DividendBelow : ℕ → Node → Type 0
-DividendBelow i (node.Quotient x c) = x < i
-DividendBelow i (node.Args p q) = Unit {0}
-DividendBelow i node.Product = Unit {0}
-DividendBelow i (node.Constant q) = Unit {0}
-DividendBelow i node.Atom = Unit {0}
-DividendBelow i node.OutOfRange = Unit {0}
+abbrev DividendBelow : ℕ → Result Node → Type 0
+DividendBelow i (Ok (node.Quotient x c)) = x < i
+DividendBelow i r = Unit {0}
 
 module _ (i : ℕ) (coeff : Rational) where
   constant-lower : (q : Rational) → DividendBelow i (constant_of q coeff)
-  unfolding constant_of
+  unfolding constant_of or_else ◌>>=◌
   constant-lower q = go (checked (mul_q q coeff))
     where
       go : (r : Checked) → DividendBelow i (constant_node r)
@@ -248,6 +244,7 @@ module _ (i : ℕ) (coeff : Rational) where
       go (Err OutOfRange) v = tt
 
   quotient-lower : (t : Term) (ts : Terms) → Below i ts → DividendBelow i (quotient_node t ts coeff)
+  unfolding or_else ◌>>=◌
   quotient-lower t nil h = leaf-lower t
   quotient-lower t (a ▹ nil) h = leaf-lower t
   quotient-lower t (a ▹ c ▹ ts) h = go (as_fraction ranged c)
@@ -286,6 +283,6 @@ module _ (i : ℕ) (coeff : Rational) where
 
 pub quotient-below :
     (b : Bytes) (id : ℕ) (coeff c : Rational) (x : ℕ) → layout_ok id (record_of b id) ≡ true →
-    node_of (tree b id) coeff ≡ node.Quotient x c → x < id
+    node_of (tree b id) coeff ≡ Ok (node.Quotient x c) → x < id
 quotient-below b id coeff c x layout e =
     subst (DividendBelow id) e (node-lower id coeff (tree b id) (arguments-below b id layout))

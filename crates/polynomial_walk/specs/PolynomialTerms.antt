@@ -11,7 +11,7 @@ use Rattle.terms.specs.Term.Terms.{nil, ◌▹◌}
 use Rattle.terms.specs.Readers.{as_bitvector, within}
 use Rattle.rules.specs.Refusal.{Result, ◌>>=◌, assert}
 use Rattle.std.specs.Prelude.{Ok}
-use Rattle.rules.specs.Refusal.Refusal.{polynomial_size}
+use Rattle.rules.specs.declared.refusal.Refusal.TheVariants.{PolynomialSize}
 use Rattle.rules.specs.Limits.{Limits, times, over, fraction_of}
 use Rattle.index_map.specs.IndexMap.{combination, new, Walked, walked, visit, add_entry, add_constant}
 use Rattle.rules.specs.Shapes.{size}
@@ -65,7 +65,7 @@ unfoldable mutual
       | negation ↦ add_args ts l d (neg_q coeff) w
       | difference ↦ add_difference ts l d coeff w
       | product ↦ (do
-        _ ← assert (within l.depth (suc d)) polynomial_size
+        _ ← assert (within l.depth (suc d)) PolynomialSize
         r ← first_factor ts l (suc d) w.visits
         m ← insert_scaled l r.sum.entries coeff w.sum.entries
         c ← times l coeff r.sum.constant

@@ -1,27 +1,28 @@
 // `add_term` of src/checker/rules/polynomial.rs: a walk of a term and of the lists of its arguments. The factors of a
 // product are walked into the areas above the one that is filled.
+ghost use Rattle.index_map.specs.Memory.Answers.{walked_with};
+ghost use Rattle.index_map.specs.Memory.Answers.{Has};
 ghost use Rattle.std.specs.Prelude.{[], ◌∷◌};
 ghost use Rattle.numbers.specs.Rational.{Proper};
 ghost use Rattle.terms.specs.Book.{tree, numbers, arguments, forest};
 ghost use Rattle.terms.specs.Readers.{arguments_of};
 ghost use Rattle.rules.specs.Limits.{limited};
-ghost use Rattle.index_map.specs.IndexMap.{Map, walked};
+ghost use Rattle.index_map.specs.IndexMap.{Map};
 ghost use Rattle.polynomial.specs.Polynomial.{Monomial};
 ghost use Rattle.polynomial_walk.specs.PolynomialTerms.{first_factor, other_factors};
-ghost use Rattle.polynomial.specs.Memory.PolynomialArea.{Stacked, PolyHas, poly_with, Walks};
+ghost use Rattle.polynomial.specs.Memory.PolynomialArea.{Stacked, Walks};
 ghost use Rattle.polynomial_walk.specs.Memory.PolynomialNodes.{NodeIs, leaf_node, node_of, constant_of, quotient_of};
 ghost use Rattle.polynomial_walk.specs.Memory.PolynomialNodes.{add_each, add_product, TermPre, ArgsPre};
 ghost use Rattle.polynomial_walk.specs.Memory.PolynomialNodes.{FactorsPre, OthersPre, TermWalks};
 
 use crate::additions::{add_atom, add_constant, add_scaled};
+use index_map::combination::Walked;
 use numbers::number::Number;
-use polynomial::polynomial::{
-    Combined, Polynomial, Walk, clear_at, combined_refusal, mul, walk_refusal,
-};
+use polynomial::polynomial::{Polynomial, clear_at, mul};
+use rules::refusal::Refusal;
 use terms::areas::{MAX_DEPTH, POLYNOMIAL_BYTES};
 use terms::operator::{ADD, BV_ADD, BV_MUL, BV_NEG, BV_SUB, MULT, REAL_DIV, SUB, TO_REAL};
 use terms::records::argument;
-use terms::refusal::{NUMBER_RANGE, POLYNOMIAL_SIZE, VISIT_LIMIT};
 use terms::term::{NotRead, args, as_bitvector, as_fraction, operator};
 
 // What a walk does at a term.
@@ -37,39 +38,35 @@ pub enum Node {
     Constant(Number),
     // Adds the term itself as an atom.
     Atom,
-    // Refusal 11.
-    OutOfRange,
 }
 
 // ---- looking at a term
 
-fn constant(q: Number, coeff: Number) -> Node
+fn constant(q: Number, coeff: Number) -> Result<Node, Refusal>
     requires { Proper q × Proper coeff }
     ensures { NodeIs result (constant_of q coeff) }
 {
-    let Some(c) = q.mul(coeff) else {
-        return Node::OutOfRange;
-    };
-    Node::Constant(c)
+    let c = q.mul(coeff).ok_or(Refusal::NumberRange)?;
+    Ok(Node::Constant(c))
 }
 
 // A number goes to the constant, a bit-vector constant too, anything else is an atom.
-fn leaf(book: &[u8], id: usize, coeff: Number) -> Node
+fn leaf(book: &[u8], id: usize, coeff: Number) -> Result<Node, Refusal>
     requires { Proper coeff }
     ensures { NodeIs result (leaf_node (tree book.now id) coeff) }
 {
     match as_fraction(book, id) {
         Ok(q) => constant(q, coeff),
-        Err(NotRead::OutOfRange) => Node::OutOfRange,
+        Err(NotRead::OutOfRange) => Err(Refusal::NumberRange),
         Err(NotRead::NotNumber) => match as_bitvector(book, id) {
             Some((v, _)) => constant(Number::whole(v as i64), coeff),
-            None => Node::Atom,
+            None => Ok(Node::Atom),
         },
     }
 }
 
 // The dividend with the coefficient over the divisor, where that is read and is not 0.
-fn quotient(book: &[u8], id: usize, coeff: Number) -> Node
+fn quotient(book: &[u8], id: usize, coeff: Number) -> Result<Node, Refusal>
     requires { Proper coeff }
     ensures { NodeIs result (quotient_of (tree book.now id) coeff) }
 {
@@ -78,35 +75,33 @@ fn quotient(book: &[u8], id: usize, coeff: Number) -> Node
         return leaf(book, id, coeff);
     }
     match as_fraction(book, argument(sides, 1, id)) {
-        Err(NotRead::OutOfRange) => Node::OutOfRange,
+        Err(NotRead::OutOfRange) => Err(Refusal::NumberRange),
         Err(NotRead::NotNumber) => leaf(book, id, coeff),
         Ok(q) => {
             if q.is_zero() {
                 return leaf(book, id, coeff);
             }
-            let Some(c) = coeff.div(q) else {
-                return Node::OutOfRange;
-            };
-            Node::Quotient(argument(sides, 0, id), c)
+            let c = coeff.div(q).ok_or(Refusal::NumberRange)?;
+            Ok(Node::Quotient(argument(sides, 0, id), c))
         }
     }
 }
 
-fn look(book: &[u8], id: usize, coeff: Number) -> Node
+fn look(book: &[u8], id: usize, coeff: Number) -> Result<Node, Refusal>
     requires { Proper coeff }
     ensures { NodeIs result (node_of (tree book.now id) coeff) }
 {
     let minus = coeff.neg();
     match operator(book, id) {
-        ADD | TO_REAL | BV_ADD => Node::Args(coeff, coeff),
+        ADD | TO_REAL | BV_ADD => Ok(Node::Args(coeff, coeff)),
         SUB => if args(book, id).len() / 2 == 1 {
-            Node::Args(minus, minus)
+            Ok(Node::Args(minus, minus))
         } else {
-            Node::Args(coeff, minus)
+            Ok(Node::Args(coeff, minus))
         },
-        BV_SUB => Node::Args(coeff, minus),
-        BV_NEG => Node::Args(minus, minus),
-        MULT | BV_MUL => Node::Product,
+        BV_SUB => Ok(Node::Args(coeff, minus)),
+        BV_NEG => Ok(Node::Args(minus, minus)),
+        MULT | BV_MUL => Ok(Node::Product),
         REAL_DIV => quotient(book, id, coeff),
         _ => leaf(book, id, coeff),
     }
@@ -121,33 +116,35 @@ pub fn add_term(
     stack: &mut [u8],
     id: usize,
     coeff: Number,
-    s: Polynomial,
-    visits: u32,
+    w: Walked,
     limit: u32,
     depth: u8,
-) -> Walk
-    requires { TermPre book.now stack.old id coeff s depth }
-    ensures { TermWalks book.now stack.old stack.new id coeff s visits limit
+) -> Result<Walked, Refusal>
+    requires { TermPre book.now stack.old id coeff w.sum depth }
+    ensures { TermWalks book.now stack.old stack.new id coeff w limit
         depth result }
 {
-    let n = s.len;
-    if limit <= visits {
-        clear_at(stack, 0, n);
-        return Walk::Refused(VISIT_LIMIT);
+    let sum = w.sum;
+    if limit <= w.visits {
+        clear_at(stack, 0, sum.len);
+        return Err(Refusal::VisitLimit);
     }
-    let seen = visits + 1;
+    let begun = Walked {
+        visits: w.visits + 1,
+        ..w
+    };
     match look(book, id, coeff) {
-        Node::Args(first, others) => {
+        Ok(Node::Args(first, others)) => {
             let part = args(book, id);
-            add_args(book, stack, part, id, first, others, s, seen, limit, depth)
+            add_args(book, stack, part, id, first, others, begun, limit, depth)
         }
-        Node::Product => add_product(book, stack, id, coeff, s, seen, limit, depth),
-        Node::Quotient(x, c) => add_dividend(book, stack, x, c, s, seen, limit, depth),
-        Node::Constant(q) => add_constant(stack, s, seen, q),
-        Node::Atom => add_atom(stack, s, seen, id, coeff),
-        Node::OutOfRange => {
-            clear_at(stack, 0, n);
-            Walk::Refused(NUMBER_RANGE)
+        Ok(Node::Product) => add_product(book, stack, id, coeff, begun, limit, depth),
+        Ok(Node::Quotient(x, c)) => add_dividend(book, stack, x, c, begun, limit, depth),
+        Ok(Node::Constant(q)) => add_constant(stack, begun, q),
+        Ok(Node::Atom) => add_atom(stack, begun, id, coeff),
+        Err(r) => {
+            clear_at(stack, 0, sum.len);
+            Err(r)
         }
     }
 }
@@ -160,16 +157,15 @@ fn add_dividend(
     stack: &mut [u8],
     id: usize,
     coeff: Number,
-    s: Polynomial,
-    visits: u32,
+    w: Walked,
     limit: u32,
     depth: u8,
-) -> Walk
-    requires { TermPre book.now stack.old id coeff s depth }
-    ensures { TermWalks book.now stack.old stack.new id coeff s visits limit
+) -> Result<Walked, Refusal>
+    requires { TermPre book.now stack.old id coeff w.sum depth }
+    ensures { TermWalks book.now stack.old stack.new id coeff w limit
         depth result }
 {
-    add_term(book, stack, id, coeff, s, visits, limit, depth)
+    add_term(book, stack, id, coeff, w, limit, depth)
 }
 
 // coeff times the product that is the term of record `id`, which is made in the areas above, is added.
@@ -179,31 +175,44 @@ fn add_product(
     stack: &mut [u8],
     id: usize,
     coeff: Number,
-    s: Polynomial,
-    visits: u32,
+    w: Walked,
     limit: u32,
     depth: u8,
-) -> Walk
-    requires { TermPre book.now stack.old id coeff s depth }
-    ensures { (m : Map Monomial) → Stacked book.now stack.old (m ∷ []) → PolyHas s m →
+) -> Result<Walked, Refusal>
+    requires { TermPre book.now stack.old id coeff w.sum depth }
+    ensures { (m : Map Monomial) → Stacked book.now stack.old (m ∷ []) → Has w.sum m →
         Walks book.now stack.new result
         (add_product (arguments_of (tree book.now id)) (limited limit) depth coeff
-        (walked (poly_with s m) visits)) }
+        (walked_with w m)) }
 {
-    let n = s.len;
+    let n = w.sum.len;
     if MAX_DEPTH <= depth {
         clear_at(stack, 0, n);
-        return Walk::Refused(POLYNOMIAL_SIZE);
+        return Err(Refusal::PolynomialSize);
     }
-    let deeper = depth + 1;
     let sides = args(book, id);
     let above = POLYNOMIAL_BYTES;
-    let product = first_factor(book, &mut stack[above..], sides, id, visits, limit, deeper);
-    let Walk::Done(p, seen) = product else {
-        clear_at(stack, 0, n);
-        return Walk::Refused(walk_refusal(product));
-    };
-    add_scaled(stack, s, p, coeff, seen)
+    match first_factor(
+        book,
+        &mut stack[above..],
+        sides,
+        id,
+        w.visits,
+        limit,
+        depth + 1,
+    ) {
+        Ok(product) => {
+            let begun = Walked {
+                visits: product.visits,
+                ..w
+            };
+            add_scaled(stack, begun, product.sum, coeff)
+        }
+        Err(r) => {
+            clear_at(stack, 0, n);
+            Err(r)
+        }
+    }
 }
 
 // The arguments of record `id`, from the part of the record that holds them.
@@ -215,31 +224,24 @@ fn add_args(
     id: usize,
     first: Number,
     others: Number,
-    s: Polynomial,
-    visits: u32,
+    w: Walked,
     limit: u32,
     depth: u8,
-) -> Walk
-    requires { ArgsPre book.now stack.old args.now id first others s depth }
-    ensures { (m : Map Monomial) → Stacked book.now stack.old (m ∷ []) → PolyHas s m →
+) -> Result<Walked, Refusal>
+    requires { ArgsPre book.now stack.old args.now id first others w.sum depth }
+    ensures { (m : Map Monomial) → Stacked book.now stack.old (m ∷ []) → Has w.sum m →
         Walks book.now stack.new result
         (add_each (forest (tree book.now) (arguments id (numbers args.now))) (limited limit) depth
-        first others (walked (poly_with s m) visits)) }
+        first others (walked_with w m)) }
 {
-    let mut sum = s;
-    let mut seen = visits;
+    let mut done = w;
     let mut coeff = first;
     for k in 0..args.len() / 2 {
         let x = argument(args, k, id);
-        let walk = add_term(book, stack, x, coeff, sum, seen, limit, depth);
-        let Walk::Done(t, v) = walk else {
-            return walk;
-        };
-        sum = t;
-        seen = v;
+        done = add_term(book, stack, x, coeff, done, limit, depth)?;
         coeff = others;
     }
-    Walk::Done(sum, seen)
+    Ok(done)
 }
 
 // The product of the arguments of record `id`, in an empty stack: the first two are multiplied before the third is
@@ -253,26 +255,19 @@ fn first_factor(
     visits: u32,
     limit: u32,
     depth: u8,
-) -> Walk
+) -> Result<Walked, Refusal>
     requires { FactorsPre book.now stack.old args.now id depth }
     ensures { Walks book.now stack.new result
         (first_factor (forest (tree book.now) (arguments id (numbers args.now))) (limited limit)
         depth visits) }
 {
-    let none = Polynomial {
-        len: 0,
-        constant: Number::whole(0),
-    };
-    let one = Number::whole(1);
+    let begun = Walked::new(visits);
     if args.len() / 2 == 0 {
-        return Walk::Done(none, visits);
+        return Ok(begun);
     }
     let x = argument(args, 0, id);
-    let first = add_term(book, stack, x, one, none, visits, limit, depth);
-    let Walk::Done(product, seen) = first else {
-        return first;
-    };
-    other_factors(book, stack, &args[2..], id, product, seen, limit, depth)
+    let product = add_term(book, stack, x, Number::whole(1), begun, limit, depth)?;
+    other_factors(book, stack, &args[2..], id, product, limit, depth)
 }
 
 // The product p of the lowest area times each argument in `rest`, the part of record `id` behind those that p is made
@@ -283,44 +278,33 @@ fn other_factors(
     stack: &mut [u8],
     rest: &[u8],
     id: usize,
-    p: Polynomial,
-    visits: u32,
+    p: Walked,
     limit: u32,
     depth: u8,
-) -> Walk
-    requires { OthersPre book.now stack.old rest.now id p depth }
-    ensures { (m : Map Monomial) → Stacked book.now stack.old (m ∷ []) → PolyHas p m →
+) -> Result<Walked, Refusal>
+    requires { OthersPre book.now stack.old rest.now id p.sum depth }
+    ensures { (m : Map Monomial) → Stacked book.now stack.old (m ∷ []) → Has p.sum m →
         Walks book.now stack.new result
         (other_factors (forest (tree book.now) (arguments id (numbers rest.now))) (limited limit)
-        depth (walked (poly_with p m) visits)) }
+        depth (walked_with p m)) }
 {
     if rest.len() / 2 == 0 {
-        return Walk::Done(p, visits);
+        return Ok(p);
     }
-    let none = Polynomial {
-        len: 0,
-        constant: Number::whole(0),
-    };
-    let one = Number::whole(1);
-    let n = p.len;
+    let begun = Walked::new(p.visits);
     let x = argument(rest, 0, id);
-    let factor = add_term(
-        book,
-        &mut stack[POLYNOMIAL_BYTES..],
-        x,
-        one,
-        none,
-        visits,
-        limit,
-        depth,
-    );
-    let Walk::Done(q, seen) = factor else {
-        clear_at(stack, 0, n);
-        return Walk::Refused(walk_refusal(factor));
+    let above = POLYNOMIAL_BYTES;
+    let one = Number::whole(1);
+    let factor = match add_term(book, &mut stack[above..], x, one, begun, limit, depth) {
+        Ok(walked) => walked,
+        Err(r) => {
+            clear_at(stack, 0, p.sum.len);
+            return Err(r);
+        }
     };
-    let combined = mul(stack, p, q);
-    let Combined::Is(product) = combined else {
-        return Walk::Refused(combined_refusal(combined));
+    let product = Walked {
+        sum: mul(stack, p.sum, factor.sum)?,
+        visits: factor.visits,
     };
-    other_factors(book, stack, &rest[2..], id, product, seen, limit, depth)
+    other_factors(book, stack, &rest[2..], id, product, limit, depth)
 }

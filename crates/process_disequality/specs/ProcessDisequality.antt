@@ -8,7 +8,7 @@ use Rattle.terms.specs.Term.{Term}
 use Rattle.numbers.specs.Choice.{when◌then◌else◌}
 use Rattle.rules.specs.Refusal.{Result, ◌>>=◌, assert, or_else}
 use Rattle.std.specs.Prelude.{Ok, Err}
-use Rattle.rules.specs.Refusal.Refusal.{not_unit, coeff_not_found}
+use Rattle.rules.specs.declared.refusal.Refusal.TheVariants.{NotUnit, CoeffNotFound}
 use Rattle.rules.specs.Limits.{Limits, over}
 use Rattle.index_map.specs.IndexMap.{Map, get, add}
 use Rattle.linear_comb.specs.LinearComb.{LinearComb, mul, all_int}
@@ -28,12 +28,12 @@ progress o s t n = record { operator = o; acc = s; trace = t; visits = n }
 -- minus the sum's coefficient of the literal's only atom, divided by the literal's own; where the Rust would divide by
 -- zero, it is refused as a literal with no atom or several is
 unfoldable pub inferred : Limits → Map Term → Map Term → Result Rational
-inferred l acc [] = Err not_unit
+inferred l acc [] = Err NotUnit
 inferred l acc ((var, coeff1) ∷ []) = do
-  _ ← assert (not (is_zero coeff1)) not_unit
-  coeff2 ← or_else (get terms acc var) coeff_not_found
+  _ ← assert (not (is_zero coeff1)) NotUnit
+  coeff2 ← or_else (get terms acc var) CoeffNotFound
   over l (neg_q coeff2) coeff1
-inferred l acc (e ∷ f ∷ m) = Err not_unit
+inferred l acc (e ∷ f ∷ m) = Err NotUnit
 
 -- the argument, and the trace with it where it is inferred
 unfoldable pub argument_of : Limits → Progress → LinearComb → Option Rational → Result (Rational × List Rational)

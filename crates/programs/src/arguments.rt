@@ -24,7 +24,7 @@ pub fn read_word<'a>(rt: &impl Env, i: usize, text: &'a mut [u8]) -> Option<&'a 
     Some(&text[..n])
 }
 
-// Argument i as it was given, and the end of the line.
+// Argument i as it was given, and the end of the line, on standard error.
 pub fn complain_word<R: Env + Complaints>(rt: &R, i: usize) -> Complained {
     let mut text = [0u8; MAX_WORD];
     if let Some(word) = read_word(rt, i, &mut text) {
@@ -33,7 +33,7 @@ pub fn complain_word<R: Env + Complaints>(rt: &R, i: usize) -> Complained {
     complain(rt, b"\n")
 }
 
-// Argument i as it was given.
+// Argument i as it was given, on standard output, where an error is handed on.
 pub fn print_word<R: Env + Print>(rt: &R, i: usize) -> io::Result<()> {
     let mut text = [0u8; MAX_WORD];
     match read_word(rt, i, &mut text) {

@@ -88,7 +88,9 @@ pub fn read_piece<'a>(
 }
 
 // A number of two bytes; none where the file ends.
-pub fn read_count(file: &mut impl Read) -> io::Result<Option<u16>> {
+pub fn read_count(file: &mut impl Read) -> io::Result<Option<u16>>
+    ensures { IfOk result (λ found. IfSome found (λ n. n < 65536)) }
+{
     let mut size = [0u8; 2];
     Ok(if read_file(file, &mut size)? == 2 {
         Some(u16::from_le_bytes(size))

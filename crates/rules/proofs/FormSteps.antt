@@ -1,9 +1,10 @@
--- The matcher of forms on a table of records: what each step of `bind`, `bind_all`, `solve` and `solve_all` makes of the
--- names in the table is what the definition makes of them.
---     bound-again, bound-other, bound-next, not-bound       a name
---     Binding, no_count       the parts of an equation, in a loop
---     other-operation, no_name       an equation
---     Solving       a form, in a loop
+-- The matcher of forms on a table of records: what each step of `bind`, `bind_all`, `solve` and `solve_all` makes of
+-- the names in the table is what the definition makes of them.
+--     get_d_inside, bound-again, bound-other, bound-next, not-bound       a name
+--     other-count, Binding, binding_next, binding_refused, binding_end       the parts of an equation, in a loop
+--     no_name, other-operator, by_parts       an equation
+--     Solving, solving_next, solving_refused, solving_end       a form, in a loop
+--     matches_of       a form of the only literal
 use mathlib.Core.Path.{◌≡◌, refl, sym, ◌∙◌, ap, fun_ext}
 use mathlib.Core.Bool.{Bool, true, false, ◌&&◌}
 use mathlib.Core.List.{List, [], ◌∷◌, ◌++◌}
@@ -21,16 +22,11 @@ use Rattle.terms.specs.Term.{Term, Terms}
 use Rattle.terms.specs.Term.Terms.{nil, ◌▹◌}
 use Rattle.terms.specs.Book.{tree, forest, argument_at, arguments, numbers}
 use Rattle.terms.specs.Readers.{operator_of, arguments_of}
-use Rattle.rules.specs.Refusal.{◌>>=◌, or_else}
-use Rattle.std.specs.Prelude.{Ok}
-use Rattle.rules.specs.Refusal.Refusal.{term_of_wrong_form}
-use Rattle.rules.specs.Memory.Parts.{terms_in, after, verdict_of}
-use Rattle.rules.specs.declared.verdict.Verdict.TheVariants as verdict
-use Rattle.rules.specs.Shapes.{Form, Names, only_name, matches, has_form, equation_of, form_of, bind, bind_all, solve}
+use Rattle.rules.specs.Shapes.{Form, Names, only_name, matches, equation_of, form_of, bind, bind_all, solve}
 use Rattle.rules.specs.Shapes.{solve_all, max_names, size}
-use Rattle.rules.specs.Memory.ShapeRecords.{names_in, found_names}
+use Rattle.rules.specs.Memory.ShapeRecords.{names_in}
 use Rattle.rules.proofs.ArgumentsLeft.{args_from, left-next, left_none, size-forest, arguments-count}
-use Rattle.rules.proofs.ShapeSteps.{same-records, OnlyIn, literal_is, no_literal}
+use Rattle.rules.proofs.ShapeSteps.{same-records}
 
 -- ---- a name
 
@@ -40,10 +36,6 @@ get_d_inside [] k d e h = absurd (omega arith)
 get_d_inside (x ∷ l) zero d e h = refl
 get_d_inside (x ∷ l) (suc k) d e h = get_d_inside l k d e (omega (arith, h))
 
-named_some : (b : Bytes) (d n : ℕ) (l : List ℕ) → 0 < n → found_names b d n l ≡ Some (names_in b d n l)
-named_some b d zero l h = absurd (omega arith)
-named_some b d (suc n) l h = refl
-
 module _ (b : Bytes) (d n k x : ℕ) (l : List ℕ) where
   -- whether a name that has a record has this one
   again_law :
@@ -52,10 +44,10 @@ module _ (b : Bytes) (d n k x : ℕ) (l : List ℕ) where
   unfolding bind when◌then◌else◌
   again_law h inside = rw (lt-ltb k n h, same-records b (get_or l k d) x, get_d_inside l k d 0 inside)
 
-  pub bound-again : k < n → k < length l → get_or l k 0 ≡ x → found_names b d n l ≡ bind k (tree b x) (names_in b d n l)
+  pub bound-again :
+      k < n → k < length l → get_or l k 0 ≡ x → Some (names_in b d n l) ≡ bind k (tree b x) (names_in b d n l)
   unfolding when◌then◌else◌
-  bound-again h inside e =
-      named_some b d n l (omega (arith, h)) ∙ sym (again_law h inside ∙ rw (eq-eqb (get_or l k 0) x e))
+  bound-again h inside e = sym (again_law h inside ∙ rw (eq-eqb (get_or l k 0) x e))
 
   pub bound-other : k < n → k < length l → (get_or l k 0 ≡ x → ⊥) → None ≡ bind k (tree b x) (names_in b d n l)
   unfolding when◌then◌else◌
@@ -74,7 +66,7 @@ module _ (b : Bytes) (d n k x : ℕ) (l : List ℕ) where
 
   pub bound-next :
       k ≡ n → k < max_names → k < length l →
-      found_names b d (k + 1) (set l k x) ≡ bind k (tree b x) (names_in b d n l)
+      Some (names_in b d (k + 1) (set l k x)) ≡ bind k (tree b x) (names_in b d n l)
   unfolding bind when◌then◌else◌
   bound-next e h inside =
       rw (add-one, le-ltb k n (omega arith), eq-eqb k n e, lt-ltb k max_names h)
@@ -93,9 +85,7 @@ module _ (b : Bytes) (d n k x : ℕ) (l : List ℕ) where
 -- j of the parts have their names
 pub record Binding
     (names₀ : List ℕ) (n : ℕ) (args : Bytes) (id : ℕ) (parts : Bytes) (names : List ℕ) (m j : ℕ) : Type 0 where
-  pub size : length names ≡ max_names
   pub most : m ≤ max_names
-  pub some-named : 0 < m
   pub counts : length args / 2 ≡ length parts
   pub left :
       (b : Bytes) (d : ℕ) →
@@ -105,9 +95,6 @@ pub record Binding
 -- the names that are found, and then f
 abbrev followed : Option Names → (Names → Option Names) → Option Names
 followed m f = elim m [ Some τ ↦ f τ | None ↦ None ]
-
-goes_on : {m z : Option Names} {τ : Names} (f : Names → Option Names) → m ≡ Some τ → followed m f ≡ z → f τ ≡ z
-goes_on f e h = sym (ap (λ (m : Option Names). followed m f) e) ∙ h
 
 then-rest : (m : Option Names) (f : Names → Option Names) → ((τ : Names) → None ≡ f τ) → None ≡ followed m f
 then-rest (Some τ) f h = h τ
@@ -121,57 +108,48 @@ no_count [] (t ▹ ts) σ h = refl
 no_count (k ∷ ks) nil σ h = refl
 no_count (k ∷ ks) (t ▹ ts) σ h = then-rest (bind k t σ) _ (λ τ. no_count ks ts τ (λ e. h (ap suc e)))
 
-module _ (names₀ : List ℕ) (n : ℕ) (args : Bytes) (id : ℕ) (parts : Bytes) where
-  pub other-count :
-      (length args / 2 ≡ length parts → ⊥) → (b : Bytes) (d : ℕ) →
-      None ≡ bind_all parts (args_from b id args 0) (names_in b d n names₀)
-  other-count h b d =
-      no_count parts (args_from b id args 0) _ (λ e. h (sym (sized b) ∙ e))
-    where
-      sized : (b : Bytes) → size (args_from b id args 0) ≡ length args / 2
-      sized b = size-forest (tree b) (arguments id (numbers args)) ∙ arguments-count id args
+pub other-count :
+    (args : Bytes) (id : ℕ) (parts : Bytes) → (length args / 2 ≡ length parts → ⊥) → (b : Bytes) (σ : Names) →
+    None ≡ bind_all parts (args_from b id args 0) σ
+other-count args id parts h b σ =
+    let sized : size (args_from b id args 0) ≡ length args / 2 =
+    size-forest (tree b) (arguments id (numbers args)) ∙ arguments-count id args in
+    no_count parts (args_from b id args 0) σ (λ e. h (sym sized ∙ e))
 
-  module _ {names : List ℕ} {m j : ℕ} (h : Binding names₀ n args id parts names m j) where
-    pub binding_end :
-        length parts ≤ j → (b : Bytes) (d : ℕ) →
-        found_names b d m names ≡ bind_all parts (args_from b id args 0) (names_in b d n names₀)
+module _
+    {names₀ : List ℕ} {n : ℕ} {args : Bytes} {id : ℕ} {parts : Bytes} {names : List ℕ} {m j : ℕ}
+    (h : Binding names₀ n args id parts names m j) where
+  pub binding_end :
+      length parts ≤ j → (b : Bytes) (d : ℕ) →
+      Some (names_in b d m names) ≡ bind_all parts (args_from b id args 0) (names_in b d n names₀)
+  unfolding bind_all
+  binding_end past b d =
+      sym (rw (drop_of_length-le parts past, left_none b id args j (omega (arith, h.counts)))) ∙ h.left b d
+
+  module _
+      (inside : j < length parts) {k x : ℕ} (k-is : k ≡ get_or parts j 0) (x-is : x ≡ argument_at args j id) where
+    -- the next name, and then the others
+    next_law :
+        (b : Bytes) (d : ℕ) {r : Option Names} → r ≡ bind k (tree b x) (names_in b d m names) →
+        followed r (bind_all (drop (j + 1) parts) (args_from b id args (j + 1)))
+        ≡ bind_all parts (args_from b id args 0) (names_in b d n names₀)
     unfolding bind_all
-    binding_end past b d =
-        named_some b d m names h.some-named
-        ∙ sym (rw (drop_of_length-le parts past, left_none b id args j (omega (arith, h.counts))))
-        ∙ h.left b d
+    next_law b d found =
+        rw (found, k-is)
+        (sym (rw (drop-cons parts j 0 inside, left-next args id (omega (arith, h.counts)) x-is b, add-one))
+        ∙ h.left b d)
 
-    module _
-        (inside : j < length parts) {k x : ℕ} (k-is : k ≡ get_or parts j 0) (x-is : x ≡ argument_at args j id) (r : ℕ)
-        (names' : List ℕ)
-        (found : (b : Bytes) (d : ℕ) → found_names b d r names' ≡ bind k (tree b x) (names_in b d m names)) where
-      -- the next name, and then the others
-      next_law :
-          (b : Bytes) (d : ℕ) →
-          followed (found_names b d r names') (bind_all (drop (j + 1) parts) (args_from b id args (j + 1)))
-          ≡ bind_all parts (args_from b id args 0) (names_in b d n names₀)
-      unfolding bind_all
-      next_law b d =
-          rw (found b d, k-is)
-          (sym (rw (drop-cons parts j 0 inside, left-next args id (omega (arith, h.counts)) x-is b, add-one))
-          ∙ h.left b d)
+    pub binding_refused :
+        ((b : Bytes) (d : ℕ) → None ≡ bind k (tree b x) (names_in b d m names)) →
+        (b : Bytes) (d : ℕ) → None ≡ bind_all parts (args_from b id args 0) (names_in b d n names₀)
+    binding_refused found b d = next_law b d (found b d)
 
-      pub binding_refused :
-          r ≡ 0 → (b : Bytes) (d : ℕ) → None ≡ bind_all parts (args_from b id args 0) (names_in b d n names₀)
-      binding_refused e b d = rw e at (next_law b d)
-
-      pub binding_next :
-          (r ≡ 0 → ⊥) → r ≤ max_names → length names' ≡ max_names → Binding names₀ n args id parts names' r (j + 1)
-      binding_next e l s =
-          record {
-            size = s;
-            most = l;
-            some-named = omega (arith, e);
-            counts = h.counts;
-            left = λ b d.
-                goes_on (bind_all (drop (j + 1) parts) (args_from b id args (j + 1)))
-                (named_some b d r names' (omega (arith, e))) (next_law b d);
-          }
+    pub binding_next :
+        {r : ℕ} {names' : List ℕ} → r ≤ max_names →
+        ((b : Bytes) (d : ℕ) → Some (names_in b d r names') ≡ bind k (tree b x) (names_in b d m names)) →
+        Binding names₀ n args id parts names' r (j + 1)
+    binding_next l found =
+        record { most = l; counts = h.counts; left = λ b d. next_law b d (found b d) }
 
 -- ---- an equation
 
@@ -233,40 +211,35 @@ form-end (w ∷ o ∷ n ∷ x ∷ y ∷ z ∷ l) h = absurd (omega arith)
 
 -- the equations in `rest` are left
 pub record Solving (b : Bytes) (names₀ : List ℕ) (form : Bytes) (names : List ℕ) (n : ℕ) (rest : Bytes) : Type 0 where
-  pub size : length names ≡ max_names
   pub most : n ≤ max_names
-  pub some-named : 0 < n
   pub left :
       (d : ℕ) → solve_all (form_of rest) (names_in b d n names) ≡ solve_all (form_of form) (names_in b d 1 names₀)
 
-module _ (b : Bytes) (names₀ : List ℕ) (form : Bytes) where
-  module _ {names : List ℕ} {n : ℕ} {rest : Bytes} (h : Solving b names₀ form names n rest) where
-    pub solving_end :
-        length rest < 6 → (d : ℕ) → found_names b d n names ≡ solve_all (form_of form) (names_in b d 1 names₀)
+module _
+    {b : Bytes} {names₀ : List ℕ} {form : Bytes} {names : List ℕ} {n : ℕ} {rest : Bytes}
+    (h : Solving b names₀ form names n rest) where
+  pub solving_end :
+      length rest < 6 → (d : ℕ) → Some (names_in b d n names) ≡ solve_all (form_of form) (names_in b d 1 names₀)
+  unfolding solve_all
+  solving_end past d = sym (rw (form-end rest past)) ∙ h.left d
+
+  module _ (e rest' : Bytes) (cut : rest ≡ e ++ rest') (long : length e ≡ 6) where
+    solve_law :
+        (d : ℕ) {r : Option Names} → r ≡ solve (equation_of e) (names_in b d n names) →
+        followed r (solve_all (form_of rest')) ≡ solve_all (form_of form) (names_in b d 1 names₀)
     unfolding solve_all
-    solving_end past d = named_some b d n names h.some-named ∙ sym (rw (form-end rest past)) ∙ h.left d
+    solve_law d found = rw found (sym (rw (cut, form-next e rest' long)) ∙ h.left d)
 
-    module _
-        (e rest' : Bytes) (cut : rest ≡ e ++ rest') (long : length e ≡ 6) (r : ℕ) (names' : List ℕ)
-        (found : (d : ℕ) → found_names b d r names' ≡ solve (equation_of e) (names_in b d n names)) where
-      solve_law :
-          (d : ℕ) →
-          followed (found_names b d r names') (solve_all (form_of rest')) ≡ solve_all (form_of form) (names_in b d 1 names₀)
-      unfolding solve_all
-      solve_law d = rw (found d) (sym (rw (cut, form-next e rest' long)) ∙ h.left d)
+    pub solving_refused :
+        ((d : ℕ) → None ≡ solve (equation_of e) (names_in b d n names)) →
+        (d : ℕ) → None ≡ solve_all (form_of form) (names_in b d 1 names₀)
+    solving_refused found d = solve_law d (found d)
 
-      pub solving_refused : r ≡ 0 → (d : ℕ) → None ≡ solve_all (form_of form) (names_in b d 1 names₀)
-      solving_refused e d = rw e at (solve_law d)
-
-      pub solving_next :
-          (r ≡ 0 → ⊥) → r ≤ max_names → length names' ≡ max_names → Solving b names₀ form names' r rest'
-      solving_next e l s =
-          record {
-            size = s;
-            most = l;
-            some-named = omega (arith, e);
-            left = λ d. goes_on (solve_all (form_of rest')) (named_some b d r names' (omega (arith, e))) (solve_law d);
-          }
+    pub solving_next :
+        {r : ℕ} {names' : List ℕ} → r ≤ max_names →
+        ((d : ℕ) → Some (names_in b d r names') ≡ solve (equation_of e) (names_in b d n names)) →
+        Solving b names₀ form names' r rest'
+    solving_next l found = record { most = l; left = λ d. solve_law d (found d) }
 
 -- ---- a rule that asks for a form
 
@@ -284,24 +257,3 @@ pub matches_of :
     (b : Bytes) (x : ℕ) (f : Form) {m : Option Names} → m ≡ solve_all f (names_in b x 1 (replicate 16 x)) →
     m ≡ matches f (tree b x)
 matches_of b x f e = e ∙ ap (solve_all f) (first_name b x)
-
-module _ (b part : Bytes) (n : ℕ) (f : Form) {w : Option ℕ} (only-is : OnlyIn part w) where
-  pub literal-missing :
-      w ≡ None → verdict.Refused 22 ≡ verdict_of (after n (has_form f (terms_in b part)))
-  unfolding has_form ◌>>=◌
-  literal-missing e = rw (no_literal part b only-is e)
-
-  module _
-      {x : ℕ} (w-is : w ≡ Some x) (r : ℕ) (names : List ℕ)
-      (found : found_names b x r names ≡ solve_all f (names_in b x 1 (replicate 16 x))) where
-    form_law : has_form f (terms_in b part) ≡ (or_else (found_names b x r names) term_of_wrong_form >>= λ σ. Ok tt)
-    unfolding has_form ◌>>=◌
-    form_law = rw (literal_is part b only-is w-is, matches_of b x f found)
-
-    pub form-missing : r ≡ 0 → verdict.Refused 24 ≡ verdict_of (after n (has_form f (terms_in b part)))
-    unfolding ◌>>=◌ or_else
-    form-missing e = rw (form_law, e)
-
-    pub form-there : (r ≡ 0 → ⊥) → verdict.Accepted n ≡ verdict_of (after n (has_form f (terms_in b part)))
-    unfolding ◌>>=◌ or_else
-    form-there e = rw (form_law, named_some b x r names (omega (arith, e)))

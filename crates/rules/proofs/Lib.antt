@@ -1,10 +1,9 @@
 -- results, and what is refused
 pub mod Results
 pub mod Yields
--- numbers, keys and maps, whatever they stand for
+-- numbers, whatever they stand for
 pub mod Valuations
 pub mod WholeNumbers
--- numbers, entries and maps in bytes: over any encoding of keys, then those of sums
 -- what an iterator over chunks of bytes gives
 pub mod Chunks
 -- terms and their arguments in memory

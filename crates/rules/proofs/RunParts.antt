@@ -4,7 +4,6 @@
 --     drop_to_end       what a slice to the end takes
 --     length-terms_in, named-drop, named_cons, named_past, terms_in-drop       the terms that they name
 --     below_at, inside-drop       each names a record of the book
---     read_of, fraction-read, signed-read       an argument that is read
 use mathlib.Core.Path.{◌≡◌, refl, ap, ◌∙◌}
 use mathlib.Core.Bool.{true}
 use mathlib.Core.List.{List, [], ◌∷◌}
@@ -14,20 +13,11 @@ use borrow.Author.Tests.{ltb-true}
 use lib.Dec.{ltb}
 use lib.ListN.{length, get_or, take, drop, length-drop, drop_of_length-le}
 use lib.Seq.{take_all, drop-nil}
-use Rattle.numbers.specs.Rational.{Rational}
 use Rattle.numbers.specs.Bytes.{Bytes, le}
-use Rattle.terms.specs.Term.{Term}
 use Rattle.terms.specs.Book.{count, tree, all_below}
-use Rattle.terms.specs.Readers.{as_signed_number, as_fraction}
 use Rattle.numbers.proofs.Truths.{both}
 use Rattle.numbers.proofs.LittleEndian.{le_cons, le_of_two}
-use Rattle.rules.specs.Refusal.{Result, ◌>>=◌, or_else}
-use Rattle.std.specs.Prelude.{Ok, Err}
-use Rattle.rules.specs.Refusal.Refusal.{number_range, expected_any_number}
-use Rattle.rules.specs.Limits.{Limits, number_or, fraction_of, fraction_err, signed_number_err}
 use Rattle.rules.specs.Memory.Parts.{numbers_in, named, terms_in, Inside}
-use Rattle.terms.specs.Readers.{Reading}
-use Rattle.terms.specs.declared.term.NotRead.TheVariants.{NotNumber, OutOfRange}
 
 -- ---- the numbers in a part
 
@@ -115,27 +105,3 @@ module _ (n : ℕ) where
 
 pub inside-drop : (b p : Bytes) (k : ℕ) → Inside b p → Inside b (drop (4 * k) p)
 inside-drop b p k h = ap (all_below (count b)) (numbers_in-drop p k) ∙ below-drop (count b) (numbers_in p) k h
-
--- ---- the arguments that are read
-
--- `as_fraction_err`
-abbrev pub read_of : Reading → Result Rational
-read_of (Ok q) = Ok q
-read_of (Err NotNumber) = Err expected_any_number
-read_of (Err OutOfRange) = Err number_range
-
-as_read : (r : Reading) → (number_or r >>= λ q. or_else q expected_any_number) ≡ read_of r
-unfolding ◌>>=◌ or_else
-as_read (Ok q) = refl
-as_read (Err NotNumber) = refl
-as_read (Err OutOfRange) = refl
-
--- `as_signed_number_err`
-pub signed-read : (t : Term) → signed_number_err t ≡ read_of (as_signed_number t)
-unfolding signed_number_err
-signed-read t = as_read (as_signed_number t)
-
-module _ (l : Limits) where
-  pub fraction-read : (t : Term) → fraction_err l t ≡ read_of (as_fraction l.numbers t)
-  unfolding fraction_err fraction_of
-  fraction-read t = as_read (as_fraction l.numbers t)

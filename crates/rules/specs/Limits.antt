@@ -8,8 +8,8 @@ use Rattle.terms.specs.Readers.{Bound, unbounded, at_most, bounded, as_signed_nu
 use Rattle.terms.specs.Readers.{as_op}
 use Rattle.rules.specs.Refusal.{Result, ◌>>=◌, or_else}
 use Rattle.std.specs.Prelude.{Ok, Err}
-use Rattle.rules.specs.Refusal.Refusal.{number_range, expected_any_number, expected_bitvector}
-use Rattle.rules.specs.Refusal.Refusal.{expected_operation_term}
+use Rattle.rules.specs.declared.refusal.Refusal.TheVariants.{NumberRange, ExpectedAnyNumber, ExpectedBitvector}
+use Rattle.rules.specs.declared.refusal.Refusal.TheVariants.{ExpectedOperationTerm}
 use Rattle.terms.specs.Readers.{Reading}
 use Rattle.terms.specs.declared.term.NotRead.TheVariants.{NotNumber, OutOfRange}
 
@@ -36,12 +36,12 @@ limited n =
 abbrev pub number_or : Reading → Result (Option Rational)
 number_or (Ok q) = Ok (Some q)
 number_or (Err NotNumber) = Ok None
-number_or (Err OutOfRange) = Err number_range
+number_or (Err OutOfRange) = Err NumberRange
 
 abbrev pub in_limit : Reading → Result Rational
 in_limit (Ok q) = Ok q
-in_limit (Err NotNumber) = Err number_range
-in_limit (Err OutOfRange) = Err number_range
+in_limit (Err NotNumber) = Err NumberRange
+in_limit (Err OutOfRange) = Err NumberRange
 
 unfoldable pub ranged : Limits → Rational → Result Rational
 ranged l q = in_limit (bounded l.numbers q)
@@ -63,20 +63,20 @@ fraction_of l t = number_or (as_fraction l.numbers t)
 
 -- `as_fraction_err`
 unfoldable pub fraction_err : Limits → Term → Result Rational
-fraction_err l t = fraction_of l t >>= λ q. or_else q expected_any_number
+fraction_err l t = fraction_of l t >>= λ q. or_else q ExpectedAnyNumber
 
 -- `as_signed_number_err`
 unfoldable pub signed_number_err : Term → Result Rational
-signed_number_err t = number_or (as_signed_number t) >>= λ q. or_else q expected_any_number
+signed_number_err t = number_or (as_signed_number t) >>= λ q. or_else q ExpectedAnyNumber
 
 -- `as_bitvector_err`: value and width
 abbrev pub bits_err : Option (ℕ × ℕ) → Result (ℕ × ℕ)
 bits_err (Some (v, w)) = Ok (v, w)
-bits_err None = Err expected_bitvector
+bits_err None = Err ExpectedBitvector
 
 unfoldable pub bitvector_err : Term → Result (ℕ × ℕ)
 bitvector_err t = bits_err (as_bitvector t)
 
 -- `as_op_err`: operator and arguments
 unfoldable pub op_err : Term → Result (ℕ × Terms)
-op_err t = or_else (as_op t) expected_operation_term
+op_err t = or_else (as_op t) ExpectedOperationTerm

@@ -1,52 +1,59 @@
--- A name and a number for each row of document 01's table of verdicts, and a result that may be a refusal: the Rust's
--- `Result` with `?`.
+-- The number of each refusal of a rule in document 01's table of verdicts, and a result that may be a refusal: the
+-- Rust's `Result` with `?`.
 use Rattle.std.specs.Prelude.{Bool, true, false, ℕ, leb}
 use Rattle.std.specs.Prelude.{Option, Some, None, Ok, Err}
 use Rattle.std.specs.Prelude as prelude
-
--- Refusals of a rule, on one step. Those of what is lent (1 to 8) are another type, of the layer above: so no rule
--- gives them.
-pub data Refusal : Type 0 where
-  visit_limit number_range polynomial_size : Refusal
-  wrong_number_of_args wrong_number_of_premises wrong_length_of_clause wrong_length_of_premise_clause : Refusal
-  term_of_wrong_form expected_any_number : Refusal
-  invalid_disequality_op too_many_args_in_disequality not_unit coeff_not_found : Refusal
-  disequality_is_not_contradiction : Refusal
-  not_valid_tautology_case disequality_is_not_tautology expected_equal expected_less_than expected_less_eq : Refusal
-  polynomials_not_equal coeff_is_zero coeff_different_signums coeff_even invalid_operators : Refusal
-  expected_bitvector expected_operation_term : Refusal
+use Rattle.terms.specs.declared.term.NotRead.{NotRead}
+use Rattle.terms.specs.declared.term.NotRead.TheVariants.{NotNumber, OutOfRange}
+use Rattle.rules.specs.declared.refusal.Refusal.{Refusal}
+use Rattle.rules.specs.declared.refusal.Refusal.TheVariants.{VisitLimit, NumberRange, PolynomialSize}
+use Rattle.rules.specs.declared.refusal.Refusal.TheVariants.{WrongNumberOfArgs, WrongNumberOfPremises}
+use Rattle.rules.specs.declared.refusal.Refusal.TheVariants.{WrongLengthOfClause, WrongLengthOfPremiseClause}
+use Rattle.rules.specs.declared.refusal.Refusal.TheVariants.{TermOfWrongForm, ExpectedAnyNumber, InvalidDisequalityOp}
+use Rattle.rules.specs.declared.refusal.Refusal.TheVariants.{TooManyArgsInDisequality, NotUnit, CoeffNotFound}
+use Rattle.rules.specs.declared.refusal.Refusal.TheVariants.{DisequalityIsNotContradiction, NotValidTautologyCase}
+use Rattle.rules.specs.declared.refusal.Refusal.TheVariants.{DisequalityIsNotTautology, ExpectedEqual}
+use Rattle.rules.specs.declared.refusal.Refusal.TheVariants.{ExpectedLessThan, ExpectedLessEq, PolynomialsNotEqual}
+use Rattle.rules.specs.declared.refusal.Refusal.TheVariants.{CoeffIsZero, CoeffDifferentSignums, CoeffEven}
+use Rattle.rules.specs.declared.refusal.Refusal.TheVariants.{InvalidOperators, ExpectedBitvector}
+use Rattle.rules.specs.declared.refusal.Refusal.TheVariants.{ExpectedOperationTerm}
 
 abbrev pub number : Refusal → ℕ
-number visit_limit = 10
-number number_range = 11
-number polynomial_size = 12
-number wrong_number_of_args = 20
-number wrong_number_of_premises = 21
-number wrong_length_of_clause = 22
-number wrong_length_of_premise_clause = 23
-number term_of_wrong_form = 24
-number expected_any_number = 25
-number invalid_disequality_op = 26
-number too_many_args_in_disequality = 27
-number not_unit = 28
-number coeff_not_found = 29
-number disequality_is_not_contradiction = 30
-number not_valid_tautology_case = 31
-number disequality_is_not_tautology = 32
-number expected_equal = 33
-number expected_less_than = 34
-number expected_less_eq = 35
-number polynomials_not_equal = 36
-number coeff_is_zero = 37
-number coeff_different_signums = 38
-number coeff_even = 39
-number invalid_operators = 40
-number expected_bitvector = 41
-number expected_operation_term = 42
+number VisitLimit = 10
+number NumberRange = 11
+number PolynomialSize = 12
+number WrongNumberOfArgs = 20
+number WrongNumberOfPremises = 21
+number WrongLengthOfClause = 22
+number WrongLengthOfPremiseClause = 23
+number TermOfWrongForm = 24
+number ExpectedAnyNumber = 25
+number InvalidDisequalityOp = 26
+number TooManyArgsInDisequality = 27
+number NotUnit = 28
+number CoeffNotFound = 29
+number DisequalityIsNotContradiction = 30
+number NotValidTautologyCase = 31
+number DisequalityIsNotTautology = 32
+number ExpectedEqual = 33
+number ExpectedLessThan = 34
+number ExpectedLessEq = 35
+number PolynomialsNotEqual = 36
+number CoeffIsZero = 37
+number CoeffDifferentSignums = 38
+number CoeffEven = 39
+number InvalidOperators = 40
+number ExpectedBitvector = 41
+number ExpectedOperationTerm = 42
+
+-- what is refused where a number is asked for and none is read
+abbrev pub of_reading : NotRead → Refusal
+of_reading NotNumber = ExpectedAnyNumber
+of_reading OutOfRange = NumberRange
 
 -- a limit that document 01 adds to the Rust: 10 to 12
 abbrev pub is_limit : Refusal → Bool
-is_limit r = leb (number r) (number polynomial_size)
+is_limit r = leb (number r) (number PolynomialSize)
 
 -- of a rule: the Rust's `Result` with its error
 abbrev pub Result : Type 0 → Type 0

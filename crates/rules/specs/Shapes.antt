@@ -9,7 +9,7 @@ use Rattle.terms.specs.Term.{Term, same, unary, binary, Terms}
 use Rattle.terms.specs.Readers.{remove_negation, operator_of, arguments_of}
 use Rattle.rules.specs.Refusal.{Result, assert, or_else, ◌>>=◌}
 use Rattle.std.specs.Prelude.{Ok, Err}
-use Rattle.rules.specs.Refusal.Refusal.{wrong_length_of_clause, term_of_wrong_form, expected_equal}
+use Rattle.rules.specs.declared.refusal.Refusal.TheVariants.{WrongLengthOfClause, TermOfWrongForm, ExpectedEqual}
 use Rattle.terms.specs.Term.Terms.{nil, ◌▹◌}
 
 abbrev pub Clause : Type 0
@@ -17,21 +17,21 @@ Clause = List Term
 
 -- assert_clause_len(conclusion, 1), and conclusion[0]
 unfoldable pub only_literal : Clause → Result Term
-only_literal [] = Err wrong_length_of_clause
+only_literal [] = Err WrongLengthOfClause
 only_literal (t ∷ []) = Ok t
-only_literal (t ∷ u ∷ ts) = Err wrong_length_of_clause
+only_literal (t ∷ u ∷ ts) = Err WrongLengthOfClause
 
 abbrev pub unary_err : ℕ → Term → Result Term
-unary_err o t = or_else (unary o t) term_of_wrong_form
+unary_err o t = or_else (unary o t) TermOfWrongForm
 
 abbrev pub binary_err : ℕ → Term → Result (Term × Term)
-binary_err o t = or_else (binary o t) term_of_wrong_form
+binary_err o t = or_else (binary o t) TermOfWrongForm
 
 abbrev pub is_relation : ℕ → Bool
 is_relation o = leb Equals o && leb o GreaterEq
 
 unfoldable pub assert_eq : Term → Term → Result (Unit {0})
-assert_eq a b = assert (same a b) expected_equal
+assert_eq a b = assert (same a b) ExpectedEqual
 
 -- (not (o s d))
 unfoldable pub negated_binary : ℕ → Term → Option (Term × Term)
@@ -114,7 +114,7 @@ matches f t = solve_all f (only_name t)
 unfoldable pub has_form : Form → Clause → Result (Unit {0})
 has_form f conclusion = do
   phi ← only_literal conclusion
-  _ ← or_else (matches f phi) term_of_wrong_form
+  _ ← or_else (matches f phi) TermOfWrongForm
   Ok tt
 
 -- ---- forms in bytes: six for an equation, which are a name, an operator, how many parts, and up to three parts

@@ -1,7 +1,8 @@
-// Layer 2, what all rules share: verdicts, readers that refuse, parts of a run, shapes of terms.
+// Layer 2, what all rules share: refusals, readers that refuse, parts of a run, shapes of terms.
 #![tactic(auto)]
 
+pub mod counter;
 pub mod readers;
+pub mod refusal;
 pub mod run_records;
 pub mod shapes;
-pub mod verdict;

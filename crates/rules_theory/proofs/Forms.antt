@@ -16,7 +16,7 @@ use Rattle.terms.specs.Readers.{operator_of, arguments_of, as_op}
 use Rattle.book.proofs.BookTerms.{Each, Closed}
 use Rattle.rules.specs.Refusal.{◌>>=◌, or_else}
 use Rattle.std.specs.Prelude.{Ok}
-use Rattle.rules.specs.Refusal.Refusal.{term_of_wrong_form}
+use Rattle.rules.specs.declared.refusal.Refusal.TheVariants.{TermOfWrongForm}
 use Rattle.rules.specs.Shapes.{Equation, Form, Names, only_name, max_names, bind, bind_all, solve, solve_all, matches}
 use Rattle.rules.specs.Shapes.{has_form, only_literal}
 use Rattle.alethe.specs.Alethe.{Is, is}
@@ -224,7 +224,7 @@ module _ {P : Term → Type 0} (closed : Closed P) where
   has-form f t p = at (matches f t) refl
     where
       at :
-          (m : Option Names) → matches f t ≡ m → (or_else m term_of_wrong_form >>= λ σ. Ok (tt {0})) ≡ Ok (tt {0}) →
+          (m : Option Names) → matches f t ≡ m → (or_else m TermOfWrongForm >>= λ σ. Ok (tt {0})) ≡ Ok (tt {0}) →
           (τ : Names) × Formed f t τ
       at (Some τ) h e = (τ, form-found f t τ p h)
       at None h e = let z : ◌≡◌ {A = ℕ} 0 1 = cc in absurd (omega arith)

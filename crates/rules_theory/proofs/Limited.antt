@@ -15,9 +15,10 @@ use Rattle.terms.specs.Operator.{Sub}
 use Rattle.terms.specs.Readers.{Bound, unbounded, within, bounded, negated, as_signed_number, quotient_of, divided}
 use Rattle.terms.specs.Readers.{as_unsigned_fraction, as_fraction}
 use Rattle.terms.specs.Readers
-use Rattle.rules.specs.Refusal.{Refusal, Result, ◌>>=◌, assert}
+use Rattle.rules.specs.Refusal.{Result, ◌>>=◌, assert}
+use Rattle.rules.specs.declared.refusal.Refusal.{Refusal}
 use Rattle.std.specs.Prelude.{Ok, Err}
-use Rattle.rules.specs.Refusal.Refusal.{visit_limit, number_range, polynomial_size}
+use Rattle.rules.specs.declared.refusal.Refusal.TheVariants.{VisitLimit, NumberRange, PolynomialSize}
 use Rattle.rules.specs.Limits.{Limits, the_rust, number_or, in_limit, ranged, times, plus, over, fraction_of, fraction_err}
 use Rattle.index_map.specs.IndexMap.{Map, Combination, Keys, Walked, scale_all, enter, insert, insert_all, add, neg, sub}
 use Rattle.index_map.specs.IndexMap.{visit, add_entry, add_constant}
@@ -27,9 +28,9 @@ use Rattle.terms.specs.declared.term.NotRead.TheVariants.{NotNumber, OutOfRange}
 -- ---- the relation
 
 pub data IsLimit : Refusal → Type 0 where
-  ten : IsLimit visit_limit
-  eleven : IsLimit number_range
-  twelve : IsLimit polynomial_size
+  ten : IsLimit VisitLimit
+  eleven : IsLimit NumberRange
+  twelve : IsLimit PolynomialSize
 
 infix 4 ◌≼◌
 pub data ◌≼◌ {A : Type 0} : Result A → Result A → Type 0 where
@@ -85,7 +86,7 @@ negated-limited (agrees r) = agrees _
 negated-limited outside = outside
 
 -- what refuses a number out of range by 11
-refusing : {A : Type 0} (f : Reading → Result A) {r s : Reading} → f (Err OutOfRange) ≡ Err number_range →
+refusing : {A : Type 0} (f : Reading → Result A) {r s : Reading} → f (Err OutOfRange) ≡ Err NumberRange →
     r ⊑ s → f r ≼ f s
 refusing f e (agrees r) = equal _
 refusing f e outside = rw e (stopped eleven)

@@ -12,7 +12,7 @@ use Rattle.numbers.proofs.Order.{at_positive}
 use Rattle.numbers.proofs.Rationals.{is_zero-value, is_positive-value, eq_z-refl}
 use Rattle.numbers.proofs.Quotient.{ι, mk-whole, ≈_of_mk-eq}
 use Rattle.rules.proofs.Valuations.{numberℚ}
-use Rattle.alethe.proofs.Signs.{is_nonneg, is_positive, nonneg_is, positive_is, ◌less◌}
+use Rattle.alethe.proofs.Signs.{is_nonneg, is_positive, nonneg_is, positive_is}
 
 -- ---- the signs of numbers
 

@@ -24,7 +24,7 @@ use Rattle.alethe.specs.AletheTerms.IsDivision.{div, slash}
 use lib.IntN.{pos}
 use Rattle.numbers.specs.Pair.{whole_p}
 use Rattle.terms.specs.Smtlib.{Assignment}
-use Rattle.rules.specs.Refusal.Refusal.{expected_any_number}
+use Rattle.rules.specs.declared.refusal.Refusal.TheVariants.{ExpectedAnyNumber}
 use Rattle.rules.proofs.Yields.{Yields, gives, refuses, and_then}
 use Rattle.rules_theory.proofs.Limited.{◌≼◌, fraction_of-limited}
 use Rattle.rules_theory.proofs.Limited.◌≼◌.{equal, stopped}
@@ -180,6 +180,6 @@ pub fraction-found : (l : Limits) (t : Term) → Yields (Written t) (fraction_er
 unfolding fraction_err or_else
 fraction-found l t = and_then (fraction-written l t) go
   where
-    go : (o : Option Rational) → Reads t o → Yields (Written t) (or_else o expected_any_number)
+    go : (o : Option Rational) → Reads t o → Yields (Written t) (or_else o ExpectedAnyNumber)
     go (Some q) w = gives w
     go None u = refuses

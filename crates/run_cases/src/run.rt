@@ -4,7 +4,7 @@ use elaborate::elaborate::{Elaborated, elaborate};
 use marking::check::check;
 use programs::areas::area;
 use programs::cases::first_mut;
-use terms::refusal::NO_ROOM;
+use runs::verdict::{LentRefusal, Verdict, verdict_number};
 
 // The most bytes that an area of a case may have.
 pub(crate) const MOST: usize = 70000;
@@ -66,6 +66,11 @@ impl Told {
         self.work <= MOST && self.outrun <= MOST && self.outtail <= MOST
     }
 
+    // Whether the verdict is this one.
+    fn says(self, verdict: Verdict) -> bool {
+        self.verdict == u32::from(verdict_number(verdict))
+    }
+
     // Whether so many steps are accepted, with so many visits.
     fn counts(self, steps: usize, visits: u32) -> bool {
         steps == self.steps && visits == self.visits
@@ -81,12 +86,12 @@ impl Case<'_> {
         let m = check(self.book, self.run, told.limit, work);
         all_zero(work)
             && told.counts(m.steps, m.visits)
-            && (told.verdict == u32::from(NO_ROOM) || told.verdict == u32::from(m.verdict))
+            && (told.says(Verdict::Lent(LentRefusal::NoRoom)) || told.says(m.verdict))
     }
 
     // Whether the answer is the file's.
     fn answers(self, e: Elaborated) -> bool {
-        u32::from(e.verdict) == self.told.verdict
+        self.told.says(e.verdict)
             && self.told.counts(e.steps, e.visits)
             && e.run == self.outrun.len()
             && e.tail == self.outtail.len()

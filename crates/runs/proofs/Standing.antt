@@ -3,6 +3,8 @@
 --     stands, step_now, no_more       going through the bytes is going through the steps
 --     Tested, stands-tested       what reading tested of a step
 --     stands-steps .. stands-named       what that says of its parts
+use Rattle.runs.specs.declared.verdict.LentRefusal.TheVariants.{RunRecord}
+use Rattle.runs.specs.declared.rule.Rule.TheVariants.{Assume}
 use mathlib.Core.Path.{◌≡◌, refl, sym, ap, ◌∙◌}
 use mathlib.Core.Bool.{Bool, true}
 use mathlib.Core.List.{List, [], ◌∷◌, ◌++◌}
@@ -24,9 +26,6 @@ use Rattle.std.specs.Prelude.{Ok}
 use Rattle.rules.specs.Memory.Parts.{numbers_in, Inside}
 use Rattle.rules.proofs.Yields.{Yields, at_ok, by_answer, guarded, known, through}
 use Rattle.rules.proofs.Yields.Yields.{gives}
-use Rattle.runs.specs.Verdict.LentRefusal.{run_record}
-use Rattle.runs.specs.Rule.{rule_of}
-use Rattle.runs.specs.Rule.Rule.{assume}
 use Rattle.runs.specs.Run.{Step, step, recs, all_right, head_rule, read_step, read_run, Every, steps_of, end, also}
 use Rattle.runs.specs.Memory.StepParts.{premises_in, clause_in, args_in, next_in, bytes_in, head_in, read_in, rule_in, step_in}
 use Rattle.runs.specs.Memory.StepParts.{step_from, StandsIn}
@@ -62,7 +61,7 @@ read_as b n part =
     let p = numbers_of_lem (premises_in part) in
     let c = terms_of_lem b (clause_in part) in
     let a = terms_of_lem b (args_in part) in
-    let found = some_of (head_rule (head_in part)) run_record e1 in
+    let found = some_of (head_rule (head_in part)) RunRecord e1 in
     let same = rule_is part (head-rule (head_in part) found) in
     gives (record { head = found ∙ ap Some (sym same); premises = e2; clause = e3; args = e4 }, rw (same, p, c, a))
 
@@ -213,10 +212,10 @@ module _ {b run part : Bytes} (s : StandsIn b run part) where
 
   -- an earlier step, by its number
   pub stands-named :
-      (p : ℕ) → p < length s.steps → get_or s.steps p (step assume [] [] []) ≡ step_in b (step_from p run)
+      (p : ℕ) → p < length s.steps → get_or s.steps p (step Assume [] [] []) ≡ step_in b (step_from p run)
   stands-named p h =
       let o = reads-step b run s.steps s.read p h in
-      cc (drop-cons s.steps p (step assume [] [] []) h, o.are)
+      cc (drop-cons s.steps p (step Assume [] [] []) h, o.are)
 
   read_here : ReadsOne b s.number part (drop s.number s.steps)
   read_here = rw s.from (reads-step b run s.steps s.read s.number s.inside)
@@ -226,11 +225,6 @@ module _ {b run part : Bytes} (s : StandsIn b run part) where
 
   pub stands-tested : Tested b s.number part
   stands-tested = read_here.tested
-
-  -- the rule has the byte of its number
-  pub stands-rule : rule_of (get_or part 1 0) ≡ Some (rule_in part)
-  unfolding head_in
-  stands-rule = head-rule (head_in part) stands-tested.head
 
   pub stands-premises : all_below s.number (numbers_in (premises_in part)) ≡ true
   stands-premises = names_below s.number (λ i e. e) (premises_in part) stands-tested.premises

@@ -1,12 +1,16 @@
 -- Reading a run: what the functions of the code that read steps answer is what the definitions say.
 --     is_right, all_right_all       records, each of which must be right
---     other-rule, shape-counts       the shape of a step, by how many records it has of each mark
+--     shape_is       the shape of a step, by how many records it has of each mark
 --     step-tests, not-read       a step is read if all tests hold; otherwise it is refusal 7
 --     read_part, part-done .. part-wrong       the steps of a part are its first step and those of what follows
 --     not-whole, too_long       refusal 6
 --     ReadSoFar, read-begin .. read_on       so many steps are read, and the others are left
+use Rattle.runs.specs.declared.rule.Rule.{Rule}
+use Rattle.runs.specs.declared.rule.Rule.TheVariants.{Assume}
+use Rattle.runs.specs.declared.verdict.LentRefusal.{LentRefusal}
+use Rattle.runs.specs.declared.verdict.LentRefusal.TheVariants.{RunSize, RunRecord}
 use mathlib.Core.Path.{◌≡◌, refl, sym, ap, ◌∙◌, subst}
-use mathlib.Core.Bool.{Bool, true, false, ◌&&◌, and_assoc}
+use mathlib.Core.Bool.{Bool, true, false, ◌&&◌, ◌||◌, not, and_assoc}
 use mathlib.Core.List.{List, [], ◌∷◌}
 use Rattle.std.specs.Prelude.{Option, Some, None}
 use Prim.Native.Nat.{ℕ, zero, suc, ◌+◌, ◌/◌, ◌%◌, ◌≤◌, ◌<◌}
@@ -14,7 +18,7 @@ use native.Mathlib.Numerals.{add-one}
 use native.Mathlib.Omega.{arith}
 use borrow.Author.Tests.{eq-eqb, ne_eqb, le-leb, lt-leb}
 use lib.Dec.{eqb, leb, ltb}
-use lib.ListN.{length, get_or, drop, length-drop}
+use lib.ListN.{length, drop, length-drop}
 use Rattle.numbers.specs.Bytes.{Bytes}
 use Rattle.terms.specs.Book.{count}
 use Rattle.std.specs.List.{list_all}
@@ -22,19 +26,16 @@ use Rattle.numbers.proofs.Truths.{never}
 use Rattle.terms.specs.Format.{max_run_bytes, max_run_records}
 use Rattle.rules.specs.Refusal.{◌>>=◌, assert, or_else}
 use Rattle.std.specs.Prelude.{Result, Ok, Err}
-use Rattle.runs.specs.Verdict.{LentRefusal}
-use Rattle.runs.specs.Verdict.LentRefusal.{run_record}
-use Rattle.runs.specs.Rule.{Rule, rule_of}
+use Rattle.runs.specs.Rule.{is_rule}
 use Rattle.runs.specs.Run.{Step, Rec, P, C, A, recs, leading, after, all_right, is_empty, shape_ok, head_rule}
 use Rattle.runs.specs.Run.{read_step, read_steps, read_run}
 use Rattle.runs.specs.Memory.StepParts.{after_in, premises_in, clause_in, args_in, next_in, bytes_in, head_in, parts_ok}
-use Rattle.runs.specs.Memory.StepParts.{read_in, parts_in, rule_in, run_read_of}
+use Rattle.runs.specs.Memory.StepParts.{read_in, parts_in, rule_in, passed}
 use Rattle.std.specs.Prelude.{is_ok}
+use denote.Enum.Bare.{sameb}
+use Rattle.runs.specs.contracts.rule.Rule.{the_type}
 use Rattle.runs.specs.declared.run.StepParts.{StepParts}
-use Rattle.runs.specs.declared.run.RunRead.{RunRead}
-use Rattle.runs.specs.declared.run.RunRead.TheVariants as run_read
 use Rattle.std.specs.Prelude.{is_some}
-use Rattle.runs.proofs.Rules.{rule-number}
 use Rattle.runs.proofs.StepRules.{head-rule, rule_is}
 use Rattle.runs.proofs.RunRecords.{length-recs, head_is, after-drop, recs-leading, recs-after}
 use Rattle.runs.proofs.RunRecords.{bytes-least, next-drop, whole-next, part_from}
@@ -55,10 +56,6 @@ all_right_all test (r ∷ l) = ap (λ (b : Bool). is_right test r && b) (all_rig
 pub right_in : (test : ℕ → Bool) (p q : Bytes) → p ≡ q → all_right test (recs p) ≡ all_right test (recs q)
 right_in test p q e = ap (λ (x : Bytes). all_right test (recs x)) e
 
-pub right-below :
-    (m n : ℕ) (p q : Bytes) → m ≡ n → p ≡ q → all_right (λ k. ltb k m) (recs p) ≡ all_right (λ k. ltb k n) (recs q)
-right-below m n p q n-is p_is = rw (n-is, p_is)
-
 -- ---- the shape of a step
 
 is_empty-recs : (p : Bytes) → is_empty (recs p) ≡ eqb (length p / 4) 0
@@ -68,41 +65,40 @@ is_empty-recs p = go (recs p) ∙ ap (λ (n : ℕ). eqb n 0) (length-recs p)
     go [] = refl
     go (r ∷ l) = sym (ne_eqb (suc (length l)) 0 (λ e. omega (arith, e)))
 
--- n is the number of the rule
-module _ {n : ℕ} {rule : Rule} (known : rule_of n ≡ Some rule) (p c a : Bytes) where
-  pub other-rule : (n ≡ 0 → ⊥) → true ≡ shape_ok rule (recs p) (recs c) (recs a)
-  other-rule h = rw (rule-number n rule known, ne_eqb 0 n (λ e. h (sym e)))
+same-assume : (r : Rule) → sameb the_type r Assume ≡ is_rule Assume r
+same-assume Assume = refl
+same-assume r = refl
 
-  module _ (h : n ≡ 0) where
-    -- of an assume, by how many records there are
-    pub shape-counts :
-        (x : Bool) → x ≡ (eqb (length p / 4) 0 && (eqb (length c / 4) 1 && eqb (length a / 4) 0)) →
-        x ≡ shape_ok rule (recs p) (recs c) (recs a)
-    shape-counts x e = rw (rule-number n rule known, h, is_empty-recs p, length-recs c, is_empty-recs a) e
+-- t is whether the rule is another than assume; of an assume the records are counted
+pub shape_is :
+    (rule : Rule) (p c a : Bytes) {t x : Bool} → t ≡ not (sameb the_type rule Assume) →
+    x ≡ (t || (eqb (length p / 4) 0 && (eqb (length c / 4) 1 && eqb (length a / 4) 0))) →
+    x ≡ shape_ok rule (recs p) (recs c) (recs a)
+shape_is rule p c a e h = h ∙ rw (e, same-assume rule, is_empty-recs p, length-recs c, is_empty-recs a)
 
 -- ---- a step is read where all tests hold; otherwise it is refusal 7
 
 -- t is what all tests on the way to x say
 record Judged {X : Type 0} (t : Bool) (x : Result X LentRefusal) : Type 0 where
   is : is_ok x ≡ t
-  seven : is_ok x ≡ false → x ≡ Err run_record
+  seven : is_ok x ≡ false → x ≡ Err RunRecord
 
 module _ {X : Type 0} where
   behind :
       (t : Bool) {u : Bool} (f : Unit {0} → Result X LentRefusal) → Judged u (f tt) →
-      Judged (t && u) (assert t run_record >>= f)
+      Judged (t && u) (assert t RunRecord >>= f)
   unfolding assert ◌>>=◌
   behind true f j = j
   behind false f j = record { is = refl; seven = λ e. refl }
 
   behind-some :
       {Y : Type 0} (o : Option Y) {u : Bool} (f : Y → Result X LentRefusal) →
-      ((y : Y) → o ≡ Some y → Judged u (f y)) → Judged (is_some o && u) (or_else o run_record >>= f)
+      ((y : Y) → o ≡ Some y → Judged u (f y)) → Judged (is_some o && u) (or_else o RunRecord >>= f)
   unfolding or_else ◌>>=◌
   behind-some (Some y) f j = j y refl
   behind-some None f j = record { is = refl; seven = λ e. refl }
 
-  last-behind : (t : Bool) (x : X) → Judged t (assert t run_record >>= λ _. Ok x)
+  last-behind : (t : Bool) (x : X) → Judged t (assert t RunRecord >>= λ _. Ok x)
   unfolding assert ◌>>=◌
   last-behind true x = record { is = refl; seven = λ e. never (sym e) }
   last-behind false x = record { is = refl; seven = λ e. refl }
@@ -116,20 +112,11 @@ head_ok part = is_some (head_rule (head_in part))
 abbrev pub shape_in : Bytes → Bool
 shape_in part = shape_ok (rule_in part) (recs (premises_in part)) (recs (clause_in part)) (recs (args_in part))
 
-some-there : {X : Type 0} (o : Option X) → is_some o ≡ true → (x : X) × (o ≡ Some x)
-some-there (Some x) e = (x, refl)
-some-there None e = never e
-
--- the head is in order, and the byte that was read is that of its rule
-pub shape_is :
-    (part : Bytes) {h : Bool} → h ≡ head_ok part → h ≡ true → {n : ℕ} → n ≡ get_or part 1 0 →
-    {p c a : Bytes} → p ≡ premises_in part → c ≡ clause_in part → a ≡ args_in part →
-    (x : Bool) → ((rule : Rule) → rule_of n ≡ Some rule → x ≡ shape_ok rule (recs p) (recs c) (recs a)) → x ≡ shape_in part
-unfolding head_in
-shape_is part h-is h-holds n-is p_is c-is a-is x e =
-    let found = some-there (head_rule (head_in part)) (sym h-is ∙ h-holds) in
-    let known = head-rule (head_in part) found.1 in
-    rw (rule_is part known, ← p_is, ← c-is, ← a-is) (e found.0 (ap rule_of n-is ∙ known))
+-- of parts that are known by equations
+pub shape-in :
+    (part : Bytes) {r : Rule} {p c a : Bytes} {x : Bool} → r ≡ rule_in part → p ≡ premises_in part →
+    c ≡ clause_in part → a ≡ args_in part → x ≡ shape_ok r (recs p) (recs c) (recs a) → x ≡ shape_in part
+shape-in part r-is p_is c-is a-is h = rw (← r-is, ← p_is, ← c-is, ← a-is) h
 
 module _ (b : Bytes) (n : ℕ) (part : Bytes) where
   judged : Judged (head_ok part && (parts_ok b n part && shape_in part)) (read_in b n part)
@@ -147,7 +134,7 @@ module _ (b : Bytes) (n : ℕ) (part : Bytes) where
       {x : Bool} → x ≡ (head_ok part && (parts_ok b n part && shape_in part)) → x ≡ is_ok (read_in b n part)
   step-tests e = e ∙ sym judged.is
 
-  pub not-read : is_ok (read_in b n part) ≡ false → read_in b n part ≡ Err run_record
+  pub not-read : is_ok (read_in b n part) ≡ false → read_in b n part ≡ Err RunRecord
   not-read = judged.seven
 
 -- ---- the steps
@@ -232,44 +219,45 @@ module _ (b : Bytes) where
     -- the first is read, and the others are left; or it is not
     pub part-read :
         4 ≤ length part → is_ok (read_in b n part) ≡ true →
-        run_read_of (read_part n part) ≡ run_read_of (read_part (suc n) (next_in part))
+        passed (read_part n part) ≡ passed (read_part (suc n) (next_in part))
     unfolding ◌>>=◌
-    part-read h e = ap run_read_of (part_first h) ∙ go (read_in b n part) e (read_part (suc n) (next_in part))
+    part-read h e = ap passed (part_first h) ∙ go (read_in b n part) e (read_part (suc n) (next_in part))
       where
         go :
             (x : Result Step LentRefusal) → is_ok x ≡ true → (y : Result (List Step) LentRefusal) →
-            run_read_of (followed x y) ≡ run_read_of y
+            passed (followed x y) ≡ passed y
         go (Ok s) e (Ok ss) = refl
         go (Ok s) e (Err r) = refl
         go (Err r) e y = never e
 
-    pub part-wrong : 4 ≤ length part → is_ok (read_in b n part) ≡ false → run_read_of (read_part n part) ≡ run_read.Refused 7
+    pub part-wrong :
+        4 ≤ length part → is_ok (read_in b n part) ≡ false → passed (read_part n part) ≡ Err RunRecord
     unfolding ◌>>=◌
     part-wrong h e =
-        ap run_read_of (part_first h)
-        ∙ ap (λ x. run_read_of (followed x (read_part (suc n) (next_in part)))) (not-read b n part e)
+        ap passed (part_first h)
+        ∙ ap (λ x. passed (followed x (read_part (suc n) (next_in part)))) (not-read b n part e)
 
 -- ---- the run
 
 module _ (b run : Bytes) where
-  abbrev Answers : RunRead → Type 0
-  Answers r = r ≡ run_read_of (read_run b run)
+  abbrev Answers : Result (Unit {0}) LentRefusal → Type 0
+  Answers r = r ≡ passed (read_run b run)
 
-  size-wrong : (eqb (length run % 4) 0 && leb (length run / 4) max_run_records) ≡ false → Answers (run_read.Refused 6)
+  size-wrong : (eqb (length run % 4) 0 && leb (length run / 4) max_run_records) ≡ false → Answers (Err RunSize)
   unfolding read_run assert ◌>>=◌
   size-wrong e = rw e
 
-  pub not-whole : (length run % 4 ≡ 0 → ⊥) → Answers (run_read.Refused 6)
+  pub not-whole : (length run % 4 ≡ 0 → ⊥) → Answers (Err RunSize)
   not-whole h = size-wrong (rw (ne_eqb _ _ h))
 
-  pub too_long : length run % 4 ≡ 0 → max_run_bytes < length run → Answers (run_read.Refused 6)
+  pub too_long : length run % 4 ≡ 0 → max_run_bytes < length run → Answers (Err RunSize)
   too_long h g = size-wrong (rw (eq-eqb _ _ h) (lt-leb (length run / 4) max_run_records (omega (arith, h, g))))
 
   -- n steps are read, none of them empty
   pub record ReadSoFar (left : Bytes) (n : ℕ) : Type 0 where
     pub few : n + length left ≤ length run
     pub whole : length left % 4 ≡ 0
-    pub rest : run_read_of (read_run b run) ≡ run_read_of (read_part b n left)
+    pub rest : passed (read_run b run) ≡ passed (read_part b n left)
 
   pub read-begin : length run % 4 ≡ 0 → length run ≤ max_run_bytes → ReadSoFar run 0
   unfolding read_run read_part assert ◌>>=◌
@@ -279,12 +267,13 @@ module _ (b run : Bytes) where
         whole = h;
         rest =
             rw (eq-eqb _ _ h, le-leb (length run / 4) max_run_records (omega (arith, g)))
-            (ap (λ (k : ℕ). run_read_of (read_steps k b 0 (recs run))) (sym (length-recs run)));
+            (ap (λ (k : ℕ). passed (read_steps k b 0 (recs run))) (sym (length-recs run)));
       }
 
   module _ (left : Bytes) (n : ℕ) (so : ReadSoFar left n) where
-    pub read-end : length left ≤ 0 → Answers run_read.Steps
-    read-end h = sym (so.rest ∙ ap run_read_of (part-done b n left (omega (arith, h))))
+    pub read-end : length left ≤ 0 → Answers (Ok tt)
+    unfolding ◌>>=◌
+    read-end h = sym (so.rest ∙ ap passed (part-done b n left (omega (arith, h))))
 
     -- another step is there
     module _ (h : 0 < length left) where
@@ -293,7 +282,7 @@ module _ (b run : Bytes) where
 
       -- x is whether it can be read
       module _ {x : Bool} (x-is : x ≡ is_ok (read_in b n left)) where
-        pub read-wrong : x ≡ false → Answers (run_read.Refused 7)
+        pub read-wrong : x ≡ false → Answers (Err RunRecord)
         read-wrong e = sym (so.rest ∙ part-wrong b n left a_record (sym x-is ∙ e))
 
         -- p has its parts

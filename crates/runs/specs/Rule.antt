@@ -3,20 +3,20 @@
 use Rattle.std.specs.Prelude.{Bool, true, false, List, [], ◌∷◌, ℕ, eqb}
 use Rattle.std.specs.Prelude.{Option, Some, None}
 use Prim.Native.String.{String}
-
-pub data Rule : Type 0 where
-  assume la_rw_eq la_disequality la_totality la_tautology la_generic bounded_farkas poly_simp poly_simp_rel : Rule
+use Rattle.runs.specs.declared.rule.Rule.{Rule}
+use Rattle.runs.specs.declared.rule.Rule.TheVariants.{Assume, LaRwEq, LaDisequality, LaTotality, LaTautology}
+use Rattle.runs.specs.declared.rule.Rule.TheVariants.{LaGeneric, BoundedFarkas, PolySimp, PolySimpRel}
 
 abbrev pub row : Rule → ℕ × String
-row assume = (0, "assume")
-row la_rw_eq = (1, "la_rw_eq")
-row la_disequality = (2, "la_disequality")
-row la_totality = (3, "la_totality")
-row la_tautology = (4, "la_tautology")
-row la_generic = (5, "la_generic")
-row bounded_farkas = (6, "bounded_farkas")
-row poly_simp = (7, "poly_simp")
-row poly_simp_rel = (8, "poly_simp_rel")
+row Assume = (0, "assume")
+row LaRwEq = (1, "la_rw_eq")
+row LaDisequality = (2, "la_disequality")
+row LaTotality = (3, "la_totality")
+row LaTautology = (4, "la_tautology")
+row LaGeneric = (5, "la_generic")
+row BoundedFarkas = (6, "bounded_farkas")
+row PolySimp = (7, "poly_simp")
+row PolySimpRel = (8, "poly_simp_rel")
 
 abbrev pub rule_number : Rule → ℕ
 rule_number r = (row r).0
@@ -26,8 +26,8 @@ rule_name r = (row r).1
 
 abbrev pub rules : List Rule
 rules =
-    assume ∷ la_rw_eq ∷ la_disequality ∷ la_totality ∷ la_tautology ∷ la_generic ∷ bounded_farkas ∷ poly_simp
-    ∷ poly_simp_rel ∷ []
+    Assume ∷ LaRwEq ∷ LaDisequality ∷ LaTotality ∷ LaTautology ∷ LaGeneric ∷ BoundedFarkas ∷ PolySimp
+    ∷ PolySimpRel ∷ []
 
 -- the rule of a list that has a number
 unfoldable pub with_number : List Rule → ℕ → Option Rule

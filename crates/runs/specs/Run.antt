@@ -1,5 +1,9 @@
 -- A run (document 01's word): 4-byte records, a mark, a byte and a 16-bit number. S opens a step, its byte the rule;
 -- then P, the number of an earlier step, C, a Bool term, and A, a term, in that order. Refusals 6 and 7.
+use Rattle.runs.specs.declared.rule.Rule.{Rule}
+use Rattle.runs.specs.declared.verdict.LentRefusal.{LentRefusal}
+use Rattle.runs.specs.declared.verdict.LentRefusal.TheVariants.{RunRecord, RunSize}
+use Rattle.runs.specs.declared.rule.Rule.TheVariants.{Assume}
 use Rattle.std.specs.Prelude.{Bool, true, false, ◌&&◌, ◌||◌, not, List, [], ◌∷◌, ◌++◌, ℕ, zero, suc, ◌+◌, ◌*◌, ◌/◌}
 use Rattle.std.specs.Prelude.{◌%◌, eqb, leb, ltb, length}
 use Rattle.std.specs.Prelude.{Option, None}
@@ -10,10 +14,7 @@ use Rattle.terms.specs.Book.{count, tree}
 use Rattle.terms.specs.Format.{run_record_bytes, max_run_records}
 use Rattle.rules.specs.Refusal.{◌>>=◌, assert, or_else}
 use Rattle.std.specs.Prelude.{Result, Ok, Err}
-use Rattle.runs.specs.Verdict.{LentRefusal}
-use Rattle.runs.specs.Verdict.LentRefusal.{run_size, run_record}
-use Rattle.runs.specs.Rule.{Rule, rule_of, is_rule}
-use Rattle.runs.specs.Rule.Rule.{assume}
+use Rattle.runs.specs.Rule.{rule_of, is_rule}
 
 pub record Step : Type 0 where
   pub rule : Rule
@@ -84,7 +85,7 @@ is_empty [] = true
 is_empty (x ∷ xs) = false
 
 abbrev pub shape_ok : Rule → List Rec → List Rec → List Rec → Bool
-shape_ok rule ps cs as' = not (is_rule assume rule) || (is_empty ps && (eqb (length cs) 1 && is_empty as'))
+shape_ok rule ps cs as' = not (is_rule Assume rule) || (is_empty ps && (eqb (length cs) 1 && is_empty as'))
 
 -- an S record with the number of a rule
 unfoldable pub head_rule : Rec → Option Rule
@@ -93,17 +94,17 @@ head_rule s = elim (eqb s.mark S && eqb s.number 0) [ true ↦ rule_of s.byte | 
 -- step n: an S record and what stands behind it, up to the next that is not in order
 unfoldable pub read_step : Bytes → ℕ → Rec → List Rec → List Rec → List Rec → Result Step LentRefusal
 read_step book n s ps cs as' = do
-  rule ← or_else (head_rule s) run_record
-  _ ← assert (all_right (λ p. ltb p n) ps) run_record
-  _ ← assert (all_right (λ c. ltb c (count book) && same_sort (sort (tree book c)) bool) cs) run_record
-  _ ← assert (all_right (λ a. ltb a (count book)) as') run_record
-  _ ← assert (shape_ok rule ps cs as') run_record
+  rule ← or_else (head_rule s) RunRecord
+  _ ← assert (all_right (λ p. ltb p n) ps) RunRecord
+  _ ← assert (all_right (λ c. ltb c (count book) && same_sort (sort (tree book c)) bool) cs) RunRecord
+  _ ← assert (all_right (λ a. ltb a (count book)) as') RunRecord
+  _ ← assert (shape_ok rule ps cs as') RunRecord
   Ok (step rule (numbers_of ps) (terms_of book cs) (terms_of book as'))
 
 -- at most k steps are left; each takes a record at least
 unfoldable pub read_steps : ℕ → Bytes → ℕ → List Rec → Result (List Step) LentRefusal
 read_steps zero book n [] = Ok []
-read_steps zero book n (r ∷ rs) = Err run_record
+read_steps zero book n (r ∷ rs) = Err RunRecord
 read_steps (suc k) book n [] = Ok []
 read_steps (suc k) book n (r ∷ rs) = do
   let cs = after P rs
@@ -116,7 +117,7 @@ read_steps (suc k) book n (r ∷ rs) = do
 
 unfoldable pub read_run : Bytes → Bytes → Result (List Step) LentRefusal
 read_run book run = do
-  _ ← assert (eqb (length run % run_record_bytes) 0 && leb (length run / run_record_bytes) max_run_records) run_size
+  _ ← assert (eqb (length run % run_record_bytes) 0 && leb (length run / run_record_bytes) max_run_records) RunSize
   read_steps (length run / run_record_bytes) book 0 (recs run)
 
 -- P holds of each element

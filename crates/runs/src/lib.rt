@@ -4,3 +4,4 @@
 pub mod prepare;
 pub mod rule;
 pub mod run;
+pub mod verdict;

@@ -1,27 +1,25 @@
 // A run (document 01's word): 4-byte records, a mark, a byte and a 16-bit number. S opens a step, its byte the rule;
 // then P, the number of an earlier step, C, a Bool term, and A, a term, in that order. A step is handed on as the part
 // of the run that starts with its S.
-ghost use Rattle.std.specs.Prelude.{◌≡◌, ◌&&◌, ◌+◌, ltb, length};
-ghost use Rattle.std.specs.Prelude.{Some};
+ghost use Rattle.std.specs.Prelude.{◌≡◌, ◌&&◌, ◌+◌, ℕ, Bool, ltb, length};
 ghost use Rattle.numbers.specs.Bytes.{Bytes};
 ghost use Rattle.terms.specs.Term.{sort, same_sort};
 ghost use Rattle.terms.specs.Term.Sort.{bool};
 ghost use Rattle.terms.specs.Book.{count, tree, SortsBelow};
-ghost use Rattle.runs.specs.Rule.{Rule, rule_of};
 ghost use Rattle.runs.specs.Run.{head_rule, recs, leading, all_right, shape_ok, read_run};
 ghost use Rattle.runs.specs.Memory.StepParts.{after_in, parts_in, premises_in, clause_in, args_in, head_in, parts_ok};
-ghost use Rattle.runs.specs.Memory.StepParts.{read_in, step_from, run_read_of, run_refusal};
+ghost use Rattle.runs.specs.Memory.StepParts.{rule_in, read_in, step_from, passed};
 ghost use Rattle.std.specs.Prelude.{is_ok};
 ghost use Rattle.std.specs.Prelude.{is_some};
 
-use crate::rule::{ASSUME, POLY_SIMP_REL};
+use crate::rule::{Rule, rule_of};
+use crate::verdict::LentRefusal;
 use numbers::bytes::{byte, read_u16};
 use rules::run_records::rest;
 use terms::format::{
     ARGUMENT, BOOL_SORT, BYTE_AT, CLAUSE, MAX_RUN_BYTES, NUMBER_AT, PREMISE, RUN_RECORD_BYTES, STEP,
 };
 use terms::records::count;
-use terms::refusal::{RUN_RECORD, RUN_SIZE};
 
 // Where the parts of a step end, in bytes from its start: its premises, its clause, and its arguments, which end where
 // the step does.
@@ -30,15 +28,6 @@ pub struct StepParts {
     pub premises: usize,
     pub clause: usize,
     pub args: usize,
-}
-
-// What reading a run finds.
-#[derive(Clone, Copy)]
-pub enum RunRead {
-    // Its steps.
-    Steps,
-    // Document 01's number of the refusal.
-    Refused(u8),
 }
 
 // ---- the parts of a step
@@ -111,15 +100,19 @@ pub fn step_at(run: &[u8], k: usize) -> &[u8]
 fn head_ok(step: &[u8]) -> bool
     ensures { result ≡ is_some (head_rule (head_in step.now)) }
 {
-    byte(step, 0) == STEP && byte(step, BYTE_AT) <= POLY_SIMP_REL && read_u16(step, NUMBER_AT) == 0
+    byte(step, 0) == STEP
+        && rule_of(byte(step, BYTE_AT)).is_some()
+        && read_u16(step, NUMBER_AT) == 0
 }
 
-// Whether each record's byte is 0 and its number below n.
-fn all_right(part: &[u8], n: usize) -> bool
-    ensures { result ≡ all_right (λ k. ltb k n) (recs part.now) }
+// Whether each record's byte is 0 and its number passes a test.
+fn all_right<F: Fn(usize) -> bool>(part: &[u8], test: F) -> bool
+    requires { F.IsAlwaysCallable test }
+    ensures { (p : ℕ → Bool) → ((k : ℕ) (r : Bool) → F.post test k r → r ≡ p k) →
+        result ≡ all_right p (recs part.now) }
 {
     part.chunks_exact(RUN_RECORD_BYTES).all(|record| record[BYTE_AT] == 0
-        && (read_u16(record, NUMBER_AT) as usize) < n)
+        && test(read_u16(record, NUMBER_AT) as usize))
 }
 
 // Whether record c of a book of n records, whose sorts are given, is a Bool term.
@@ -130,24 +123,11 @@ fn is_literal(sorts: &[u8], n: usize, c: usize) -> bool
     c < n && byte(sorts, c) == BOOL_SORT
 }
 
-// Whether each record's byte is 0 and its number that of a Bool term.
-fn all_literals(book: &[u8], sorts: &[u8], part: &[u8]) -> bool
-    requires { SortsBelow (count book.now) book.now sorts.now }
-    ensures { result ≡ all_right (λ c. ltb c (count book.now) && same_sort (sort (tree book.now
-        c)) bool)
-        (recs part.now) }
-{
-    let n = count(book);
-    part.chunks_exact(RUN_RECORD_BYTES).all(|record| record[BYTE_AT] == 0
-        && is_literal(sorts, n, read_u16(record, NUMBER_AT) as usize))
-}
-
 // An assume has one C and nothing else.
-fn shape_ok(rule: u8, premises: &[u8], clause: &[u8], args: &[u8]) -> bool
-    ensures { (known : Rule) → rule_of rule ≡ Some known → result ≡ shape_ok known (recs premises.now)
-        (recs clause.now) (recs args.now) }
+fn shape_ok(rule: Rule, premises: &[u8], clause: &[u8], args: &[u8]) -> bool
+    ensures { result ≡ shape_ok rule (recs premises.now) (recs clause.now) (recs args.now) }
 {
-    rule != ASSUME
+    rule != Rule::Assume
         || premises.len() / RUN_RECORD_BYTES == 0
             && clause.len() / RUN_RECORD_BYTES == 1
             && args.len() / RUN_RECORD_BYTES == 0
@@ -159,9 +139,17 @@ fn parts_ok(book: &[u8], sorts: &[u8], step: &[u8], p: StepParts, n: usize) -> b
     requires p_value { p ≡ parts_in step.now }
     ensures { result ≡ parts_ok book.now n step.now }
 {
-    all_right(premises(step, p), n)
-        && all_literals(book, sorts, clause(step, p))
-        && all_right(args(step, p), count(book))
+    let terms = count(book);
+    all_right(premises(step, p), |k| k < n)
+        && all_right(clause(step, p), |c| is_literal(sorts, terms, c))
+        && all_right(args(step, p), |a| a < terms)
+}
+
+// The rule of a step.
+pub fn rule_in(step: &[u8]) -> Rule
+    ensures { result ≡ rule_in step.now }
+{
+    rule_of(byte(step, BYTE_AT)).unwrap_or(Rule::Assume)
 }
 
 // Whether step n, whose parts p has, can be read.
@@ -173,7 +161,7 @@ fn step_ok(book: &[u8], sorts: &[u8], step: &[u8], p: StepParts, n: usize) -> bo
     head_ok(step)
         && parts_ok(book, sorts, step, p, n)
         && shape_ok(
-            byte(step, BYTE_AT),
+            rule_in(step),
             premises(step, p),
             clause(step, p),
             args(step, p),
@@ -182,23 +170,13 @@ fn step_ok(book: &[u8], sorts: &[u8], step: &[u8], p: StepParts, n: usize) -> bo
 
 // ---- the run
 
-// The number of a refusal.
-pub fn run_refusal(x: RunRead) -> u8
-    ensures { result ≡ run_refusal x }
-{
-    match x {
-        RunRead::Steps => 0,
-        RunRead::Refused(code) => code,
-    }
-}
-
 // Refusals 6 and 7. The sorts are those of the book's records.
-pub fn read_run(book: &[u8], sorts: &[u8], run: &[u8]) -> RunRead
+pub fn read_run(book: &[u8], sorts: &[u8], run: &[u8]) -> Result<(), LentRefusal>
     requires { SortsBelow (count book.now) book.now sorts.now }
-    ensures { result ≡ run_read_of (read_run book.now run.now) }
+    ensures { result ≡ passed (read_run book.now run.now) }
 {
     if run.len() % RUN_RECORD_BYTES != 0 || MAX_RUN_BYTES < run.len() {
-        return RunRead::Refused(RUN_SIZE);
+        return Err(LentRefusal::RunSize);
     }
     let mut left = run;
     let mut n = 0;
@@ -206,10 +184,10 @@ pub fn read_run(book: &[u8], sorts: &[u8], run: &[u8]) -> RunRead
     while !left.is_empty() {
         let p = parts(left);
         if !step_ok(book, sorts, left, p, n) {
-            return RunRead::Refused(RUN_RECORD);
+            return Err(LentRefusal::RunRecord);
         }
         left = &left[p.args..];
         n += 1;
     }
-    RunRead::Steps
+    Ok(())
 }

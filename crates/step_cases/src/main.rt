@@ -10,11 +10,11 @@ ghost use Rattle.std.specs.Prelude.{◌≡◌, ◌≤◌, ◌<◌, ◌*◌, IfOk
 use programs::cases::{
     Outcome, broken, count_agreeing, open_cases, print_total, read_count, read_piece, read_record,
 };
-use rules::verdict::Verdict;
 use runs::prepare::prepare;
+use runs::rule::rule_of;
 use std::io;
 use std::io::Read;
-use step::{NUMBER_BYTES, Step};
+use step::{Answer, NUMBER_BYTES, Step};
 use terms::areas::WORK_BYTES;
 use terms::format::{MAX_RECORDS, RECORD_BYTES, RUN_RECORD_BYTES};
 
@@ -72,11 +72,11 @@ impl Head {
         self.literal_bytes() + self.other_bytes() + NUMBER_BYTES * usize::from(self.numbers)
     }
 
-    fn expected(self) -> Verdict {
+    fn expected(self) -> Answer {
         if self.verdict == 0 {
-            Verdict::Accepted(self.visits)
+            Ok(self.visits)
         } else {
-            Verdict::Refused(self.verdict)
+            Err(self.verdict)
         }
     }
 
@@ -86,7 +86,7 @@ impl Head {
         let (others, numbers) = rest.split_at_checked(self.other_bytes())?;
         Some(Step {
             book,
-            rule: self.rule,
+            rule: rule_of(self.rule)?,
             literals,
             others,
             numbers,

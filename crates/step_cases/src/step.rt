@@ -14,15 +14,13 @@ use numbers::number::Number;
 use poly_simp::poly_simp::poly_simp;
 use polynomial_rel::polynomial_rel::poly_simp_rel;
 use process_disequality::process_disequality::Progress;
+use rules::counter::Counter;
+use rules::refusal::{Refusal, refusal_number};
 use rules::run_records::{number_in, rest};
-use rules::verdict::{Asserted, Verdict};
-use runs::rule::{
-    BOUNDED_FARKAS, LA_DISEQUALITY, LA_GENERIC, LA_RW_EQ, LA_TAUTOLOGY, LA_TOTALITY, POLY_SIMP,
-};
+use runs::rule::Rule;
 use terms::format::{PREMISE, RUN_RECORD_BYTES};
 use terms::operator::EQUALS;
 use terms::records::count;
-use terms::refusal::VISIT_LIMIT;
 
 const LIMIT: u32 = 1000000;
 
@@ -32,17 +30,20 @@ const MOST_LITERALS: usize = 16384;
 // The bytes of an inferred number.
 pub(crate) const NUMBER_BYTES: usize = 8;
 
+// The visits of a step that is accepted, or document 01's number of its refusal.
+pub(crate) type Answer = Result<u32, u8>;
+
 // What the file says of a step over a book.
 #[derive(Clone, Copy)]
 pub(crate) struct Step<'a> {
     pub book: &'a [u8],
-    pub rule: u8,
+    pub rule: Rule,
     pub literals: &'a [u8],
     // Its arguments, or of rule 8 its premises and the literals of the first.
     pub others: &'a [u8],
     // The numbers that it infers.
     pub numbers: &'a [u8],
-    pub expected: Verdict,
+    pub expected: Answer,
 }
 
 // ---- its answer
@@ -71,33 +72,26 @@ fn premises(part: &[u8]) -> usize
         .count()
 }
 
-// Whether two verdicts are the same: `Verdict` derives no equality.
-fn same(found: Verdict, expected: Verdict) -> bool {
-    match (found, expected) {
-        (Verdict::Accepted(n), Verdict::Accepted(m)) => n == m,
-        (Verdict::Refused(c), Verdict::Refused(d)) => c == d,
-        _ => false,
-    }
-}
-
 impl Step<'_> {
     // The step by its rule.
-    fn check(self, work: &mut [u8], limit: u32) -> Verdict
+    fn check(self, work: &mut [u8], limit: u32) -> Result<u32, Refusal>
         requires { StepReady self.book.now work.old self.literals.now }
         ensures { work.new ≡ work.old }
     {
         let book = self.book;
         let literals = self.literals;
         let others = self.others;
+        let counter = Counter { visits: 0, limit };
         match self.rule {
-            LA_RW_EQ => la_rw_eq(book, literals, 0),
-            LA_DISEQUALITY => la_disequality(book, literals, 0),
-            LA_TOTALITY => la_totality(book, literals, 0),
-            LA_TAUTOLOGY => la_tautology(book, work, literals, 0, limit),
-            LA_GENERIC => la_generic(book, work, literals, others, 0, limit),
-            BOUNDED_FARKAS => bounded_farkas(book, work, literals, others, 0, limit),
-            POLY_SIMP => poly_simp(book, work, literals, 0, limit),
-            _ => {
+            Rule::Assume => Ok(0),
+            Rule::LaRwEq => la_rw_eq(book, literals, 0),
+            Rule::LaDisequality => la_disequality(book, literals, 0),
+            Rule::LaTotality => la_totality(book, literals, 0),
+            Rule::LaTautology => la_tautology(book, work, literals, counter),
+            Rule::LaGeneric => la_generic(book, work, literals, others, counter),
+            Rule::BoundedFarkas => bounded_farkas(book, work, literals, others, counter),
+            Rule::PolySimp => poly_simp(book, work, literals, counter),
+            Rule::PolySimpRel => {
                 let n = premises(others);
                 poly_simp_rel(book, literals, n, rest(others, n), 0)
             }
@@ -105,11 +99,11 @@ impl Step<'_> {
     }
 
     // Whether a step gets a verdict under a limit.
-    fn answers(self, work: &mut [u8], limit: u32, expected: Verdict) -> bool
+    fn answers(self, work: &mut [u8], limit: u32, expected: Answer) -> bool
         requires { StepReady self.book.now work.old self.literals.now }
         ensures { work.new ≡ work.old }
     {
-        same(self.check(work, limit), expected)
+        self.check(work, limit).map_err(refusal_number) == expected
     }
 
     // Whether a step is accepted under a limit of so many visits, and under no less.
@@ -118,8 +112,8 @@ impl Step<'_> {
         requires some { 1 ≤ visits }
         ensures { work.new ≡ work.old }
     {
-        self.answers(work, visits, Verdict::Accepted(visits))
-            && self.answers(work, visits - 1, Verdict::Refused(VISIT_LIMIT))
+        self.answers(work, visits, Ok(visits))
+            && self.answers(work, visits - 1, Err(refusal_number(Refusal::VisitLimit)))
     }
 
     // Whether a step gets the verdict and the visits of the file and, where it makes some visits, keeps to a limit of
@@ -132,8 +126,8 @@ impl Step<'_> {
             return false;
         }
         match self.expected {
-            Verdict::Accepted(0) | Verdict::Refused(_) => true,
-            Verdict::Accepted(visits) => self.keeps(work, visits),
+            Ok(0) | Err(_) => true,
+            Ok(visits) => self.keeps(work, visits),
         }
     }
 
@@ -147,21 +141,22 @@ impl Step<'_> {
         let book = self.book;
         let literals = self.literals;
         let args = self.others;
-        let Asserted::Holds = read_args(book, args) else {
+        let Ok(()) = read_args(book, args) else {
             return false;
         };
         let mut p = Progress {
             operator: EQUALS,
-            acc: LinearComb {
-                len: 0,
-                constant: Number::whole(0),
-            },
+            acc: LinearComb::new(),
             visits: 0,
         };
         let mut done = 0;
         let mut left = self.numbers;
         loop {
-            match fold_literals(book, work, rest(literals, done), rest(args, done), p, LIMIT) {
+            let clause = rest(literals, done);
+            let Ok(folded) = fold_literals(book, work, clause, rest(args, done), p, LIMIT) else {
+                return false;
+            };
+            match folded {
                 Folded::Done(_) => return left.len() < NUMBER_BYTES,
                 Folded::Inferred(q, a, n) => {
                     let Some((number, more)) = left.split_at_checked(NUMBER_BYTES) else {
@@ -174,15 +169,13 @@ impl Step<'_> {
                     done += n;
                     left = more;
                 }
-                Folded::Refused(_) => return false,
             }
         }
     }
 
     // Only an accepted step of `la_generic` or `bounded_farkas` infers numbers.
     fn may_infer(self) -> bool {
-        matches!(self.rule, LA_GENERIC | BOUNDED_FARKAS)
-            && matches!(self.expected, Verdict::Accepted(_))
+        matches!(self.rule, Rule::LaGeneric | Rule::BoundedFarkas) && self.expected.is_ok()
     }
 
     // ---- all of it

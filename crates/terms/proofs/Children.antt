@@ -1,24 +1,25 @@
 -- The record numbers that `unary`, `binary` and `quotient_of` find stand for the arguments of the operation
--- that is asked for, and those lie deeper: a record with arguments is there, so its number is below 2048.
+-- that is asked for, which are those of the part that `operands` finds (`unary_is`, `binary_is`), and those lie deeper:
+-- a record with arguments is there, so its number is below 2048.
 use mathlib.Core.Path.{◌≡◌, refl, sym, ◌∙◌, ap, subst}
-use mathlib.Core.Bool.{Bool, true, false}
+use mathlib.Core.Bool.{Bool, true, false, cond, ◌&&◌}
 use mathlib.Core.List.{List, [], ◌∷◌}
-use Rattle.std.specs.Prelude.{Option, Some, None}
-use Prim.Native.Nat.{ℕ, ◌/◌, ◌<◌}
+use Rattle.std.specs.Prelude.{Option, Some, None, option_map}
+use Prim.Native.Nat.{ℕ, ◌<◌}
 use native.Mathlib.Omega.{arith}
-use borrow.Author.Tests.{ltb-true, ltb-false}
-use lib.Dec.{ltb}
+use borrow.Author.Tests.{ltb-true, ltb-false, ne_eqb}
+use lib.Dec.{eqb, ltb}
 use lib.ListN.{length, get_or}
 use Rattle.numbers.specs.Bytes.{Bytes}
 use Rattle.terms.specs.Operator.{IntDiv, RealDiv}
 use Rattle.terms.specs.Term.{Term, Terms, args_of, one?, two?, unary, binary}
 use Rattle.terms.specs.Book.{count, record_of, kind, operator, arg_bytes, numbers, nothing, arguments}
 use Rattle.terms.specs.Format.{max_records}
-use Rattle.terms.specs.Book.{argument_at, forest, tree, height}
-use Rattle.terms.specs.Readers.{Child, Children, found_two, quotient_of}
+use Rattle.terms.specs.Book.{earlier, argument_at, forest, tree, height}
+use Rattle.terms.specs.Readers.{operands, Child, Children, found_two, quotient_of}
 use Rattle.terms.proofs.Trees.{earlier-lower, record_of-outside}
-use Rattle.terms.proofs.RecordBytes.{length-numbers, forest_of_one, forest_of_two}
-use Rattle.terms.proofs.RecordReadings.{args_of_record, args_of-other}
+use Rattle.terms.proofs.RecordBytes.{length-numbers}
+use Rattle.terms.proofs.RecordReadings.{args_of_of, record_node}
 
 -- ---- answers
 
@@ -31,7 +32,7 @@ child {i = i} {x = x} e h =
     record { is = e; deeper = λ y p. let same : x ≡ y = cc in lower-same i same h }
 
 pub no_child : {b : Bytes} {i : ℕ} {t : Option Term} → t ≡ None → Child b i None t
-no_child e = record { is = sym e; deeper = λ y p. let z : ◌≡◌ {A = ℕ} 0 1 = cc in absurd (omega arith) }
+no_child e = record { is = sym e; deeper = λ y p. cc }
 
 pub children :
     {b : Bytes} {i x y : ℕ} {t : Option (Term × Term)} → Some (tree b x, tree b y) ≡ t → height x < height i →
@@ -48,87 +49,92 @@ children {i = i} {x = x} {y = y} e h k =
     }
 
 pub no_children : {b : Bytes} {i : ℕ} {t : Option (Term × Term)} → t ≡ None → Children b i None t
-no_children e = record { is = sym e; deeper = λ y w p. let z : ◌≡◌ {A = ℕ} 0 1 = cc in absurd (omega arith) }
-
--- ---- a record with another number of arguments
-
-module _ (f : ℕ → Term) (i : ℕ) where
-  other_than_one : (l : List ℕ) → (length l ≡ 1 → ⊥) → one? (forest f (arguments i l)) ≡ None
-  unfolding forest arguments
-  other_than_one [] h = refl
-  other_than_one (a ∷ []) h = absurd (h refl)
-  other_than_one (a ∷ c ∷ l) h = refl
-
-  other_than_two : (l : List ℕ) → (length l ≡ 2 → ⊥) → two? (forest f (arguments i l)) ≡ None
-  unfolding forest arguments
-  other_than_two [] h = refl
-  other_than_two (a ∷ []) h = refl
-  other_than_two (a ∷ c ∷ []) h = absurd (h refl)
-  other_than_two (a ∷ c ∷ d ∷ l) h = refl
+no_children e = record { is = sym e; deeper = λ y w p. cc }
 
 -- ---- the arguments of an operation
+
+module _ (f : ℕ → Term) (i : ℕ) where
+  only_one :
+      (l : List ℕ) →
+      one? (forest f (arguments i l)) ≡ cond (eqb (length l) 1) (Some (f (earlier i (get_or l 0 nothing)))) None
+  unfolding forest arguments
+  only_one [] = refl
+  only_one (a ∷ []) = refl
+  only_one (a ∷ c ∷ l) = rw (ne_eqb (length (a ∷ c ∷ l)) 1 (λ h. omega arith))
+
+  only-two :
+      (l : List ℕ) →
+      two? (forest f (arguments i l))
+      ≡ cond (eqb (length l) 2) (Some (f (earlier i (get_or l 0 nothing)), f (earlier i (get_or l 1 nothing)))) None
+  unfolding forest arguments
+  only-two [] = refl
+  only-two (a ∷ []) = refl
+  only-two (a ∷ c ∷ []) = refl
+  only-two (a ∷ c ∷ d ∷ l) = rw (ne_eqb (length (a ∷ c ∷ d ∷ l)) 2 (λ h. omega arith))
 
 -- what `unary` and `binary` ask of a term: g of its arguments, where its operator is o
 abbrev ask : {A : Type 0} → (Terms → Option A) → ℕ → Term → Option A
 ask g o t = elim (args_of o t) [ Some ts ↦ g ts | None ↦ None ]
 
--- a record with arguments is there
-there : (b : Bytes) (i : ℕ) {r : Bytes} → r ≡ record_of b i → kind r ≡ 5 → i < max_records
-there b i e k = go (ltb i (count b)) refl
-  where
-    go : (t : Bool) → ltb i (count b) ≡ t → i < max_records
-    go true p = let h : i < count b = ltb-true i (count b) p in omega arith
-    go false p =
-        let none_is : record_of b i ≡ [] = record_of-outside b i (ltb-false i (count b) p) in
-        let z : ◌≡◌ {A = ℕ} 0 5 = ap (λ (l : Bytes). get_or l 0 0) (sym none_is ∙ sym e) ∙ k in
-        absurd (omega arith)
+module _ (b : Bytes) (i o : ℕ) where
+  -- g of n arguments is h of the part that `operands` finds
+  asked :
+      {A : Type 0} (n : ℕ) (g : Terms → Option A) (h : List ℕ → A) →
+      ((l : List ℕ) → g (forest (tree b) (arguments i l)) ≡ cond (eqb (length l) n) (Some (h l)) None) →
+      ask g o (tree b i) ≡ option_map (λ l. h (numbers l)) (operands (record_of b i) o n)
+  asked {A} n g h e =
+      let l : Bytes = arg_bytes (record_of b i) in
+      rw (args_of_of (record_of b i) o (record_node b i refl), ask)
+      (go _ l (eqb (kind (record_of b i)) 5) (eqb o (operator (record_of b i))) _
+      (rw (length-numbers l) at (e (numbers l))))
+    where
+      go :
+          (ts : Terms) (l : Bytes) (k s t : Bool) → g ts ≡ cond t (Some (h (numbers l))) None →
+          elim (cond (k && s) (Some ts) None) as (λ _. Option A) [ Some us ↦ g us | None ↦ None ]
+          ≡ option_map (λ m. h (numbers m)) (cond (k && (s && t)) (Some l) None)
+      go ts l true true true p = p
+      go ts l true true false p = p
+      go ts l true false t p = refl
+      go ts l false s t p = refl
 
-module _ (b : Bytes) (i o : ℕ) {r : Bytes} (r-is : r ≡ record_of b i) where
-  module _ (k : kind r ≡ 5) (same : operator r ≡ o) {args : Bytes} (args-is : args ≡ arg_bytes r) where
-    argument-deeper : (n : ℕ) {x : ℕ} → x ≡ argument_at args n i → height x < height i
-    unfolding argument_at
-    argument-deeper n x-is = rw x-is (earlier-lower i (get_or (numbers args) n nothing) (there b i r-is k))
+  unary_is : unary o (tree b i) ≡ option_map (λ l. tree b (argument_at l 0 i)) (operands (record_of b i) o 1)
+  unfolding unary argument_at
+  unary_is = asked 1 one? _ (only_one (tree b) i)
 
-    asked :
-        {A : Type 0} (g : Terms → Option A) →
-        ask g o (tree b i) ≡ g (forest (tree b) (arguments i (numbers args)))
-    asked g = rw (args_of_record b i r-is o k same, ask, args-is)
+  binary_is :
+      binary o (tree b i)
+      ≡ option_map (λ l. (tree b (argument_at l 0 i), tree b (argument_at l 1 i))) (operands (record_of b i) o 2)
+  unfolding binary argument_at
+  binary_is = asked 2 two? _ (only-two (tree b) i)
 
-    pub child-found :
-        {x : ℕ} → length args / 2 ≡ 1 → x ≡ argument_at args 0 i → Child b i (Some x) (unary o (tree b i))
-    unfolding unary
-    child-found n x-is =
-        child (sym (asked one? ∙ rw (forest_of_one (tree b) i args n, x-is))) (argument-deeper 0 x-is)
+  -- arguments lie deeper, since a record with arguments is there
+  argument-deeper :
+      (n k : ℕ) {x : ℕ} {l : Bytes} → Some l ≡ operands (record_of b i) o n → x ≡ argument_at l k i →
+      height x < height i
+  unfolding argument_at
+  argument-deeper n k {x} {l} e x-is =
+      rw x-is (earlier-lower i (get_or (numbers l) k nothing) (go (ltb i (count b)) refl))
+    where
+      go : (t : Bool) → ltb i (count b) ≡ t → i < max_records
+      go true p = let h : i < count b = ltb-true i (count b) p in omega arith
+      go false p = let none : Some l ≡ operands [] o n = rw (record_of-outside b i (ltb-false i (count b) p)) at e in cc
 
-    pub children-found :
-        {x y : ℕ} → length args / 2 ≡ 2 → x ≡ argument_at args 0 i → y ≡ argument_at args 1 i →
-        Children b i (Some (x, y)) (binary o (tree b i))
-    unfolding binary
-    children-found n x-is y-is =
-        children (sym (asked two? ∙ rw (forest_of_two (tree b) i args n, x-is, y-is)))
-        (argument-deeper 0 x-is) (argument-deeper 1 y-is)
+  pub child-found :
+      {x : ℕ} {l : Bytes} → Some l ≡ operands (record_of b i) o 1 → x ≡ argument_at l 0 i →
+      Child b i (Some x) (unary o (tree b i))
+  child-found e x-is = child (sym (rw (unary_is, ← e, x-is))) (argument-deeper 1 0 e x-is)
 
-    pub other_than_child : (length args / 2 ≡ 1 → ⊥) → Child b i None (unary o (tree b i))
-    unfolding unary
-    other_than_child n =
-        no_child (asked one? ∙ other_than_one (tree b) i (numbers args) (λ h. n (sym (length-numbers args) ∙ h)))
+  pub child_none : None ≡ operands (record_of b i) o 1 → Child b i None (unary o (tree b i))
+  child_none e = no_child (rw (unary_is, ← e))
 
-    pub other_than_children : (length args / 2 ≡ 2 → ⊥) → Children b i None (binary o (tree b i))
-    unfolding binary
-    other_than_children n =
-        no_children (asked two? ∙ other_than_two (tree b) i (numbers args) (λ h. n (sym (length-numbers args) ∙ h)))
+  pub children-found :
+      {x y : ℕ} {l : Bytes} → Some l ≡ operands (record_of b i) o 2 → x ≡ argument_at l 0 i → y ≡ argument_at l 1 i →
+      Children b i (Some (x, y)) (binary o (tree b i))
+  children-found e x-is y-is =
+      children (sym (rw (binary_is, ← e, x-is, y-is))) (argument-deeper 2 0 e x-is) (argument-deeper 2 1 e y-is)
 
-  module _ (h : kind r ≡ 5 → operator r ≡ o → ⊥) where
-    unasked : {A : Type 0} (g : Terms → Option A) → ask g o (tree b i) ≡ None
-    unasked g = rw (args_of-other b i r-is o h, ask)
-
-    pub no_operation-child : Child b i None (unary o (tree b i))
-    unfolding unary
-    no_operation-child = no_child (unasked one?)
-
-    pub no_operation-children : Children b i None (binary o (tree b i))
-    unfolding binary
-    no_operation-children = no_children (unasked two?)
+  pub children_none : None ≡ operands (record_of b i) o 2 → Children b i None (binary o (tree b i))
+  children_none e = no_children (rw (binary_is, ← e))
 
 -- ---- quotients
 
@@ -141,7 +147,8 @@ module _ {b : Bytes} {i : ℕ} {first : Option (ℕ × ℕ)} (whole : Children b
       go (Some (x, y)) e =
           let there-are : binary IntDiv (tree b i) ≡ Some (tree b x, tree b y) = sym whole.is ∙ ap (found_two b) e in
           let h = whole.deeper x y e in
-          subst (λ (f : Option (ℕ × ℕ)). Children b i f (quotient_of (tree b i))) (sym e) (children (rw (there-are, quotient_of)) h.0 h.1)
+          subst (λ (f : Option (ℕ × ℕ)). Children b i f (quotient_of (tree b i))) (sym e)
+          (children (rw (there-are, quotient_of)) h.0 h.1)
       go None e = absurd (other e)
 
   pub real-quotient :

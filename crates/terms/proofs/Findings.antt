@@ -2,11 +2,9 @@
 -- the readers that it calls have found. `bounded` at document 01's range is the test of `checked`, by which
 -- `Number::div` answers.
 use mathlib.Core.Path.{◌≡◌, refl, sym, ◌∙◌, ap, subst}
-use mathlib.Core.Logic.{◌⊎◌, ⊎_elim, inl, inr}
 use mathlib.Core.Bool.{Bool, true, false, cond, and-eq-true_iff}
 use Rattle.std.specs.Prelude.{Some, None}
 use Prim.Native.Nat.{ℕ}
-use native.Mathlib.Omega.{arith}
 use lib.Dec.{T}
 use lib.IntN.{ℤ, pos}
 use lib.Signed.{lt_z}
@@ -38,8 +36,8 @@ finds {r} s e = record { is = e; number = ap reading_refusal e; proper = λ q h.
   where
     go : (r : Reading) → Sound r → (q : Rational) → r ≡ Ok q → Proper q
     go (Ok p) s q h = let same : p ≡ q = cc in subst Proper same s
-    go (Err NotNumber) s q h = let z : ◌≡◌ {A = ℕ} 0 1 = cc in absurd (omega arith)
-    go (Err OutOfRange) s q h = let z : ◌≡◌ {A = ℕ} 0 1 = cc in absurd (omega arith)
+    go (Err NotNumber) s q h = cc
+    go (Err OutOfRange) s q h = cc
 
 pub proper_of_is_number : (q : Rational) → is_number q ≡ true → Proper q
 proper_of_is_number q e =

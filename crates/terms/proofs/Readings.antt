@@ -1,12 +1,11 @@
--- Laws of the readers alone. An operation that `unary` or `binary` finds has that shape (`unary-shape`, `binary-shape`).
--- A reading in a range is the reading without one (`ranged-unbounded`). A quotient that is read is one of two signed numbers
--- (`quotient`), and a signed number is read as a fraction too (`signed-fraction`). What is no operation is read as it
--- stands (`plain-fraction`).
+-- Laws of the readers alone. An operation that `unary` or `binary` finds has that shape (`unary-shape`,
+-- `binary-shape`). A reading in a range is the reading without one (`fraction-unbounded`). A quotient that is read is
+-- one of two signed numbers (`quotient`), and a signed number is read as a fraction too (`signed-fraction`). What is no
+-- operation is read as it stands (`plain-fraction`).
 use mathlib.Core.Path.{◌≡◌, refl, ◌∙◌, ap, subst⁻¹}
 use mathlib.Core.Bool.{Bool, true, false, cond, ◌&&◌}
 use Rattle.std.specs.Prelude.{Option, Some, None}
 use Prim.Native.Nat.{ℕ}
-use native.Mathlib.Omega.{arith}
 use borrow.Author.Tests.{eqb-true}
 use lib.Dec.{eqb}
 use lib.IntN.{nat_abs}
@@ -15,7 +14,7 @@ use Rattle.terms.specs.Operator.{Sub, IntDiv}
 use Rattle.terms.specs.Term.{Term, Terms, record_number, args_of, one?, two?, unary, binary}
 use Rattle.terms.specs.Term.Term.{integer, rational, bitvector, atom, op}
 use Rattle.terms.specs.Term.Terms.{nil, ◌▹◌}
-use Rattle.terms.specs.Readers.{Bound, unbounded, ranged, within, bounded, as_number, negated, as_signed_number}
+use Rattle.terms.specs.Readers.{Bound, unbounded, within, bounded, as_number, negated, as_signed_number}
 use Rattle.terms.specs.Readers.{quotient_of, over, divided, as_unsigned_fraction, as_fraction, as_op, operator_of}
 use Rattle.terms.specs.Readers.{Reading}
 use Rattle.std.specs.Prelude.{Ok, Err}
@@ -79,10 +78,10 @@ binary-shape o t p =
 -- ---- what no reading is
 
 pub not-number : {A : Type 0} {q : Rational} → Err NotNumber ≡ Ok q → A
-not-number e = let z : ◌≡◌ {A = ℕ} 0 1 = cc in absurd (omega arith)
+not-number e = cc
 
 pub out_of_range : {A : Type 0} {q : Rational} → Err OutOfRange ≡ Ok q → A
-out_of_range e = let z : ◌≡◌ {A = ℕ} 0 1 = cc in absurd (omega arith)
+out_of_range e = cc
 
 -- opposites of readings that agree agree
 negated-alike :
@@ -132,10 +131,6 @@ module _ (l : Bound) where
   unfolding as_fraction
   fraction-unbounded t q =
       alike (unary Sub t) _ _ _ _ _ (λ x. negated-alike _ _ q (unsigned-unbounded x)) (unsigned-unbounded t q)
-
-pub ranged-unbounded :
-    (t : Term) (q : Rational) → as_fraction ranged t ≡ Ok q → as_fraction unbounded t ≡ Ok q
-ranged-unbounded = fraction-unbounded ranged
 
 -- ---- quotients
 

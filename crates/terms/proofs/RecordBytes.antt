@@ -104,12 +104,6 @@ forest-two f (a ∷ l) h = ap (λ (ts : Terms). f a ▹ ts) (forest_one f l (ome
 length_of : (i : ℕ) (l : Bytes) → length (arguments i (numbers l)) ≡ length l / 2
 length_of i l = length-arguments i (numbers l) ∙ length-numbers l
 
-pub forest_of_one :
-    (f : ℕ → Term) (i : ℕ) (l : Bytes) → length l / 2 ≡ 1 →
-    forest f (arguments i (numbers l)) ≡ f (argument_at l 0 i) ▹ nil
-forest_of_one f i l h =
-    rw (forest_one f (arguments i (numbers l)) (length_of i l ∙ h), argument_of_arguments i l 0)
-
 pub forest_of_two :
     (f : ℕ → Term) (i : ℕ) (l : Bytes) → length l / 2 ≡ 2 →
     forest f (arguments i (numbers l)) ≡ f (argument_at l 0 i) ▹ f (argument_at l 1 i) ▹ nil

@@ -1,6 +1,6 @@
 -- What the readers of terms find in a record, for all bytes. `node_is` goes through the tests of `node` once
 -- and tells the five kinds of term apart; what `as_number`, `as_bitvector`, `as_op` and `args_of` find follows by
--- cases. At the end stands the same for a record of the book.
+-- cases. At the end stands the term of a record of the book, and what the readers find in it.
 use mathlib.Core.Path.{◌≡◌, refl, sym, ◌∙◌, ap, subst}
 use mathlib.Core.Bool.{Bool, true, false, ◌&&◌, cond}
 use Rattle.std.specs.Prelude.{Some, None}
@@ -187,11 +187,3 @@ module _ (b : Bytes) (i : ℕ) {r : Bytes} (r-is : r ≡ record_of b i) where
       go : (t : Bool) → eqb (kind r) 5 ≡ t → arguments_of (tree b i) ≡ below b i r
       go true e = rw (as_op_record (eqb-true (kind r) 5 e), arguments_of)
       go false e = rw (as_op-other (eqb-false (kind r) 5 e), arguments_of, e)
-
-  pub args_of_record : (o : ℕ) → kind r ≡ 5 → operator r ≡ o → args_of o (tree b i) ≡ Some (below b i r)
-  args_of_record o k e = args_of_of r o record_node ∙ rw (k, eq-eqb o (operator r) (sym e))
-
-  pub args_of-other : (o : ℕ) → (kind r ≡ 5 → operator r ≡ o → ⊥) → args_of o (tree b i) ≡ None
-  args_of-other o h =
-      args_of_of r o record_node
-      ∙ rw (not-both (kind r) 5 (eqb o (operator r)) (λ k. ne_eqb o (operator r) (λ e. h k (sym e))))

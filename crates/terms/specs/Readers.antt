@@ -1,14 +1,15 @@
 -- The Rust's readers of terms, src/ast/term.rs. A quotient can leave the range of numbers, so `as_fraction` is read
 -- under a bound: document 01's, or none, which is the Rust.
-use Rattle.std.specs.Prelude.{◌≡◌, Bool, true, false, ◌&&◌, cond, ℕ, ◌<◌, leb, nat_abs}
+use Rattle.std.specs.Prelude.{◌≡◌, Bool, true, false, ◌&&◌, cond, ℕ, ◌/◌, ◌<◌, leb, eqb, nat_abs, length}
 use Rattle.std.specs.Prelude.{Option, Some, None}
 use Rattle.numbers.specs.Rational.{Rational, whole, div_q, neg_q, is_zero, limit, Proper}
+use Rattle.terms.specs.Format.{operation_kind}
 use Rattle.terms.specs.Operator.{Not, Sub, IntDiv, RealDiv}
 use Rattle.terms.specs.Term.{Term, Terms, unary, binary}
 use Rattle.terms.specs.Term.Term.{integer, rational, bitvector, atom, op}
 use Rattle.terms.specs.Term.Terms.{nil}
 use Rattle.numbers.specs.Bytes.{Bytes}
-use Rattle.terms.specs.Book.{record_of, numbers, arg_bytes, arguments, forest, tree, height}
+use Rattle.terms.specs.Book.{record_of, kind, operator, numbers, arg_bytes, arguments, forest, tree, height}
 use Rattle.std.specs.Prelude.{Result, Ok, Err}
 use Rattle.terms.specs.declared.term.NotRead.{NotRead}
 use Rattle.terms.specs.declared.term.NotRead.TheVariants.{NotNumber, OutOfRange}
@@ -132,8 +133,14 @@ pub record ArgumentPart (b : Bytes) (i : ℕ) (part : Bytes) : Type 0 where
   -- the terms that they stand for
   pub terms : forest (tree b) (arguments i (numbers part)) ≡ arguments_of (tree b i)
 
--- The terms that record numbers stand for. `NotOne` and `NotTwo` are no refusals: what a rule makes of a term of
--- another form is the rule's own (`term_of_wrong_form` and others).
+-- the part of record r that holds the n arguments of operator o; none where the record is no such operation
+abbrev pub operands : Bytes → ℕ → ℕ → Option Bytes
+operands r o n =
+    cond (eqb (kind r) operation_kind && (eqb o (operator r) && eqb (length (arg_bytes r) / 2) n))
+    (Some (arg_bytes r)) None
+
+-- The terms that record numbers stand for. None is no refusal: what a rule makes of a term of another form is the
+-- rule's own (`TermOfWrongForm` and others).
 abbrev pub found : Bytes → Option ℕ → Option Term
 found b (Some x) = Some (tree b x)
 found b None = None

@@ -1,4 +1,5 @@
-// The codes and sizes of book and run.
+// The codes and sizes of book and run. Kinds, sorts and marks are constants and no enums: a byte of lent memory is
+// compared with them as it stands, whatever it is.
 
 // ---- a record of the book: its kind in byte 0, and its fields
 

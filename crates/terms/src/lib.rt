@@ -7,5 +7,4 @@ pub mod format;
 pub mod operator;
 pub mod reading;
 pub mod records;
-pub mod refusal;
 pub mod term;

@@ -1,4 +1,5 @@
-// The operators by document 01's numbers, under the Rust's names.
+// The operators by document 01's numbers, under the Rust's names. They are constants and no enum: a byte of a record is
+// compared with them as it stands, whatever it is.
 pub const NOT: u8 = 1;
 
 pub const AND: u8 = 2;

@@ -1,5 +1,6 @@
-// The records of a book: 32 bytes each, numbered from 0. They replace the Rust's `Pool` and `Rc<Term>`: a term is a
-// record number. Every function takes any bytes and any number; a record that is not there has no bytes.
+// The records of a book: 32 bytes each, numbered from 0. They replace the Rust's `Pool` and `Rc<Term>`, since no heap
+// is used: a term is a record number. Every function takes any bytes and any number; a record that is not there has no
+// bytes.
 ghost use Rattle.std.specs.Prelude.{◌≡◌};
 ghost use Rattle.terms.specs.Book.{count, record_of, arg_bytes, argument_at};
 

@@ -1,11 +1,11 @@
 // The Rust's readers of terms, over the records of a book. Each equals its definition for all bytes.
-ghost use Rattle.std.specs.Prelude.{◌≡◌};
+ghost use Rattle.std.specs.Prelude.{◌≡◌, option_copied};
 ghost use Rattle.terms.specs.Term.{unary, binary};
 ghost use Rattle.terms.specs.Term.Terms.{nil};
-ghost use Rattle.terms.specs.Book.{node, tree};
+ghost use Rattle.terms.specs.Book.{record_of, node, tree};
 ghost use Rattle.terms.specs.Readers.{ranged, as_number, negated, as_signed_number, quotient_of, as_unsigned_fraction};
 ghost use Rattle.terms.specs.Readers.{as_fraction, as_bitvector, operator_of, remove_negation, Finds, FindsVector};
-ghost use Rattle.terms.specs.Readers.{ArgumentPart, Child, Children};
+ghost use Rattle.terms.specs.Readers.{operands, ArgumentPart, Child, Children};
 
 use crate::fields::{is_number, is_vector};
 use crate::format::{ATOM, BIT_VECTOR, FIRST_AT, INTEGER, OPERATION, OPERATOR_AT, REAL, SECOND_AT};
@@ -50,32 +50,34 @@ pub fn as_number(book: &[u8], id: usize) -> Result<Number, NotRead>
     constant(record(book, id))
 }
 
-// (o x): the record of x, if the term is such an operation.
-pub fn unary(book: &[u8], id: usize, o: u8) -> Option<usize>
-    ensures { Child book.now id result (unary o (tree book.now id)) }
+// The part of the record that holds the n arguments of operator o, if the term is such an operation.
+fn operands(book: &[u8], id: usize, o: u8, n: usize) -> Option<&[u8]>
+    ensures { option_copied result ≡ operands (record_of book.now id) o n }
 {
     let r = record(book, id);
     if byte(r, 0) == OPERATION && byte(r, OPERATOR_AT) == o {
         let args = arg_bytes(r);
-        if args.len() / 2 == 1 {
-            return Some(argument(args, 0, id));
+        if args.len() / 2 == n {
+            return Some(args);
         }
     }
     None
+}
+
+// (o x): the record of x, if the term is such an operation.
+pub fn unary(book: &[u8], id: usize, o: u8) -> Option<usize>
+    ensures { Child book.now id result (unary o (tree book.now id)) }
+{
+    let args = operands(book, id, o, 1)?;
+    Some(argument(args, 0, id))
 }
 
 // (o x y): the records of x and y, if it is such an operation.
 pub fn binary(book: &[u8], id: usize, o: u8) -> Option<(usize, usize)>
     ensures { Children book.now id result (binary o (tree book.now id)) }
 {
-    let r = record(book, id);
-    if byte(r, 0) == OPERATION && byte(r, OPERATOR_AT) == o {
-        let args = arg_bytes(r);
-        if args.len() / 2 == 2 {
-            return Some((argument(args, 0, id), argument(args, 1, id)));
-        }
-    }
-    None
+    let args = operands(book, id, o, 2)?;
+    Some((argument(args, 0, id), argument(args, 1, id)))
 }
 
 fn negated(x: Result<Number, NotRead>) -> Result<Number, NotRead>

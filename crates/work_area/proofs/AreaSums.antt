@@ -1,33 +1,29 @@
 -- What `add_signed` makes of its calls: the entries are inserted into area `to`, then the constants are added; where
 -- their sum leaves the range, the area is emptied.
+use Rattle.rules.specs.declared.refusal.Refusal.{Refusal}
+use Rattle.rules.specs.declared.refusal.Refusal.TheVariants.{NumberRange}
+use Rattle.std.specs.Prelude.{Err, Ok, None, Some}
 use mathlib.Core.Path.{◌≡◌, refl, sym, ◌∙◌}
 use mathlib.Core.Bool.{Bool, true, false}
 use mathlib.Core.List.{[]}
 use Prim.Native.Nat.{ℕ}
 use lib.ListN.{length}
-use Rattle.numbers.specs.Rational.{Rational, Gives, add_q, checked}
+use Rattle.numbers.specs.Rational.{Rational, Gives, add_q, checked, Checked}
 use Rattle.numbers.specs.Bytes.{Bytes}
 use Rattle.terms.specs.Term.{Term}
 use Rattle.rules.specs.Refusal.{Result, ◌>>=◌}
-use Rattle.std.specs.Prelude.{Ok}
 use Rattle.rules.specs.Limits.{limited, plus}
 use Rattle.index_map.specs.IndexMap.{Map, combination, insert_all, add, neg}
 use Rattle.linear_comb.specs.LinearComb.{LinearComb}
 use Rattle.index_map.specs.Memory.Entries.{terms, Inserts, blanked}
 use Rattle.linear_comb.specs.Memory.WorkArea.{Sum, comb_of, KeptSum, Combines, Area, area_of, with_area, OnlyArea}
 use Rattle.linear_comb.specs.Memory.WorkArea.{sum_bytes, signed_all, signed_q, signed_comb}
-use Rattle.index_map.specs.declared.index_map.Inserted.{Inserted}
-use Rattle.index_map.specs.declared.index_map.Inserted.TheVariants.{Length, OutOfRange}
-use Rattle.linear_comb.specs.declared.linear_comb.Combined.{Combined}
-use Rattle.linear_comb.specs.declared.linear_comb.Combined.TheVariants as combined
 use Rattle.index_map.proofs.CheckedNumbers.{plus-value, plus_out}
 use Rattle.index_map.proofs.NumberedKeys.{length-blanked}
 use Rattle.index_map.proofs.StoredEntries.{clear_all}
 use Rattle.linear_comb.proofs.Areas.{area-length, only_then}
 use Rattle.linear_comb.proofs.AreaSteps.{given-area, given-only}
 use Rattle.work_area.proofs.InsertLoops.{InsertedAll}
-use Rattle.numbers.specs.Rational.{Checked}
-use Rattle.std.specs.Prelude.{None, Some}
 
 -- ---- the definition: the entries, then the constant
 
@@ -44,12 +40,12 @@ add_parts false l m r c d = refl
 
 -- x has the bytes once the entries' insertion has answered d
 module _ {bk x : Bytes} {d : Result (Map Term)} (l : ℕ) (c e : Rational) where
-  sums-refused : Inserts bk x OutOfRange d → Combines bk x combined.OutOfRange (d >>= Then l c e)
+  sums-refused : {r : Refusal} → Inserts bk x (Err r) d → Combines bk x (Err r) (d >>= Then l c e)
   unfolding ◌>>=◌
   sums-refused i = record { map = i.map; held = i.held; is = (rw i.is.0, i.is.1) }
 
-  module _ {n : ℕ} (i : Inserts bk x (Length n) d) (r : Checked) (made : Gives r (checked (add_q c e))) where
-    sums_out : r ≡ None → Combines bk (blanked n x) combined.OutOfRange (d >>= Then l c e)
+  module _ {n : ℕ} (i : Inserts bk x (Ok n) d) (r : Checked) (made : Gives r (checked (add_q c e))) where
+    sums_out : r ≡ None → Combines bk (blanked n x) (Err NumberRange) (d >>= Then l c e)
     unfolding ◌>>=◌
     sums_out out =
         record {
@@ -60,64 +56,58 @@ module _ {bk x : Bytes} {d : Result (Map Term)} (l : ℕ) (c e : Rational) where
 
     sums-sum :
         (q : Rational) → r ≡ Some q →
-        Combines bk x (combined.Is (record { len = n; constant = q })) (d >>= Then l c e)
+        Combines bk x (Ok (record { len = n; constant = q })) (d >>= Then l c e)
     unfolding ◌>>=◌
     sums-sum q value =
         record {
           map = i.map;
           held = i.held;
-          is = (rw (i.is.0, plus-value l c e q (sym made.is ∙ value)), (i.is.1, made.proper q value));
+          is = (
+            rw (i.is.0, plus-value l c e q (sym made.is ∙ value)),
+            record { size = i.is.1; proper = made.proper q value },
+          );
         }
 
 -- ---- the answers
 
 -- what the answer r says, with the bytes w that are left
-abbrev pub Added : Bytes → ℕ → Sum → ℕ → Sum → Bool → Bytes → Combined → Type 0
+abbrev pub Added : Bytes → ℕ → Sum → ℕ → Sum → Bool → Bytes → Result Sum → Type 0
 Added w₀ to a from b turned w r =
     OnlyArea to w₀ w
     × ((bk : Bytes) → KeptSum bk (area_of to w₀) a → KeptSum bk (area_of from w₀) b → (l : ℕ) →
     Combines bk (area_of to w) r
     (add terms (limited l) (comb_of bk (area_of to w₀) a) (signed_comb turned (comb_of bk (area_of from w₀) b))))
 
--- the entries' insertion answers r and leaves the bytes w
-module _
-    (w₀ : Bytes)
-    (to : ℕ)
-    (a : Sum)
-    (from : ℕ)
-    (b : Sum)
-    (turned : Bool)
-    (w : Bytes)
-    (r : Inserted)
-    (all : InsertedAll w₀ to a.len from b.len turned w r) where
-  pub added-refused : r ≡ OutOfRange → Added w₀ to a from b turned w combined.OutOfRange
-  added-refused e = (
+-- the entries' insertion leaves the bytes w
+module _ (w₀ : Bytes) (to : ℕ) (a : Sum) (from : ℕ) (b : Sum) (turned : Bool) (w : Bytes) where
+  pub added-refused :
+      {r : Refusal} → InsertedAll w₀ to a.len from b.len turned w (Err r) → Added w₀ to a from b turned w (Err r)
+  added-refused all = (
     all.0.1,
-    λ bk kept kept' l.
-        rw (add_parts turned l) (sums-refused l _ _ (rw e at (all.1 bk kept.kept kept'.kept l))),
+    λ bk kept kept' l. rw (add_parts turned l) (sums-refused l _ _ (all.1 bk kept.kept kept'.kept l)),
   )
 
-  -- and v has b's constant
+  -- v is b's constant
   module _
-      (len : ℕ)
-      (e : r ≡ Length len)
+      {len : ℕ}
+      (all : InsertedAll w₀ to a.len from b.len turned w (Ok len))
       (v : Rational)
       (is-v : v ≡ signed_q turned b.constant)
       (s : Checked)
       (made : Gives s (checked (add_q a.constant v))) where
     pub added-sum :
         (q : Rational) → s ≡ Some q →
-        Added w₀ to a from b turned w (combined.Is (record { len = len; constant = q }))
+        Added w₀ to a from b turned w (Ok (record { len = len; constant = q }))
     added-sum q value = (
       all.0.1,
       λ bk kept kept' l.
           rw (add_parts turned l)
-          (sums-sum l _ _ (rw e at (all.1 bk kept.kept kept'.kept l)) s (rw is-v at made) q value),
+          (sums-sum l _ _ (all.1 bk kept.kept kept'.kept l) s (rw is-v at made) q value),
     )
 
     pub added_out :
         Area to w₀ → length w ≡ length w₀ → s ≡ None → (w' : Bytes) →
-        w' ≡ with_area to (blanked len (area_of to w)) w → Added w₀ to a from b turned w' combined.OutOfRange
+        w' ≡ with_area to (blanked len (area_of to w)) w → Added w₀ to a from b turned w' (Err NumberRange)
     added_out area size out w' is =
         let area-w : Area to w = record { size = size ∙ area.size; among = area.among } in
         let long : length (blanked len (area_of to w)) ≡ sum_bytes =
@@ -126,5 +116,5 @@ module _
           only_then area all.0.1 (given-only area-w _ long is),
           λ bk kept kept' l.
               rw (empty, add_parts turned l)
-              (sums_out l _ _ (rw e at (all.1 bk kept.kept kept'.kept l)) s (rw is-v at made) out),
+              (sums_out l _ _ (all.1 bk kept.kept kept'.kept l) s (rw is-v at made) out),
         )

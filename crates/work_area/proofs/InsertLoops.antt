@@ -2,6 +2,8 @@
 -- inserting them all makes (`Inserting`). The bytes of the area that is read stay as they were, since the other area is
 -- apart from it. Where there were n = 0 entries at the start, as in `copy_all`, the entries that are there and those
 -- that are left have different keys: so the next key is absent.
+use Rattle.rules.specs.declared.refusal.Refusal.{Refusal}
+use Rattle.std.specs.Prelude.{Err, Ok}
 use mathlib.Core.Path.{◌≡◌, refl, sym, ◌∙◌, ap}
 use mathlib.Core.Bool.{Bool, true, false}
 use mathlib.Core.List.{[], ◌∷◌, ◌++◌, append_assoc}
@@ -13,18 +15,16 @@ use Rattle.numbers.specs.Bytes.{Bytes, le, number_at}
 use Rattle.terms.specs.Term.{Term, record_number}
 use Rattle.terms.specs.Book.{count, tree}
 use Rattle.rules.specs.Refusal.{Result, ◌>>=◌, assert}
-use Rattle.std.specs.Prelude.{Ok}
 use Rattle.rules.specs.Limits.{limited}
 use Rattle.index_map.specs.IndexMap.{Map, neg_all, insert, insert_all}
-use Rattle.index_map.specs.Memory.Entries.{slots, most_entries, terms, entries_of, Grown, absent, Good, Held, Kept, Inserts}
+use Rattle.index_map.specs.Memory.Entries.{slots, most_entries, terms, entries_of, Grown, absent, Good, Held, Kept}
+use Rattle.index_map.specs.Memory.Entries.{Inserts}
 use Rattle.linear_comb.specs.Memory.WorkArea.{area_of, OnlyArea, Apart, signed_all, signed_q}
-use Rattle.index_map.specs.declared.index_map.Inserted.{Inserted}
-use Rattle.index_map.specs.declared.index_map.Inserted.TheVariants.{Length, OutOfRange}
 use Rattle.index_map.proofs.KeyedMaps.{insert-zero, insert-missing}
 use Rattle.index_map.proofs.MapKeys.{lacks-absent, lacks-before, taken_out, new-value}
 use Rattle.index_map.proofs.StoredEntries.{kept-entries, held-entries}
 use Rattle.linear_comb.proofs.Areas.{only_then, only_none}
-use Rattle.linear_comb.proofs.AreaSteps.{same-apart, in_first}
+use Rattle.linear_comb.proofs.AreaSteps.{in_first}
 use Rattle.linear_comb.proofs.EntryPlaces.{kept_at, all_behind}
 
 -- ---- a new key
@@ -58,14 +58,14 @@ pub record Left (b x : Bytes) (n len l : ℕ) (turned : Bool) (rest : Map Term) 
 
 -- one insertion answers r, and inserting the rest into what it makes is d
 pub record Turn
-    (b x : Bytes) (n l : ℕ) (r : Inserted) (turned : Bool) (rest : Map Term) (d : Result (Map Term)) : Type 0 where
+    (b x : Bytes) (n l : ℕ) (r : Result ℕ) (turned : Bool) (rest : Map Term) (d : Result (Map Term)) : Type 0 where
   pub first : Result (Map Term)
   pub made : Inserts b x r first
   pub then : (first >>= λ m. insert_all terms (limited l) m (signed_all turned rest)) ≡ d
   pub new : n ≡ 0 → (m : Map Term) → first ≡ Ok m → Good b (m ++ rest)
 
 module _ {b x : Bytes} {n l : ℕ} {turned : Bool} {rest : Map Term} {d : Result (Map Term)} where
-  turn_more : {len : ℕ} → Turn b x n l (Length len) turned rest d → Left b x n len l turned rest d
+  turn_more : {len : ℕ} → Turn b x n l (Ok len) turned rest d → Left b x n len l turned rest d
   unfolding ◌>>=◌
   turn_more t =
       record {
@@ -76,7 +76,7 @@ module _ {b x : Bytes} {n l : ℕ} {turned : Bool} {rest : Map Term} {d : Result
         new = λ none. t.new none t.made.map t.made.is.0;
       }
 
-  turn-refused : Turn b x n l OutOfRange turned rest d → Inserts b x OutOfRange d
+  turn-refused : {r : Refusal} → Turn b x n l (Err r) turned rest d → Inserts b x (Err r) d
   unfolding ◌>>=◌
   turn-refused t =
       record {
@@ -101,7 +101,7 @@ insert_none false l m = refl
 -- nothing is left
 all_left :
     {b x : Bytes} {n len l : ℕ} (turned : Bool) (rest : Map Term) {d : Result (Map Term)} →
-    Left b x n len l turned rest d → rest ≡ [] → Inserts b x (Length len) d
+    Left b x n len l turned rest d → rest ≡ [] → Inserts b x (Ok len) d
 all_left {l = l} turned rest t none =
     record {
       map = t.map;
@@ -121,7 +121,7 @@ Whole w₀ to n from m turned b l =
     insert_all terms (limited l) (entries_of b (area_of to w₀) n) (signed_all turned (entries_of b (area_of from w₀) m))
 
 -- what the answer r says, with the bytes w that are left
-abbrev pub InsertedAll : Bytes → ℕ → ℕ → ℕ → ℕ → Bool → Bytes → Inserted → Type 0
+abbrev pub InsertedAll : Bytes → ℕ → ℕ → ℕ → ℕ → Bool → Bytes → Result ℕ → Type 0
 InsertedAll w₀ to n from m turned w r =
     (Grown (most_entries - 1) r × OnlyArea to w₀ w)
     × ((b : Bytes) → Kept b (area_of to w₀) n → Kept b (area_of from w₀) m → (l : ℕ) →
@@ -193,7 +193,7 @@ module _
       (is-v : Makes v (signed_q turned v₀))
       (w' : Bytes)
       (size : length w' ≡ length w)
-      (r : Inserted)
+      (r : Result ℕ)
       (grown : Grown len r × OnlyArea to w w')
       (made :
       (b : Bytes) → Kept b (area_of to w) len → key < count b →
@@ -231,10 +231,10 @@ module _
     only_all : OnlyArea to w₀ w'
     only_all = only_then i.apart.first i.only grown.1
 
-    pub inserting_refused : r ≡ OutOfRange → InsertedAll w₀ to n from m turned w' OutOfRange
-    inserting_refused e = ((tt, only_all), λ b kept kept' l. turn-refused (rw e at (turn b kept kept' l)))
+    pub inserting_refused : {e : Refusal} → r ≡ Err e → InsertedAll w₀ to n from m turned w' (Err e)
+    inserting_refused is = ((tt, only_all), λ b kept kept' l. turn-refused (rw is at (turn b kept kept' l)))
 
-    pub inserting_more : (longer : ℕ) → r ≡ Length longer → Inserting w₀ to n from m turned w' longer (k + 1)
+    pub inserting_more : (longer : ℕ) → r ≡ Ok longer → Inserting w₀ to n from m turned w' longer (k + 1)
     inserting_more longer e =
         let one : longer ≤ len + 1 = rw e at grown.0 in
         let few = i.few in
@@ -247,7 +247,7 @@ module _
           left = λ b kept kept' l. turn_more (rw e at (turn b kept kept' l));
         }
 
-  pub inserting_done : m ≤ k → InsertedAll w₀ to n from m turned w (Length len)
+  pub inserting_done : m ≤ k → InsertedAll w₀ to n from m turned w (Ok len)
   inserting_done h =
       let few = i.few in
       ((omega arith, i.only), λ b kept kept' l. all_left turned _ (i.left b kept kept' l) (all_behind kept' h))

@@ -12,12 +12,13 @@ ghost use Rattle.index_map.specs.Memory.Entries.{most_entries, NewEntry};
 ghost use Rattle.linear_comb.specs.Memory.WorkArea.{Area, Apart, area_of, with_area, OnlyArea, comb_of};
 ghost use Rattle.linear_comb.specs.Memory.WorkArea.{signed_all, signed_q, signed_comb, negated, KeptSum, Combines};
 ghost use Rattle.linear_comb.specs.Memory.WorkArea.{SumFits, AreaCount, AreaSum, TwoSums};
-ghost use Rattle.index_map.specs.declared.index_map.Inserted.TheVariants as inserted;
+ghost use Rattle.std.specs.Prelude.{Ok};
 
-use index_map::index_map::{Inserted, append, clear, insert, key_at, value_at};
-use linear_comb::linear_comb::{Combined, LinearComb, mul, neg};
+use index_map::index_map::{append, clear, insert, key_at, value_at};
+use linear_comb::linear_comb::{LinearComb, mul, neg};
 use numbers::bytes::byte;
 use numbers::number::Number;
+use rules::refusal::Refusal;
 use terms::areas::{STEP_AT, SUM_BYTES};
 use terms::format::INT_SORT;
 
@@ -46,7 +47,13 @@ pub fn clear_in(work: &mut [u8], j: usize, n: usize)
     clear(&mut work[start..start + SUM_BYTES], n);
 }
 
-fn insert_in(work: &mut [u8], j: usize, n: usize, key: usize, value: Number) -> Inserted
+fn insert_in(
+    work: &mut [u8],
+    j: usize,
+    n: usize,
+    key: usize,
+    value: Number,
+) -> Result<usize, Refusal>
     requires { Area j work.old × NewEntry n key value }
     ensures grown { Grown n result × OnlyArea j work.old work.new }
     ensures inserts { (b : Bytes) → Kept b (area_of j work.old) n → key < count b → (l : ℕ) →
@@ -63,7 +70,7 @@ fn append_in(work: &mut [u8], j: usize, n: usize, key: usize, value: Number) -> 
     ensures upper_bound { (result ≤ n + 1) × OnlyArea j work.old work.new }
     ensures inserts { (b : Bytes) → Kept b (area_of j work.old) n → key < count b →
         absent key (entries_of b (area_of j work.old) n) ≡ true → (l : ℕ) →
-        Inserts b (area_of j work.new) (inserted.Length result)
+        Inserts b (area_of j work.new) (Ok result)
         (insert terms (limited l) (entries_of b (area_of j work.old) n) (tree b key) value) }
 {
     let start = STEP_AT + SUM_BYTES * j;
@@ -80,7 +87,7 @@ pub fn neg_in(work: &mut [u8], j: usize, s: LinearComb) -> LinearComb
     neg(&mut work[start..start + SUM_BYTES], s)
 }
 
-pub fn mul_in(work: &mut [u8], j: usize, s: LinearComb, q: Number) -> Combined
+pub fn mul_in(work: &mut [u8], j: usize, s: LinearComb, q: Number) -> Result<LinearComb, Refusal>
     requires { AreaSum j s q work.old }
     ensures only_area { OnlyArea j work.old work.new }
     ensures combines { (b : Bytes) → KeptSum b (area_of j work.old) s → (l : ℕ) →
@@ -108,7 +115,7 @@ fn copy_all(work: &mut [u8], to: usize, from: usize, m: usize, turned: bool) -> 
     ensures upper_bound { (result ≤ most_entries) × OnlyArea to work.old work.new }
     ensures inserts { (b : Bytes) → Kept b (area_of to work.old) 0 →
         Kept b (area_of from work.old) m → (l : ℕ) →
-        Inserts b (area_of to work.new) (inserted.Length result)
+        Inserts b (area_of to work.new) (Ok result)
         (insert_all terms (limited l) [] (signed_all turned (entries_of b (area_of from work.old) m))) }
 {
     let mut len = 0;
@@ -122,7 +129,14 @@ fn copy_all(work: &mut [u8], to: usize, from: usize, m: usize, turned: bool) -> 
 
 // Inserts the m entries of area `from` into the n of area `to`, one by one, with the sign turned or as they are. There
 // are no more in the end than two areas have.
-fn insert_all(work: &mut [u8], to: usize, n: usize, from: usize, m: usize, turned: bool) -> Inserted
+fn insert_all(
+    work: &mut [u8],
+    to: usize,
+    n: usize,
+    from: usize,
+    m: usize,
+    turned: bool,
+) -> Result<usize, Refusal>
     requires { Apart to from work.old × ((n ≤ slots) × (m ≤ slots)) }
     ensures grown { Grown (most_entries - 1) result × OnlyArea to work.old work.new }
     ensures inserts { (b : Bytes) → Kept b (area_of to work.old) n →
@@ -132,18 +146,15 @@ fn insert_all(work: &mut [u8], to: usize, n: usize, from: usize, m: usize, turne
         (signed_all turned (entries_of b (area_of from work.old) m))) }
 {
     if n == 0 {
-        return Inserted::Length(copy_all(work, to, from, m, turned));
+        return Ok(copy_all(work, to, from, m, turned));
     }
     let mut len = n;
     for k in 0..m {
         let key = key_at(area(work, from), k);
         let value = signed(turned, value_at(area(work, from), k));
-        let Inserted::Length(longer) = insert_in(work, to, len, key, value) else {
-            return Inserted::OutOfRange;
-        };
-        len = longer;
+        len = insert_in(work, to, len, key, value)?;
     }
-    Inserted::Length(len)
+    Ok(len)
 }
 
 // Adds combination b of area `from`, with the sign turned or as it is, to a of area `to`.
@@ -154,7 +165,7 @@ fn add_signed(
     from: usize,
     b: LinearComb,
     turned: bool,
-) -> Combined
+) -> Result<LinearComb, Refusal>
     requires { TwoSums to a from b work.old }
     ensures only_area { OnlyArea to work.old work.new }
     ensures combines { (bk : Bytes) → KeptSum bk (area_of to work.old) a →
@@ -163,17 +174,21 @@ fn add_signed(
         (add terms (limited l) (comb_of bk (area_of to work.old) a)
         (signed_comb turned (comb_of bk (area_of from work.old) b))) }
 {
-    let Inserted::Length(len) = insert_all(work, to, a.len, from, b.len, turned) else {
-        return Combined::OutOfRange;
-    };
+    let len = insert_all(work, to, a.len, from, b.len, turned)?;
     let Some(constant) = a.constant.add(signed(turned, b.constant)) else {
         clear_in(work, to, len);
-        return Combined::OutOfRange;
+        return Err(Refusal::NumberRange);
     };
-    Combined::Is(LinearComb { len, constant })
+    Ok(LinearComb { len, constant })
 }
 
-pub fn add(work: &mut [u8], to: usize, a: LinearComb, from: usize, b: LinearComb) -> Combined
+pub fn add(
+    work: &mut [u8],
+    to: usize,
+    a: LinearComb,
+    from: usize,
+    b: LinearComb,
+) -> Result<LinearComb, Refusal>
     requires { TwoSums to a from b work.old }
     ensures only_area { OnlyArea to work.old work.new }
     ensures combines { (bk : Bytes) → KeptSum bk (area_of to work.old) a →
@@ -185,7 +200,13 @@ pub fn add(work: &mut [u8], to: usize, a: LinearComb, from: usize, b: LinearComb
     add_signed(work, to, a, from, b, false)
 }
 
-pub fn sub(work: &mut [u8], to: usize, a: LinearComb, from: usize, b: LinearComb) -> Combined
+pub fn sub(
+    work: &mut [u8],
+    to: usize,
+    a: LinearComb,
+    from: usize,
+    b: LinearComb,
+) -> Result<LinearComb, Refusal>
     requires { TwoSums to a from b work.old }
     ensures only_area { OnlyArea to work.old work.new }
     ensures combines { (bk : Bytes) → KeptSum bk (area_of to work.old) a →

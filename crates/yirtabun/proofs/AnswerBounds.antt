@@ -2,6 +2,7 @@
 --     accepted-few       a marking accepts 4,096 steps at most: a run has no more records, and each step takes one
 --     written-few       an elaboration writes 4,096 records to the run and 65,536 bytes to the tail at most, by `fits`
 --     marked-fits, elaborated-fits       so the numbers that the code casts fit
+use Rattle.runs.specs.declared.verdict.LentRefusal.{LentRefusal}
 use Rattle.std.specs.Prelude.{Result}
 use mathlib.Core.Path.{◌≡◌, refl, ap}
 use mathlib.Core.Bool.{Bool, true, false}
@@ -20,7 +21,6 @@ use Rattle.terms.specs.Format.{max_records, max_run_records}
 use Rattle.rules.specs.Limits.{Limits, limited}
 use Rattle.rules.proofs.Yields.{Yields, past, and_then, weaker, guarded}
 use Rattle.rules.proofs.Yields.Yields.{gives, refuses}
-use Rattle.runs.specs.Verdict.{LentRefusal}
 use Rattle.runs.specs.Run.{Step, Rec, read_steps, read_run}
 use Rattle.marking.specs.Check.{Marking, mark_run, mark, lent_ok, check}
 use Rattle.marking.specs.Answers.{marked_of}

@@ -13,6 +13,7 @@ ghost use Rattle.yirtabun.specs.Answers.{number_bytes, shown, CheckShown, Elabor
 use elaborate::elaborate::{elaborate, written};
 use marking::check::check;
 use numbers::bytes::write_u32;
+use runs::verdict::verdict_number;
 
 // Puts as many bytes of a text as it takes into a slice, and zeros behind them.
 fn show(text: &[u8], answer: &mut [u8])
@@ -63,7 +64,7 @@ pub extern "C" fn yirtabun_check(
         answer.old book.now run.now work.new answer.new result }
 {
     let m = check(book, run, limit, work);
-    let verdict = m.verdict as u32;
+    let verdict = u32::from(verdict_number(m.verdict));
     show_marked(verdict, m.steps as u32, m.visits, answer);
     verdict
 }
@@ -87,7 +88,7 @@ pub extern "C" fn yirtabun_elaborate(
         answer.new result }
 {
     let e = elaborate(book, run, limit, work, outrun, outtail);
-    let verdict = e.verdict as u32;
+    let verdict = u32::from(verdict_number(e.verdict));
     show_elaborated(
         verdict,
         e.steps as u32,

@@ -1,7 +1,7 @@
 -- What the functions of `elaborate` answer, and what they leave in lent memory, in terms of the definitions.
+use Rattle.std.specs.Prelude.{Some}
 use Rattle.std.specs.Prelude.{◌≡◌, [], ℕ, length}
 use Rattle.numbers.specs.Bytes.{Bytes}
-use Rattle.runs.specs.Verdict.{verdict_number}
 use Rattle.runs.specs.Run.{steps_of}
 use Rattle.marking.specs.Check.{Marking, State, turn}
 use Rattle.elaborate.specs.Elaborate.{add_steps, Answer}
@@ -29,7 +29,7 @@ TurnsWritten b run o t o' t' e r =
 
 -- the run was marked, and the accepted steps are written
 pub record Elaborates (b o t : Bytes) (r : Elaborating) (m : Marking) : Type 0 where
-  pub verdict : r.state.verdict ≡ verdict_number m.verdict
+  pub verdict : r.state.verdict ≡ Some m.verdict
   pub steps : r.state.steps ≡ length m.steps
   pub visits : r.state.counter.visits ≡ m.visits
   pub holds : Holds b o t r.out (add_steps b (written [] []) m.steps)

@@ -1,5 +1,6 @@
 -- What one step's elaboration answers, and what it leaves in the out areas: every byte of them, also behind a step that
 -- is refused.
+use Rattle.runs.specs.declared.rule.Rule.TheVariants.{BoundedFarkas}
 use Rattle.std.specs.Prelude.{◌≡◌, true, false, List, [], ◌∷◌, ◌++◌, ℕ, ◌*◌, length, drop}
 use Rattle.std.specs.Prelude.{Some, None}
 use Rattle.numbers.specs.Rational.{Rational}
@@ -14,27 +15,12 @@ use Rattle.index_map.specs.IndexMap.{new}
 use Rattle.process_disequality.specs.ProcessDisequality.{Progress, progress, process_disequality}
 use Rattle.linear_arithmetic.specs.LinearArithmetic.{read_args}
 use Rattle.rules.specs.Shapes.{Clause}
-use Rattle.rules.specs.Memory.Parts.{Refuses}
 use Rattle.runs.specs.Rule.{is_rule}
-use Rattle.runs.specs.Rule.Rule.{bounded_farkas}
 use Rattle.runs.specs.Run.{Step}
 use Rattle.steps.specs.CheckStep.{Accepted}
 use Rattle.out_areas.specs.Farkas.{Written, tail_bytes, add_reals, fits}
-use Rattle.rules.specs.declared.verdict.Verdict.{Verdict}
-use Rattle.rules.specs.declared.verdict.Verdict.TheVariants as verdict
 use Rattle.out_areas.specs.declared.out_areas.Out.{Out}
-use Rattle.farkas.specs.declared.farkas.Stepped.{Stepped}
-use Rattle.farkas.specs.declared.farkas.Stepped.TheVariants as stepped
 use Rattle.out_areas.specs.Memory.OutAreas.{Holds, Fronts, with_step, Writing, more, more_reals, Lies}
-
-abbrev pub judged_as : Verdict → Out → Stepped
-judged_as (verdict.Accepted n) out = stepped.Accepted n out
-judged_as (verdict.Refused c) out = stepped.Refused c
-
--- document 01's number of the refusal
-abbrev pub stepped_refusal : Stepped → ℕ
-stepped_refusal (stepped.Accepted n out) = 0
-stepped_refusal (stepped.Refused c) = c
 
 -- the numbers that a fold over literals infers, up to its end or its refusal
 unfoldable pub inferred_until : Limits → Clause → List Rational → Progress → List Rational
@@ -52,7 +38,7 @@ farkas_numbers l clause args n = elim (read_args l args) [
 ]
 
 unfoldable pub step_numbers : Limits → Step → ℕ → List Rational
-step_numbers l s n = elim (is_rule bounded_farkas s.rule) [
+step_numbers l s n = elim (is_rule BoundedFarkas s.rule) [
   | true ↦ farkas_numbers l s.clause s.args n
   | false ↦ []
 ]
@@ -64,24 +50,24 @@ more_step b m n step limit visits s =
 
 -- a step was checked, which the definition answers with d; w has its records, and where it is accepted, what it
 -- inferred is written too
-abbrev pub SteppedIs : Bytes → Bytes → Bytes → Stepped → Written → Result Accepted → Type 0
-SteppedIs b o t (stepped.Accepted n out) w d =
+abbrev pub SteppedIs : Bytes → Bytes → Bytes → Result (ℕ × Out) → Written → Result Accepted → Type 0
+SteppedIs b o t (Ok (n, out)) w d =
     (a : Accepted) × ((d ≡ Ok a) × ((n ≡ a.visits) × Holds b o t out (add_reals b w a.inferred)))
-SteppedIs b o t (stepped.Refused c) w d = Refuses c d
+SteppedIs b o t (Err r) w d = d ≡ Err r
 
 -- the counts of what is written; a refused step answers none
-abbrev pub Counts : Stepped → Writing → Type 0
-Counts (stepped.Accepted n out) s =
+abbrev pub Counts : Result (ℕ × Out) → Writing → Type 0
+Counts (Ok (n, out)) s =
     out
     ≡ record { run = length s.done.run; tail = format.record_bytes * length s.done.tail; full = s.full }
-Counts (stepped.Refused c) s = Unit {0}
+Counts (Err r) s = Unit {0}
 
 -- the bytes x in front of an area, and the others as they were
 unfoldable pub over : Bytes → Bytes → Bytes
 over x a = x ++ drop (length x) a
 
 -- every byte of the areas, where s is written, and the counts that are answered
-pub record Leaves (o t o' t' : Bytes) (r : Stepped) (s : Writing) : Type 0 where
+pub record Leaves (o t o' t' : Bytes) (r : Result (ℕ × Out)) (s : Writing) : Type 0 where
   pub run : o' ≡ over s.done.run o
   pub tail : t' ≡ over (tail_bytes s.done.tail) t
   pub counts : Counts r s
@@ -91,8 +77,8 @@ pub record Leaves (o t o' t' : Bytes) (r : Stepped) (s : Writing) : Type 0 where
 -- refused one up to its refusal, and behind that the bytes that were there. What a refused step wrote lies behind the
 -- counts, and is cleared with all else that lies there.
 pub record SteppedLeft
-    (b o t : Bytes) (out : Out) (o' t' : Bytes) (r : Stepped) (then : Written → Written) (write : Writing → Writing)
-    (d : Result Accepted) : Type 0 where
+    (b o t : Bytes) (out : Out) (o' t' : Bytes) (r : Result (ℕ × Out)) (then : Written → Written)
+    (write : Writing → Writing) (d : Result Accepted) : Type 0 where
   pub fronts : Fronts out o o' t t'
   pub is : (w : Written) → Holds b o t out w → SteppedIs b o' t' r (then w) d
   pub left : (s : Writing) → Lies b o t out s → Leaves o t o' t' r (write s)

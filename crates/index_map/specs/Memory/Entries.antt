@@ -1,20 +1,14 @@
 -- Sums in lent bytes: an area has 2,048 places of 10 bytes, a record number in two and a number in eight, in the order
 -- of the map; what is not used is 0.
 use Rattle.std.specs.Prelude.{◌≡◌, Bool, true, ◌&&◌, not, List, [], ◌∷◌, ℕ, zero, suc, ◌+◌, ◌≤◌, ◌<◌, eqb, length}
-use Rattle.std.specs.Prelude.{drop}
-use Rattle.std.specs.Prelude.{Option, Some, None}
+use Rattle.std.specs.Prelude.{drop, Option, Some, None}
 use Rattle.numbers.specs.Rational.{Rational, Proper}
 use Rattle.numbers.specs.Bytes.{Bytes, le, put, bytes_of, number_at}
 use Rattle.terms.specs.Term.{Term, record_number, same}
 use Rattle.terms.specs.Book.{count, tree}
 use Rattle.rules.specs.Refusal.{Result}
-use Rattle.std.specs.Prelude.{Ok, Err}
-use Rattle.rules.specs.Refusal.Refusal.{number_range}
 use Rattle.index_map.specs.IndexMap.{Map, Keys}
-use Rattle.index_map.specs.declared.index_map.Inserted.{Inserted}
-use Rattle.index_map.specs.declared.index_map.Inserted.TheVariants.{Length, OutOfRange}
-use Rattle.index_map.specs.declared.index_map.Coefficient.{Coefficient}
-use Rattle.index_map.specs.declared.index_map.Coefficient.TheVariants.{Of, Missing}
+use Rattle.index_map.specs.Memory.Answers.{AtMost}
 use Rattle.index_map.specs.Memory.StoredMaps as maps
 use Rattle.index_map.specs.Memory.StoredMaps.{Encoding}
 use Rattle.terms.specs.Readers.{unbounded}
@@ -93,23 +87,17 @@ pub record Kept (b w : Bytes) (n : ℕ) : Type 0 where
   pub held : Held b w map
   pub size : n ≡ length map
 
-abbrev pub InsertedIs : Inserted → Map Term → Result (Map Term) → Type 0
-InsertedIs (Length n) m d = (d ≡ Ok m) × (n ≡ length m)
-InsertedIs OutOfRange m d = (d ≡ Err number_range) × (m ≡ [])
+-- the number that is found, in range
+abbrev pub CoefficientIs : Option Rational → Option Rational → Type 0
+CoefficientIs (Some q) d = (d ≡ Some q) × Proper q
+CoefficientIs None d = d ≡ None
 
-abbrev pub CoefficientIs : Coefficient → Option Rational → Type 0
-CoefficientIs (Of q) d = (d ≡ Some q) × Proper q
-CoefficientIs Missing d = d ≡ None
-
-pub record Inserts (b w : Bytes) (r : Inserted) (d : Result (Map Term)) : Type 0 where
-  pub map : Map Term
-  pub held : Held b w map
-  pub is : InsertedIs r map d
+abbrev pub Inserts : Bytes → Bytes → Result ℕ → Result (Map Term) → Type 0
+Inserts = maps.Inserts sums slots Good
 
 -- an insertion makes one entry more at most
-abbrev pub Grown : ℕ → Inserted → Type 0
-Grown n (Length m) = m ≤ n + 1
-Grown n OutOfRange = Unit {0}
+abbrev pub Grown : ℕ → Result ℕ → Type 0
+Grown n = AtMost (n + 1)
 
 -- terms are equal where their record numbers are; a combination has any number of entries
 abbrev pub terms : Keys Term

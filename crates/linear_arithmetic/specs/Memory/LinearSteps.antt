@@ -1,14 +1,15 @@
 -- Rules 4 to 6 on one step that is given as parts of the lent run, with the work area lent: what each function of the
 -- code answers and leaves, in terms of the definitions.
+use Rattle.index_map.specs.Memory.Answers.{Has}
 use Rattle.std.specs.Prelude.{◌≡◌, ◌&&◌, not, cond, List, [], ◌∷◌, ℕ, zero, suc, ◌≤◌, eqb, length}
 use Rattle.std.specs.Prelude.{Option, Some, None}
 use Rattle.numbers.specs.Rational.{Rational, Proper}
 use Rattle.numbers.specs.Bytes.{Bytes}
 use Rattle.terms.specs.Term.{Term}
 use Rattle.terms.specs.Format.{max_run_bytes}
-use Rattle.rules.specs.Refusal.{Result, ◌>>=◌, assert, number}
-use Rattle.std.specs.Prelude.{Ok}
-use Rattle.rules.specs.Refusal.Refusal.{disequality_is_not_contradiction, disequality_is_not_tautology}
+use Rattle.rules.specs.Refusal.{Result, ◌>>=◌, assert}
+use Rattle.std.specs.Prelude.{Ok, Err}
+use Rattle.rules.specs.declared.refusal.Refusal.TheVariants.{DisequalityIsNotContradiction, DisequalityIsNotTautology}
 use Rattle.rules.specs.Limits.{Limits, limited}
 use Rattle.index_map.specs.IndexMap.{Map}
 use Rattle.index_map.specs.Memory.Entries.{Held}
@@ -17,14 +18,11 @@ use Rattle.process_disequality.specs.Memory.ProcessSteps.{progress_with}
 use Rattle.linear_arithmetic.specs.LinearArithmetic.{read_args, is_true_at_zero, is_tautology}
 use Rattle.disequality.specs.Disequality.{disequality_of}
 use Rattle.rules.specs.Shapes.{Clause}
-use Rattle.linear_comb.specs.Memory.WorkArea.{accumulated, area_of, OnlyArea, SumHas}
-use Rattle.rules.specs.Memory.Parts.{Refuses, Ready, Inside, terms_in, asserted_of, verdict_of}
+use Rattle.linear_comb.specs.Memory.WorkArea.{accumulated, area_of, OnlyArea}
+use Rattle.rules.specs.Memory.Parts.{Ready, Inside, terms_in}
 use Rattle.linear_arithmetic.specs.declared.linear_arithmetic.Folded.{Folded}
 use Rattle.linear_arithmetic.specs.declared.linear_arithmetic.Folded.TheVariants as folded
 use Rattle.process_disequality.specs.declared.process_disequality.Progress as by_value
-use Rattle.rules.specs.declared.verdict.Asserted.TheVariants as asserted
-use Rattle.rules.specs.declared.verdict.Verdict.{Verdict}
-use Rattle.rules.specs.declared.verdict.Verdict.TheVariants as verdict
 
 -- ---- what `la_generic` and `bounded_farkas` ask and answer
 
@@ -37,9 +35,8 @@ abbrev pub visits_of : Result Progress → Result ℕ
 visits_of r = r >>= λ p. Ok p.visits
 
 -- a rule's verdict on a step's literals and arguments, after n visits
-abbrev pub verdict_by : (Limits → Clause → List Term → ℕ → Result Progress) → ℕ → Bytes → Bytes → Bytes → ℕ → Verdict
-verdict_by rule l b literals args n =
-    verdict_of (visits_of (rule (limited l) (terms_in b literals) (terms_in b args) n))
+abbrev pub verdict_by : (Limits → Clause → List Term → ℕ → Result Progress) → ℕ → Bytes → Bytes → Bytes → ℕ → Result ℕ
+verdict_by rule l b literals args n = visits_of (rule (limited l) (terms_in b literals) (terms_in b args) n)
 
 -- ---- the fold over the literals, up to the first number that is inferred: whoever elaborates takes each such number
 -- as it is found, and goes on with the literals that are left. What the fold has made, and how many literals are done
@@ -53,9 +50,12 @@ fold_some l (phi ∷ clause) (a ∷ args) p k = do
   q ← process_disequality l p phi (Some a)
   fold_some l clause args q (suc k)
 
--- all arguments are numbers
+-- whether all arguments are numbers; refused as the first that is not
+abbrev pub are_numbers : ℕ → Bytes → Bytes → Result (Unit {0})
+are_numbers l b args = read_args (limited l) (terms_in b args) >>= λ qs. Ok tt
+
 abbrev pub AllNumbers : ℕ → Bytes → Bytes → Type 0
-AllNumbers l b args = asserted.Holds ≡ asserted_of (read_args (limited l) (terms_in b args))
+AllNumbers l b args = are_numbers l b args ≡ Ok tt
 
 -- the fold with the arguments as they are read
 unfoldable pub fold_read : Limits → Clause → List Term → Progress → Result (Progress × ℕ)
@@ -64,12 +64,12 @@ fold_read l clause args p = do
   fold_some l clause qs p 0
 
 -- n literals in all
-abbrev pub FoldedIs : ℕ → Folded → Map Term → Result (Progress × ℕ) → Type 0
-FoldedIs n (folded.Done p) m d = (d ≡ Ok (progress_with p m [], n)) × SumHas p.acc m
-FoldedIs n (folded.Inferred p q k) m d = (d ≡ Ok (progress_with p m (q ∷ []), k)) × (SumHas p.acc m × Proper q)
-FoldedIs n (folded.Refused c) m d = Refuses c d × (m ≡ [])
+abbrev pub FoldedIs : ℕ → Result Folded → Map Term → Result (Progress × ℕ) → Type 0
+FoldedIs n (Ok (folded.Done p)) m d = (d ≡ Ok (progress_with p m [], n)) × Has p.acc m
+FoldedIs n (Ok (folded.Inferred p q k)) m d = (d ≡ Ok (progress_with p m (q ∷ []), k)) × (Has p.acc m × Proper q)
+FoldedIs n (Err r) m d = (d ≡ Err r) × (m ≡ [])
 
-pub record FoldedLeft (b w w' : Bytes) (n : ℕ) (r : Folded) (d : Result (Progress × ℕ)) : Type 0 where
+pub record FoldedLeft (b w w' : Bytes) (n : ℕ) (r : Result Folded) (d : Result (Progress × ℕ)) : Type 0 where
   pub map : Map Term
   pub held : Held b (area_of accumulated w') map
   pub only : OnlyArea accumulated w w'
@@ -82,15 +82,15 @@ at (q ∷ qs) zero = Some q
 at (q ∷ qs) (suc k) = at qs k
 
 -- the last line of `la_generic_partial`
-abbrev pub contradicts : by_value.Progress → Verdict
+abbrev pub contradicts : by_value.Progress → Result ℕ
 contradicts p =
     cond (eqb p.acc.len 0 && not (is_true_at_zero p.operator p.acc.constant))
-    (verdict.Accepted p.visits)
-    (verdict.Refused (number disequality_is_not_contradiction))
+    (Ok p.visits)
+    (Err DisequalityIsNotContradiction)
 
 -- the first form of `la_tautology`
 unfoldable pub tautology_of : Limits → Term → ℕ → Result ℕ
 tautology_of l phi n = do
   d ← disequality_of l phi n
-  _ ← assert (is_tautology d) disequality_is_not_tautology
+  _ ← assert (is_tautology d) DisequalityIsNotTautology
   Ok d.visits

@@ -2,19 +2,16 @@
 -- three areas of 20,480 bytes, one for each of the combinations that are alive at once: the accumulated one, and a
 -- literal's two sides. An area has 2,048 places of 10 bytes for entries, in the order of the map, and what is not used
 -- is 0. How many entries there are, and the constant, are carried by value.
-use Rattle.std.specs.Prelude.{◌≡◌, ◌≢◌, Bool, true, false, [], ◌++◌, ℕ, ◌+◌, ◌*◌, ◌≤◌, ◌<◌, length, take, drop}
+use Rattle.std.specs.Prelude.{◌≡◌, ◌≢◌, Bool, true, false, ◌++◌, ℕ, ◌+◌, ◌*◌, ◌≤◌, ◌<◌, length, take, drop}
 use Rattle.numbers.specs.Rational.{Rational, Proper, neg_q}
 use Rattle.numbers.specs.Bytes.{Bytes}
 use Rattle.terms.specs.Term.{Term}
 use Rattle.terms.specs.Format.{max_records, work_bytes, step_at}
 use Rattle.rules.specs.Refusal.{Result}
-use Rattle.std.specs.Prelude.{Ok, Err}
-use Rattle.rules.specs.Refusal.Refusal.{number_range}
 use Rattle.index_map.specs.IndexMap.{Map, combination, neg_all, neg}
 use Rattle.linear_comb.specs.LinearComb.{LinearComb}
-use Rattle.linear_comb.specs.declared.linear_comb.LinearComb as by_value
-use Rattle.linear_comb.specs.declared.linear_comb.Combined.{Combined}
-use Rattle.linear_comb.specs.declared.linear_comb.Combined.TheVariants as combined
+use Rattle.index_map.specs.declared.combination.Combination as by_value
+use Rattle.index_map.specs.Memory.Answers.{CombinedIs}
 use Rattle.index_map.specs.Memory.Entries.{slots, most_entries, entries_of, Held, Kept, NewEntry}
 
 -- ---- sizes and offsets
@@ -36,7 +33,7 @@ right_side = 2
 -- ---- a combination by value, with the bytes of its area
 
 abbrev pub Sum : Type 0
-Sum = by_value.LinearComb
+Sum = by_value.Combination
 
 abbrev pub comb_of : Bytes → Bytes → Sum → LinearComb
 comb_of b w s = combination (entries_of b w s.len) s.constant
@@ -48,17 +45,9 @@ pub record KeptSum (b w : Bytes) (s : Sum) : Type 0 where
 abbrev pub negated : Sum → Sum
 negated s = record { len = s.len; constant = neg_q s.constant }
 
--- ---- the answers, case by case: what each says of the definition's result d, and of the entries m that are left in
--- the area. A refusal leaves none.
-
-abbrev pub CombinedIs : Combined → Map Term → Result LinearComb → Type 0
-CombinedIs (combined.Is s) m d =
-    (d ≡ Ok (combination m s.constant)) × ((s.len ≡ length m) × Proper s.constant)
-CombinedIs combined.OutOfRange m d = (d ≡ Err number_range) × (m ≡ [])
-
 -- ---- promises about the bytes w that are left in an area
 
-pub record Combines (b w : Bytes) (r : Combined) (d : Result LinearComb) : Type 0 where
+pub record Combines (b w : Bytes) (r : Result Sum) (d : Result LinearComb) : Type 0 where
   pub map : Map Term
   pub held : Held b w map
   pub is : CombinedIs r map d
@@ -103,16 +92,6 @@ signed_q false q = q
 abbrev pub signed_comb : Bool → LinearComb → LinearComb
 signed_comb true s = neg s
 signed_comb false s = s
-
--- ---- what a step finds and leaves
-
--- s is a combination by value whose entries are m
-pub record SumHas (s : Sum) (m : Map Term) : Type 0 where
-  pub size : s.len ≡ length m
-  pub proper : Proper s.constant
-
-abbrev pub comb_with : Sum → Map Term → LinearComb
-comb_with s m = combination m s.constant
 
 -- ---- what the functions on sums and their areas ask
 

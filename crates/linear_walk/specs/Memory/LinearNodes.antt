@@ -1,89 +1,75 @@
 -- What `add_term` does at a term, as one value: the code looks at a record first, and then walks.
-use Rattle.std.specs.Prelude.{◌≡◌, Bool, true, false, List, ℕ, ◌≤◌, ◌<◌}
-use Rattle.std.specs.Prelude.{Some, None}
+use Rattle.std.specs.Prelude.{◌≡◌, true, List, ℕ, ◌≤◌, ◌<◌}
+use Rattle.std.specs.Prelude.{Option, Some, None, Ok, Err}
 use Rattle.numbers.specs.Rational.{Rational, Proper, mul_q, neg_q, checked}
 use Rattle.numbers.specs.Bytes.{Bytes}
 use Rattle.terms.specs.Term.{Term, Terms, record_number, two?}
 use Rattle.terms.specs.Term.Terms.{nil, ◌▹◌}
 use Rattle.terms.specs.Book.{count, tree, numbers, all_below}
 use Rattle.terms.specs.Readers.{ranged, as_fraction, as_op, arguments_of}
-use Rattle.rules.specs.Refusal.{Result, ◌>>=◌}
-use Rattle.std.specs.Prelude.{Ok}
-use Rattle.rules.specs.Limits.{Limits, limited}
+use Rattle.rules.specs.Refusal.{Result, ◌>>=◌, or_else}
+use Rattle.rules.specs.Limits.{Limits, limited, number_or}
 use Rattle.index_map.specs.IndexMap.{Map, Walked, walked, add_entry, add_constant}
 use Rattle.linear_walk.specs.LinearTerms.{arm_of, add_term, add_args}
 use Rattle.linear_comb.specs.LinearComb.{LinearComb}
 use Rattle.index_map.specs.Memory.Entries.{terms, entries_of, Held}
 use Rattle.linear_walk.specs.LinearTerms.Arm.{sum, negation, difference, product, leaf}
-use Rattle.linear_walk.specs.Memory.Walks.{WalkIs}
+use Rattle.index_map.specs.Memory.Answers.{WalkIs}
+use Rattle.index_map.specs.declared.combination.Walked as by_value
 use Rattle.linear_comb.specs.Memory.WorkArea.{Sum, KeptSum}
-use Rattle.rules.specs.Memory.Parts.{Laid, Refuses}
+use Rattle.rules.specs.Memory.Parts.{Laid}
 use Rattle.linear_walk.specs.declared.nodes.Node.{Node}
 use Rattle.linear_walk.specs.declared.nodes.Node.TheVariants as node
 use Rattle.linear_walk.specs.declared.nodes.Place.{Place}
 use Rattle.linear_walk.specs.declared.nodes.Place.TheVariants as place
 use Rattle.linear_walk.specs.declared.linear_walk.Flat.{Flat}
 use Rattle.linear_walk.specs.declared.linear_walk.Flat.TheVariants as flat
-use Rattle.linear_walk.specs.declared.linear_walk.Walk.{Walk}
-use Rattle.linear_walk.specs.declared.linear_walk.Walk.TheVariants as walk
 use Rattle.linear_comb.specs.Memory.Notes.{Noted}
 use Rattle.numbers.specs.Rational.{Checked}
 use Rattle.terms.specs.Readers.{Reading}
-use Rattle.std.specs.Prelude.{Err}
-use Rattle.terms.specs.declared.term.NotRead.TheVariants.{NotNumber, OutOfRange}
+use Rattle.rules.specs.declared.refusal.Refusal.TheVariants.{NumberRange}
 
 -- a constant, where it is in range
-abbrev pub constant_node : Checked → Node
-constant_node (Some q) = node.Constant q
-constant_node None = node.OutOfRange
+abbrev pub constant_node : Checked → Result Node
+constant_node q = or_else q NumberRange >>= λ c. Ok (node.Constant c)
 
 -- a leaf's node, by what the leaf is read as
-abbrev pub read_node : Rational → Reading → Node
-read_node coeff (Ok q) = constant_node (checked (mul_q q coeff))
-read_node coeff (Err NotNumber) = node.Atom
-read_node coeff (Err OutOfRange) = node.OutOfRange
+abbrev pub read_node : Rational → Reading → Result Node
+read_node coeff x = number_or x >>= elim [
+  | Some q ↦ constant_node (checked (mul_q q coeff))
+  | None ↦ Ok node.Atom
+]
 
-unfoldable pub leaf_node : Term → Rational → Node
+unfoldable pub leaf_node : Term → Rational → Result Node
 leaf_node t coeff = read_node coeff (as_fraction ranged t)
 
 -- a number times the term of a record
-abbrev pub scaled_node : ℕ → Checked → Node
-scaled_node x (Some c) = node.Factor x c
-scaled_node x None = node.OutOfRange
+unfoldable pub factor_node : ℕ → Rational → Rational → Result Node
+factor_node x q coeff = or_else (checked (mul_q q coeff)) NumberRange >>= λ c. Ok (node.Factor x c)
 
-unfoldable pub factor_node : ℕ → Rational → Rational → Node
-factor_node x q coeff = scaled_node x (checked (mul_q q coeff))
-
--- refusal 11
-abbrev pub is_outside : Reading → Bool
-is_outside (Ok q) = false
-is_outside (Err NotNumber) = false
-is_outside (Err OutOfRange) = true
+-- a product of the terms of two records, by the numbers that they are
+abbrev pub factors_node : Option Rational → Option Rational → ℕ → ℕ → Rational → Result Node
+factors_node (Some p) q x y coeff = factor_node y p coeff
+factors_node None (Some q) x y coeff = factor_node x q coeff
+factors_node None None x y coeff = Ok node.Atom
 
 -- both factors are read before either is looked at
-abbrev pub factors_node : Reading → Reading → ℕ → ℕ → Rational → Node
-factors_node (Err OutOfRange) q x y coeff = node.OutOfRange
-factors_node (Ok p) (Err OutOfRange) x y coeff = node.OutOfRange
-factors_node (Ok p) (Ok q) x y coeff = factor_node y p coeff
-factors_node (Ok p) (Err NotNumber) x y coeff = factor_node y p coeff
-factors_node (Err NotNumber) (Err OutOfRange) x y coeff = node.OutOfRange
-factors_node (Err NotNumber) (Ok q) x y coeff = factor_node x q coeff
-factors_node (Err NotNumber) (Err NotNumber) x y coeff = node.Atom
+unfoldable pub product_node : Term → Term → Rational → Result Node
+product_node a b coeff = do
+  p ← number_or (as_fraction ranged a)
+  q ← number_or (as_fraction ranged b)
+  factors_node p q (record_number a) (record_number b) coeff
 
-unfoldable pub product_node : Term → Term → Rational → Node
-product_node a b coeff =
-    factors_node (as_fraction ranged a) (as_fraction ranged b) (record_number a) (record_number b) coeff
-
-unfoldable pub operation_node : Term → ℕ → Terms → Rational → Node
+unfoldable pub operation_node : Term → ℕ → Terms → Rational → Result Node
 operation_node t o ts coeff = elim (arm_of o ts) [
-  | sum ↦ node.Args coeff coeff
-  | negation ↦ node.Args (neg_q coeff) (neg_q coeff)
-  | difference ↦ node.Args coeff (neg_q coeff)
-  | product ↦ elim (two? ts) [ Some p ↦ product_node p.0 p.1 coeff | None ↦ node.Atom ]
+  | sum ↦ Ok (node.Args coeff coeff)
+  | negation ↦ Ok (node.Args (neg_q coeff) (neg_q coeff))
+  | difference ↦ Ok (node.Args coeff (neg_q coeff))
+  | product ↦ elim (two? ts) [ Some p ↦ product_node p.0 p.1 coeff | None ↦ Ok node.Atom ]
   | leaf ↦ leaf_node t coeff
 ]
 
-unfoldable pub node_of : Term → Rational → Node
+unfoldable pub node_of : Term → Rational → Result Node
 node_of t coeff = elim (as_op t) [ Some p ↦ operation_node t p.0 p.1 coeff | None ↦ leaf_node t coeff ]
 
 -- the arguments: the first with one coefficient, the others with another
@@ -95,15 +81,15 @@ add_each (t ▹ ts) l first others w = do
 
 -- ---- what the code asks and promises
 
-abbrev pub NodeProper : Node → Type 0
-NodeProper (node.Args p q) = Proper p × Proper q
-NodeProper (node.Factor x c) = Proper c
-NodeProper (node.Constant q) = Proper q
-NodeProper node.Atom = Unit {0}
-NodeProper node.OutOfRange = Unit {0}
+abbrev pub NodeProper : Result Node → Type 0
+NodeProper (Ok (node.Args p q)) = Proper p × Proper q
+NodeProper (Ok (node.Factor x c)) = Proper c
+NodeProper (Ok (node.Constant q)) = Proper q
+NodeProper (Ok node.Atom) = Unit {0}
+NodeProper (Err r) = Unit {0}
 
--- r is the definition's node
-pub record NodeIs (r d : Node) : Type 0 where
+-- r is the definition's node, or its refusal
+pub record NodeIs (r d : Result Node) : Type 0 where
   pub is : r ≡ d
   pub proper : NodeProper r
 
@@ -131,29 +117,30 @@ pub record ArgsPre (b w args : Bytes) (id : ℕ) (first others : Rational) (s : 
 
 -- ---- where a term leads
 
--- d is what the walk makes of the sum s at a place
-abbrev pub AtPlace : Bytes → Limits → Place → LinearComb → Result (Walked Term) → Type 0
-AtPlace b l (place.Args x first others v) s d = d ≡ add_each (arguments_of (tree b x)) l first others (walked s v)
-AtPlace b l (place.Constant q v) s d = d ≡ add_constant l q (walked s v)
-AtPlace b l (place.Atom x c v) s d = d ≡ add_entry terms l (tree b x) c (walked s v)
-AtPlace b l (place.Refused c) s d = Refuses c d
+-- d is what the walk makes of the sum s at a place, after the visits made so far
+abbrev pub AtPlace : Bytes → Limits → Result (Place × ℕ) → LinearComb → Result (Walked Term) → Type 0
+AtPlace b l (Ok (place.Args x first others, v)) s d =
+    d ≡ add_each (arguments_of (tree b x)) l first others (walked s v)
+AtPlace b l (Ok (place.Constant q, v)) s d = d ≡ add_constant l q (walked s v)
+AtPlace b l (Ok (place.Atom x c, v)) s d = d ≡ add_entry terms l (tree b x) c (walked s v)
+AtPlace b l (Err r) s d = d ≡ Err r
 
 -- the records that a place names are no later than record i, its numbers are in range
-abbrev pub PlaceProper : ℕ → Place → Type 0
-PlaceProper i (place.Args x first others v) = (x ≤ i) × (Proper first × Proper others)
-PlaceProper i (place.Constant q v) = Proper q
-PlaceProper i (place.Atom x c v) = (x ≤ i) × Proper c
-PlaceProper i (place.Refused c) = Unit {0}
+abbrev pub PlaceProper : ℕ → Result (Place × ℕ) → Type 0
+PlaceProper i (Ok (place.Args x first others, v)) = (x ≤ i) × (Proper first × Proper others)
+PlaceProper i (Ok (place.Constant q, v)) = Proper q
+PlaceProper i (Ok (place.Atom x c, v)) = (x ≤ i) × Proper c
+PlaceProper i (Err r) = Unit {0}
 
 -- the walk of record i, whatever the sum is
-pub record PlaceIs (b : Bytes) (l i : ℕ) (coeff : Rational) (visits : ℕ) (r : Place) : Type 0 where
+pub record PlaceIs (b : Bytes) (l i : ℕ) (coeff : Rational) (visits : ℕ) (r : Result (Place × ℕ)) : Type 0 where
   pub is : (s : LinearComb) → AtPlace b (limited l) r s (add_term (tree b i) (limited l) coeff (walked s visits))
   pub proper : PlaceProper i r
 
 -- ---- a walk that notes the atoms that it enters
 
 -- what a walk leaves in an area, with all its atoms noted
-pub record Fills (b w : Bytes) (ns : List ℕ) (r : Walk) (d : Result (Walked Term)) : Type 0 where
+pub record Fills (b w : Bytes) (ns : List ℕ) (r : Result by_value.Walked) (d : Result (Walked Term)) : Type 0 where
   pub map : Map Term
   pub held : Held b w map
   pub is : WalkIs r map d
@@ -162,8 +149,8 @@ pub record Fills (b w : Bytes) (ns : List ℕ) (r : Walk) (d : Result (Walked Te
 -- a walk of record i from the bytes w of an area to w' and from the notes ns to ns'. Where there are arguments to walk
 -- it has only come to them.
 abbrev pub FlatWalks :
-    Bytes → ℕ → ℕ → Rational → ℕ → Bytes → Bytes → List ℕ → List ℕ → Flat → Result (Walked Term) → Type 0
-FlatWalks b l i coeff v w w' ns ns' (flat.Done s u) d = Fills b w' ns' (walk.Done s u) d
-FlatWalks b l i coeff v w w' ns ns' (flat.Refused c) d = Fills b w' ns' (walk.Refused c) d
-FlatWalks b l i coeff v w w' ns ns' (flat.Deeper x p q u) d =
-    ((w' ≡ w) × (ns' ≡ ns)) × PlaceIs b l i coeff v (place.Args x p q u)
+    Bytes → ℕ → ℕ → Rational → ℕ → Bytes → Bytes → List ℕ → List ℕ → Result Flat → Result (Walked Term) → Type 0
+FlatWalks b l i coeff v w w' ns ns' (Ok (flat.Done r)) d = Fills b w' ns' (Ok r) d
+FlatWalks b l i coeff v w w' ns ns' (Ok (flat.Deeper x p q u)) d =
+    ((w' ≡ w) × (ns' ≡ ns)) × PlaceIs b l i coeff v (Ok (place.Args x p q, u))
+FlatWalks b l i coeff v w w' ns ns' (Err r) d = Fills b w' ns' (Err r) d

@@ -1,27 +1,18 @@
 -- What a walk of a term answers, and leaves in its area.
-use Rattle.std.specs.Prelude.{◌≡◌, [], ℕ, length}
-use Rattle.numbers.specs.Rational.{Proper}
 use Rattle.numbers.specs.Bytes.{Bytes}
 use Rattle.terms.specs.Term.{Term}
 use Rattle.rules.specs.Refusal.{Result}
-use Rattle.std.specs.Prelude.{Ok}
-use Rattle.index_map.specs.IndexMap.{Map, combination, Walked, walked}
-use Rattle.linear_walk.specs.declared.linear_walk.Walk.{Walk}
-use Rattle.linear_walk.specs.declared.linear_walk.Walk.TheVariants.{Done, Refused}
-use Rattle.rules.specs.Memory.Parts.{Refuses}
+use Rattle.index_map.specs.IndexMap.{Map, Walked, walked}
+use Rattle.index_map.specs.declared.combination.Walked as by_value
+use Rattle.index_map.specs.Memory.Answers.{WalkIs}
 use Rattle.index_map.specs.Memory.Entries.{Held}
+use Rattle.linear_comb.specs.Memory.WorkArea.{comb_of}
 
--- document 01's number of a walk's refusal; 0 where it is done
-abbrev pub walk_refusal : Walk → ℕ
-walk_refusal (Done s v) = 0
-walk_refusal (Refused c) = c
+-- a walk by value, with the bytes of its area
+abbrev pub walk_of : Bytes → Bytes → by_value.Walked → Walked Term
+walk_of b a w = walked (comb_of b a w.sum) w.visits
 
-abbrev pub WalkIs : Walk → Map Term → Result (Walked Term) → Type 0
-WalkIs (Done s v) m d =
-    (d ≡ Ok (walked (combination m s.constant) v)) × ((s.len ≡ length m) × Proper s.constant)
-WalkIs (Refused c) m d = Refuses c d × (m ≡ [])
-
-pub record Walks (b w : Bytes) (r : Walk) (d : Result (Walked Term)) : Type 0 where
+pub record Walks (b a : Bytes) (r : Result by_value.Walked) (d : Result (Walked Term)) : Type 0 where
   pub map : Map Term
-  pub held : Held b w map
+  pub held : Held b a map
   pub is : WalkIs r map d

@@ -1,20 +1,17 @@
 -- A marking under way by value, and what comes before its first step, in terms of `Check`.
+use Rattle.runs.specs.declared.verdict.LentRefusal.{LentRefusal}
+use Rattle.runs.specs.declared.verdict.LentRefusal.TheVariants.{OfBook, WorkAreaOrLimit}
 use Rattle.std.specs.Prelude.{◌≡◌, true, false, List, ℕ, ◌-◌, ◌≤◌, length}
-use Rattle.std.specs.Prelude.{Some, None}
 use Rattle.numbers.specs.Bytes.{Bytes}
 use Rattle.terms.specs.Book.{read_book, records_read, put_sorts}
 use Rattle.std.specs.Prelude.{Result, Ok, Err}
 use Rattle.rules.specs.Memory.Parts.{Ready}
-use Rattle.runs.specs.Verdict.{LentRefusal, lent_number, verdict_number}
-use Rattle.runs.specs.Verdict.LentRefusal.{work_area_or_limit, of_book}
 use Rattle.rules.specs.Limits.{limited}
 use Rattle.runs.specs.Run.{Step, read_run, steps_of}
 use Rattle.marking.specs.Check.{State, turn, lent_ok}
 use Rattle.marking.specs.Answers.{zeros}
-use Rattle.runs.specs.Memory.StepParts.{step_from}
+use Rattle.runs.specs.Memory.StepParts.{step_from, passed}
 use Rattle.marking.specs.declared.check.State as by_value
-use Rattle.marking.specs.declared.check.Opened.{Opened}
-use Rattle.marking.specs.declared.check.Opened.TheVariants as opened
 
 -- ---- a marking under way
 
@@ -28,8 +25,7 @@ state_of run limit s =
       at = place_of run (length s.steps);
       steps = length s.steps;
       counter = record { visits = s.counter.visits; limit = limit };
-      ended = elim s.verdict [ Some v ↦ true | None ↦ false ];
-      verdict = elim s.verdict [ Some v ↦ verdict_number v | None ↦ 0 ];
+      verdict = s.verdict;
     }
 
 -- what every state has that is reached from the first
@@ -54,18 +50,9 @@ Turns book run s r =
 -- refusals 1 to 7, or the steps of the run
 unfoldable pub opening : Bytes → Bytes → ℕ → ℕ → Result (List Step) LentRefusal
 opening book run limit work = elim (lent_ok work limit) [
-  | true ↦ elim (read_book book) [ Ok n ↦ read_run book run | Err e ↦ Err (of_book e.refusal) ]
-  | false ↦ Err work_area_or_limit
+  | true ↦ elim (read_book book) [ Ok n ↦ read_run book run | Err e ↦ Err (OfBook e.refusal) ]
+  | false ↦ Err WorkAreaOrLimit
 ]
-
-abbrev pub opened_of : {X : Type 0} → Result X LentRefusal → Opened
-opened_of (Ok x) = opened.Ready
-opened_of (Err r) = opened.Refused (lent_number r)
-
--- document 01's number of the refusal
-abbrev pub opened_refusal : Opened → ℕ
-opened_refusal opened.Ready = 0
-opened_refusal (opened.Refused c) = c
 
 -- the work area then: as it was, where it or the limit is refused; else the sorts of the records that were read, and
 -- zeros
@@ -77,7 +64,7 @@ open_work book limit work = elim (lent_ok (length work) limit) [
 
 -- what `open` answers, and what it leaves: every byte of the work area, which is ready for the first step where
 -- nothing is refused
-pub record Opens (book run : Bytes) (limit : ℕ) (work work' : Bytes) (r : Opened) : Type 0 where
-  pub answered : r ≡ opened_of (opening book run limit (length work))
+pub record Opens (book run : Bytes) (limit : ℕ) (work work' : Bytes) (r : Result (Unit {0}) LentRefusal) : Type 0 where
+  pub answered : r ≡ passed (opening book run limit (length work))
   pub left : work' ≡ open_work book limit work
-  pub ready : r ≡ opened.Ready → Ready book work'
+  pub ready : r ≡ Ok tt → Ready book work'

@@ -1,5 +1,7 @@
 -- The rule `poly_simp` with the work area lent: what each function of the code leaves, in terms of the definitions. The
 -- sort of the two sides is given as one number, as `sort_code` gives it.
+use Rattle.index_map.specs.Memory.Answers.{comb_with}
+use Rattle.index_map.specs.Memory.Answers.{Has}
 use Rattle.std.specs.Prelude.{◌≡◌, cond, List, [], ◌∷◌, ℕ, ◌+◌, ◌-◌, ◌≤◌, ◌<◌, ◌^◌, ltb, pos, length, get_or, set}
 use Rattle.numbers.specs.Rational.{Proper, whole, modulo}
 use Rattle.numbers.specs.Bytes.{Bytes}
@@ -7,15 +9,13 @@ use Rattle.terms.specs.Format.{bits_code, bits_sort, max_width, step_at, work_by
 use Rattle.terms.specs.Term.{Term}
 use Rattle.rules.specs.Refusal.{Result, ◌>>=◌, assert}
 use Rattle.std.specs.Prelude.{Ok}
-use Rattle.rules.specs.Refusal.Refusal.{polynomials_not_equal}
+use Rattle.rules.specs.declared.refusal.Refusal.TheVariants.{PolynomialsNotEqual}
 use Rattle.rules.specs.Limits.{Limits}
 use Rattle.index_map.specs.IndexMap.{Map, combination, sub}
 use Rattle.polynomial.specs.Polynomial.{Monomial, Polynomial, monomials, is_nought}
 use Rattle.polynomial_walk.specs.PolynomialTerms.{from_term}
 use Rattle.poly_simp.specs.PolySimp.{modulo_all}
-use Rattle.rules.specs.Memory.Parts.{verdict_of}
-use Rattle.polynomial.specs.Memory.PolynomialArea.{places, Poly, PolyHas, poly_with, StackHas, Stacked}
-use Rattle.rules.specs.declared.verdict.Verdict.{Verdict}
+use Rattle.polynomial.specs.Memory.PolynomialArea.{places, Poly, StackHas, Stacked}
 
 -- ---- numbers with names
 
@@ -43,11 +43,11 @@ reduced_by sort p =
 -- the polynomial of area j, which p stands for, is reduced; r stands for what is left
 abbrev pub ReducedLeft : ℕ → Poly → ℕ → Bytes → Bytes → Poly → Type 0
 ReducedLeft j p sort w w' r =
-    (b : Bytes) (ms : List (Map Monomial)) → Stacked b w ms → j < length ms → PolyHas p (get_or ms j []) →
-    Stacked b w' (set ms j (reduced_by sort (poly_with p (get_or ms j []))).entries)
-    × ((poly_with r (reduced_by sort (poly_with p (get_or ms j []))).entries
-    ≡ reduced_by sort (poly_with p (get_or ms j [])))
-    × PolyHas r (reduced_by sort (poly_with p (get_or ms j []))).entries)
+    (b : Bytes) (ms : List (Map Monomial)) → Stacked b w ms → j < length ms → Has p (get_or ms j []) →
+    Stacked b w' (set ms j (reduced_by sort (comb_with p (get_or ms j []))).entries)
+    × ((comb_with r (reduced_by sort (comb_with p (get_or ms j []))).entries
+    ≡ reduced_by sort (comb_with p (get_or ms j [])))
+    × Has r (reduced_by sort (comb_with p (get_or ms j []))).entries)
 
 -- ---- sub
 
@@ -61,18 +61,18 @@ AtDifference p q w =
 -- both sides are walked, into areas 0 and 1
 abbrev pub BothWalked : Poly → Poly → Bytes → Type 0
 BothWalked p q w =
-    (b : Bytes) × ((u : Map Monomial) × ((v : Map Monomial) × (Stacked b w (u ∷ v ∷ []) × (PolyHas p u × PolyHas q v))))
+    (b : Bytes) × ((u : Map Monomial) × ((v : Map Monomial) × (Stacked b w (u ∷ v ∷ []) × (Has p u × Has q v))))
 
 -- what is left then
 unfoldable pub differs : Limits → ℕ → Polynomial → Polynomial → ℕ → Result ℕ
 differs l sort p q n = do
   d ← sub monomials l (reduced_by sort p) (reduced_by sort q)
-  _ ← assert (is_nought d) polynomials_not_equal
+  _ ← assert (is_nought d) PolynomialsNotEqual
   Ok n
 
 -- the verdict, and an empty stack
-pub record DiffersLeft (b w : Bytes) (r : Verdict) (d : Result ℕ) : Type 0 where
-  pub is : r ≡ verdict_of d
+pub record DiffersLeft (b w : Bytes) (r d : Result ℕ) : Type 0 where
+  pub is : r ≡ d
   pub empty : Stacked b w []
 
 unfoldable pub equal_sides : Limits → ℕ → Term → Term → ℕ → Result ℕ

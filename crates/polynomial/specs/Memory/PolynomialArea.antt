@@ -10,21 +10,16 @@ use Rattle.terms.specs.Term.{Term, record_number}
 use Rattle.terms.specs.Book.{count, tree}
 use Rattle.terms.specs.Readers.{within}
 use Rattle.rules.specs.Refusal.{Result, ◌>>=◌, assert}
-use Rattle.std.specs.Prelude.{Ok}
-use Rattle.rules.specs.Refusal.Refusal.{polynomial_size}
+use Rattle.rules.specs.declared.refusal.Refusal.TheVariants.{PolynomialSize}
 use Rattle.rules.specs.Limits.{Limits, times}
 use Rattle.index_map.specs.Memory.StoredMaps as maps
 use Rattle.index_map.specs.Memory.StoredMaps.{Encoding, All}
 use Rattle.index_map.specs.IndexMap.{Map, combination, insert, add_constant, Walked, walked}
 use Rattle.polynomial.specs.Polynomial.{Monomial, Polynomial, monomials, joined, mul_each, insert_scaled}
-use Rattle.rules.specs.Memory.Parts.{Refuses, blank}
-use Rattle.polynomial.specs.declared.monomials.Inserted.{Inserted}
-use Rattle.polynomial.specs.declared.monomials.Inserted.TheVariants as inserted
-use Rattle.polynomial.specs.declared.polynomial.Polynomial as by_value
-use Rattle.polynomial.specs.declared.polynomial.Combined.{Combined}
-use Rattle.polynomial.specs.declared.polynomial.Combined.TheVariants as combined
-use Rattle.polynomial.specs.declared.polynomial.Walk.{Walk}
-use Rattle.polynomial.specs.declared.polynomial.Walk.TheVariants as walk
+use Rattle.rules.specs.Memory.Parts.{blank}
+use Rattle.index_map.specs.declared.combination.Combination as by_value
+use Rattle.index_map.specs.declared.combination.Walked as walked_by_value
+use Rattle.index_map.specs.Memory.Answers.{AtMost, InsertedIs, CombinedIs, WalkIs}
 
 -- ---- the bytes of a monomial, of an entry, of an area
 
@@ -154,76 +149,37 @@ pub record Stacked (b w : Bytes) (ms : List (Map Monomial)) : Type 0 where
   pub bytes : w ≡ stack_bytes ms (length w)
   pub good : AllGood b ms
 
--- ---- a polynomial by value, with the entries of its area
-
+-- a polynomial by value
 abbrev pub Poly : Type 0
-Poly = by_value.Polynomial
-
-pub record PolyHas (s : Poly) (m : Map Monomial) : Type 0 where
-  pub size : s.len ≡ length m
-  pub proper : Proper s.constant
-
-abbrev pub poly_with : Poly → Map Monomial → Polynomial
-poly_with s m = combination m s.constant
-
--- ---- document 01's number of a refusal; 0 where there is none
-
-abbrev pub inserted_refusal : Inserted → ℕ
-inserted_refusal (inserted.Length n) = 0
-inserted_refusal (inserted.Refused c) = c
-
-abbrev pub combined_refusal : Combined → ℕ
-combined_refusal (combined.Is p) = 0
-combined_refusal (combined.Refused c) = c
-
-abbrev pub walk_refusal : Walk → ℕ
-walk_refusal (walk.Done p v) = 0
-walk_refusal (walk.Refused c) = c
-
--- ---- the answers, case by case; a refusal leaves an empty area
-
-abbrev pub InsertedIs : Inserted → Map Monomial → Result (Map Monomial) → Type 0
-InsertedIs (inserted.Length n) m d = (d ≡ Ok m) × (n ≡ length m)
-InsertedIs (inserted.Refused c) m d = Refuses c d × (m ≡ [])
-
-abbrev pub CombinedIs : Combined → Map Monomial → Result Polynomial → Type 0
-CombinedIs (combined.Is s) m d = (d ≡ Ok (poly_with s m)) × PolyHas s m
-CombinedIs (combined.Refused c) m d = Refuses c d × (m ≡ [])
-
-abbrev pub WalkIs : Walk → Map Monomial → Result (Walked Monomial) → Type 0
-WalkIs (walk.Done s v) m d = (d ≡ Ok (walked (poly_with s m) v)) × PolyHas s m
-WalkIs (walk.Refused c) m d = Refuses c d × (m ≡ [])
+Poly = by_value.Combination
 
 -- ---- promises
 
 -- an area
-pub record Inserts (b w : Bytes) (r : Inserted) (d : Result (Map Monomial)) : Type 0 where
-  pub map : Map Monomial
-  pub held : Held b w map
-  pub is : InsertedIs r map d
+abbrev pub Inserts : Bytes → Bytes → Result ℕ → Result (Map Monomial) → Type 0
+Inserts = maps.Inserts polynomials places Good
 
 -- a stack in which area j is made anew
 pub record InsertsAt
-    (b w : Bytes) (ms : List (Map Monomial)) (j : ℕ) (r : Inserted) (d : Result (Map Monomial)) : Type 0 where
+    (b w : Bytes) (ms : List (Map Monomial)) (j : ℕ) (r : Result ℕ) (d : Result (Map Monomial)) : Type 0 where
   pub map : Map Monomial
   pub held : Stacked b w (set ms j map)
   pub is : InsertedIs r map d
 
 -- a stack of one polynomial
-pub record Combines (b w : Bytes) (r : Combined) (d : Result Polynomial) : Type 0 where
+pub record Combines (b w : Bytes) (r : Result Poly) (d : Result Polynomial) : Type 0 where
   pub map : Map Monomial
   pub held : Stacked b w (map ∷ [])
   pub is : CombinedIs r map d
 
-pub record Walks (b w : Bytes) (r : Walk) (d : Result (Walked Monomial)) : Type 0 where
+pub record Walks (b w : Bytes) (r : Result walked_by_value.Walked) (d : Result (Walked Monomial)) : Type 0 where
   pub map : Map Monomial
   pub held : Stacked b w (map ∷ [])
   pub is : WalkIs r map d
 
 -- no more entries than places
-abbrev pub Few : Inserted → Type 0
-Few (inserted.Length n) = n ≤ places
-Few (inserted.Refused c) = Unit {0}
+abbrev pub Few : Result ℕ → Type 0
+Few = AtMost places
 
 -- ---- single entries of the loops of `mul`
 
@@ -232,7 +188,7 @@ no_entry = ([], blank)
 
 unfoldable pub enter_product : Limits → Monomial → Rational → Monomial × Rational → Map Monomial → Result (Map Monomial)
 enter_product l x c e m = do
-  _ ← assert (within l.atoms (length x + length e.0)) polynomial_size
+  _ ← assert (within l.atoms (length x + length e.0)) PolynomialSize
   v ← times l c e.1
   insert monomials l m (joined x e.0) v
 

@@ -1,5 +1,7 @@
 -- `process_disequality` with the work area lent: what each function of the code answers and leaves, in terms of the
 -- definitions.
+use Rattle.index_map.specs.Memory.Answers.{comb_with}
+use Rattle.index_map.specs.Memory.Answers.{Has}
 use Rattle.std.specs.Prelude.{◌≡◌, List, [], ◌∷◌, ℕ}
 use Rattle.std.specs.Prelude.{Option, Some, None}
 use Rattle.numbers.specs.Rational.{Rational, Proper}
@@ -7,7 +9,6 @@ use Rattle.numbers.specs.Bytes.{Bytes}
 use Rattle.terms.specs.Term.{Term}
 use Rattle.rules.specs.Refusal.{Result, ◌>>=◌}
 use Rattle.std.specs.Prelude.{Ok, Err}
-use Rattle.rules.specs.Refusal.Refusal.{number_range}
 use Rattle.rules.specs.Limits.{Limits}
 use Rattle.index_map.specs.IndexMap.{Map, combination, add}
 use Rattle.linear_comb.specs.LinearComb.{LinearComb, mul}
@@ -15,45 +16,20 @@ use Rattle.index_map.specs.Memory.Entries.{terms, slots, stored, entries_of, Hel
 use Rattle.process_disequality.specs.ProcessDisequality.{strengthened, scalar, weakened, join_operators}
 use Rattle.process_disequality.specs.ProcessDisequality.{argument_of, Progress, progress, inferred}
 use Rattle.disequality.specs.Disequality.{Disequality}
-use Rattle.linear_comb.specs.Memory.WorkArea.{accumulated, left_side, area_of, with_area, OnlyArea, KeptSum}
-use Rattle.linear_comb.specs.Memory.WorkArea.{SumHas, comb_with}
-use Rattle.rules.specs.Memory.Parts.{Refuses}
-use Rattle.index_map.specs.declared.index_map.Coefficient.{Coefficient}
-use Rattle.index_map.specs.declared.index_map.Coefficient.TheVariants.{Of, Missing}
-use Rattle.disequality.specs.declared.disequality.Strengthened.{Strengthened}
-use Rattle.disequality.specs.declared.disequality.Strengthened.TheVariants as stronger
-use Rattle.process_disequality.specs.declared.process_disequality.Inference.{Inference}
-use Rattle.process_disequality.specs.declared.process_disequality.Inference.TheVariants as inference
-use Rattle.process_disequality.specs.declared.process_disequality.Argued.{Argued}
-use Rattle.process_disequality.specs.declared.process_disequality.Argued.TheVariants as argued
-use Rattle.process_disequality.specs.declared.process_disequality.Processed.{Processed}
-use Rattle.process_disequality.specs.declared.process_disequality.Processed.TheVariants as processed
+use Rattle.linear_comb.specs.Memory.WorkArea.{accumulated, left_side, area_of, with_area, OnlyArea, KeptSum, Sum}
 use Rattle.process_disequality.specs.declared.process_disequality.Progress as by_value
 use Rattle.disequality.specs.Memory.DisequalitySteps.{Between}
 
 -- ---- the argument of a literal
 
 -- the numbers that are handed out
-abbrev pub trace_of : Coefficient → List Rational
-trace_of (Of q) = q ∷ []
-trace_of Missing = []
+abbrev pub trace_of : Option Rational → List Rational
+trace_of (Some q) = q ∷ []
+trace_of None = []
 
-abbrev pub given_of : Coefficient → Option Rational
-given_of (Of q) = Some q
-given_of Missing = None
-
-abbrev pub CoefficientProper : Coefficient → Type 0
-CoefficientProper (Of q) = Proper q
-CoefficientProper Missing = Unit {0}
-
--- document 01's number of an inference's refusal; 0 where there is none
-abbrev pub inference_refusal : Inference → ℕ
-inference_refusal (inference.Of q) = 0
-inference_refusal (inference.Refused c) = c
-
-abbrev pub InferredIs : Inference → Result Rational → Type 0
-InferredIs (inference.Of q) d = (d ≡ Ok q) × Proper q
-InferredIs (inference.Refused c) d = Refuses c d
+abbrev pub CoefficientProper : Option Rational → Type 0
+CoefficientProper (Some q) = Proper q
+CoefficientProper None = Unit {0}
 
 -- the argument that is given, or inferred from the sum's entries and the literal's own
 unfoldable pub argument_from : Limits → Map Term → Map Term → Option Rational → Result (Rational × List Rational)
@@ -62,14 +38,9 @@ argument_from l acc own None = do
   a ← inferred l acc own
   Ok (a, a ∷ [])
 
--- document 01's number of an argument's refusal; 0 where there is none
-abbrev pub argued_refusal : Argued → ℕ
-argued_refusal (argued.Is a f) = 0
-argued_refusal (argued.Refused c) = c
-
-abbrev pub ArguedIs : Argued → Result (Rational × List Rational) → Type 0
-ArguedIs (argued.Is a c) d = (d ≡ Ok (a, trace_of c)) × (Proper a × CoefficientProper c)
-ArguedIs (argued.Refused c) d = Refuses c d
+abbrev pub ArguedIs : Result (Rational × Option Rational) → Result (Rational × List Rational) → Type 0
+ArguedIs (Ok (a, f)) d = (d ≡ Ok (a, trace_of f)) × (Proper a × CoefficientProper f)
+ArguedIs (Err r) d = d ≡ Err r
 
 -- ---- one literal
 
@@ -88,15 +59,13 @@ pub record Folding (b w : Bytes) (p : by_value.Progress) : Type 0 where
   pub between : Between b w
   pub acc : KeptSum b (area_of accumulated w) p.acc
 
--- document 01's number of a refusal; 0 where there is none
-abbrev pub processed_refusal : Processed → ℕ
-processed_refusal (processed.Accumulated p f) = 0
-processed_refusal (processed.Refused c) = c
+-- the sum with the literal, and its argument where that was inferred
+abbrev pub Processed : Type 0
+Processed = Result (by_value.Progress × Option Rational)
 
 abbrev pub ProcessedIs : Processed → Map Term → Result Progress → Type 0
-ProcessedIs (processed.Accumulated p c) m d =
-    (d ≡ Ok (progress_with p m (trace_of c))) × (SumHas p.acc m × CoefficientProper c)
-ProcessedIs (processed.Refused c) m d = Refuses c d × (m ≡ [])
+ProcessedIs (Ok (p, f)) m d = (d ≡ Ok (progress_with p m (trace_of f))) × (Has p.acc m × CoefficientProper f)
+ProcessedIs (Err r) m d = (d ≡ Err r) × (m ≡ [])
 
 -- the sum so far is in its area, the areas of the two sides are as they were
 pub record ProcessedLeft (b w w' : Bytes) (r : Processed) (d : Result Progress) : Type 0 where
@@ -112,11 +81,11 @@ scaled_of l o s a = do
   scaled ← mul l t (scalar p a)
   Ok (weakened p a, scaled)
 
-abbrev pub ScaledIs : Strengthened → Map Term → Result (ℕ × LinearComb) → Type 0
-ScaledIs (stronger.Is o s) m d = (d ≡ Ok (o, comb_with s m)) × SumHas s m
-ScaledIs stronger.OutOfRange m d = (d ≡ Err number_range) × (m ≡ [])
+abbrev pub ScaledIs : Result (ℕ × Sum) → Map Term → Result (ℕ × LinearComb) → Type 0
+ScaledIs (Ok (o, s)) m d = (d ≡ Ok (o, comb_with s m)) × Has s m
+ScaledIs (Err r) m d = (d ≡ Err r) × (m ≡ [])
 
-pub record ScaledLeft (b w w' : Bytes) (r : Strengthened) (d : Result (ℕ × LinearComb)) : Type 0 where
+pub record ScaledLeft (b w w' : Bytes) (r : Result (ℕ × Sum)) (d : Result (ℕ × LinearComb)) : Type 0 where
   pub map : Map Term
   pub held : Held b (area_of left_side w') map
   pub only : OnlyArea left_side w w'

@@ -1,6 +1,9 @@
 -- A run in lent bytes. The records of a step lie one behind the other, and so do those with one mark: a step's
 -- premises, literals and arguments are parts of the run, and so is what follows the step.
-use Rattle.std.specs.Prelude.{◌≡◌, Bool, true, false, ◌&&◌, List, ℕ, zero, suc, ◌*◌, ◌-◌, ◌<◌, ltb, length, get_or}
+use Rattle.runs.specs.declared.rule.Rule.{Rule}
+use Rattle.runs.specs.declared.verdict.LentRefusal.{LentRefusal}
+use Rattle.runs.specs.declared.rule.Rule.TheVariants.{Assume}
+use Rattle.std.specs.Prelude.{◌≡◌, Bool, ◌&&◌, List, ℕ, zero, suc, ◌*◌, ◌-◌, ◌<◌, ltb, length, get_or}
 use Rattle.std.specs.Prelude.{take, drop}
 use Rattle.std.specs.Prelude.{Some, None}
 use Rattle.numbers.specs.Bytes.{Bytes, le}
@@ -8,16 +11,13 @@ use Rattle.terms.specs.Term.{sort, same_sort}
 use Rattle.terms.specs.Term.Sort.{bool}
 use Rattle.terms.specs.Book.{count, tree}
 use Rattle.terms.specs.Format.{run_record_bytes}
-use Rattle.std.specs.Prelude.{Result, Ok, Err}
+use Rattle.std.specs.Prelude.{Result, Ok}
+use Rattle.rules.specs.Refusal.{◌>>=◌}
 use Rattle.rules.specs.Memory.Parts.{numbers_in, terms_in}
-use Rattle.runs.specs.Verdict.{LentRefusal, lent_number}
-use Rattle.runs.specs.Rule.{Rule, rule_of}
-use Rattle.runs.specs.Rule.Rule.{assume}
+use Rattle.runs.specs.Rule.{rule_of}
 use Rattle.runs.specs.Run.{Step, step, Rec, rec, P, C, A, recs, leading, all_right, read_step}
 use Rattle.runs.specs.Run.{read_run}
 use Rattle.runs.specs.declared.run.StepParts.{StepParts}
-use Rattle.runs.specs.declared.run.RunRead.{RunRead}
-use Rattle.runs.specs.declared.run.RunRead.TheVariants as run_read
 
 -- the records in front that have a mark, and what follows them
 unfoldable pub leading_in : ℕ → Bytes → Bytes
@@ -71,7 +71,7 @@ parts_ok book n part =
 
 -- its rule
 unfoldable pub rule_in : Bytes → Rule
-rule_in part = elim (rule_of (head_in part).byte) [ Some r ↦ r | None ↦ assume ]
+rule_in part = elim (rule_of (head_in part).byte) [ Some r ↦ r | None ↦ Assume ]
 
 -- the step, once it was read
 unfoldable pub step_in : Bytes → Bytes → Step
@@ -80,15 +80,9 @@ step_in book part =
 
 -- ---- of a whole run
 
--- what reading it answers
-abbrev pub run_read_of : {X : Type 0} → Result X LentRefusal → RunRead
-run_read_of (Ok x) = run_read.Steps
-run_read_of (Err r) = run_read.Refused (lent_number r)
-
--- document 01's number of the refusal
-abbrev pub run_refusal : RunRead → ℕ
-run_refusal run_read.Steps = 0
-run_refusal (run_read.Refused c) = c
+-- whether it is refused
+abbrev pub passed : {X : Type 0} → Result X LentRefusal → Result (Unit {0}) LentRefusal
+passed r = r >>= λ x. Ok tt
 
 -- from step k on
 unfoldable pub step_from : ℕ → Bytes → Bytes

@@ -7,12 +7,9 @@ use lib.ListN.{length}
 use Rattle.numbers.specs.Bytes.{Bytes}
 use Rattle.again.specs.Again.{second, joined_book}
 use Rattle.again.proofs.JoinedBook.{end-room, end_none, area-holds}
-use Rattle.again.proofs.SecondAnswers.{Calls, marked-agreed, marked_none}
+use Rattle.again.proofs.SecondAnswers.{Calls, marked_both}
 use Rattle.again.proofs.again.mark_again.Goals as goal
-use Rattle.again.proofs.again.mark_again.Goals.{then-fits, else-fits}
-use Rattle.again.proofs.again.mark_again.Lts as lts
-use Rattle.again.proofs.again.mark_again.Reads as reads
-use Rattle.again.proofs.again.mark_again.Tie as tie
+use Rattle.again.proofs.again.mark_again.Goals.{After-agree-agreed, then-fits, else-fits}
 
 -- where the joined book ends
 end_is :
@@ -33,7 +30,7 @@ slice_bounds-elaborate-end c =
     c.join-fits.ensures.joined_after
 
 calls :
-    (c : (lts.After-agree tie.the-claims reads.Pre reads.Post tie.handed_clauses)) →
+    (c : After-agree-agreed) →
     let a = c.args in
     let left = c.elaborate-again.new in
     Calls a.book.now a.limit a.work.now a.outrun.now a.outtail.now a.first
@@ -66,9 +63,11 @@ calls c = record {
 pub returns-then-fits-2 : goal.returns-then-fits-2
 unfolding calls
 returns-then-fits-2 c m book work first run tail =
-    marked-agreed (calls c.before.before) m book work first run tail c.if-fits-2.true
+    marked_both (calls (goal.at.returns-then-fits-2 c).After-agree-agreed) m book work first run tail
+    (rw c.if-fits-2.true)
 
 pub returns-else-fits-2 : goal.returns-else-fits-2
 unfolding calls
 returns-else-fits-2 c m book work first run tail =
-    marked_none (calls c.before.before) m book work first run tail c.if-fits-2.false
+    marked_both (calls (goal.at.returns-else-fits-2 c).After-agree-agreed) m book work first run tail
+    (rw c.if-fits-2.false)

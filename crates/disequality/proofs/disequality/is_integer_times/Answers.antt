@@ -1,21 +1,24 @@
 -- By the definition's two tests, and before them by whether both numbers are whole.
+use native.Mathlib.Omega.{arith}
+use mathlib.Core.Path.{sym}
 use borrow.Author.Rules.{rules}
-use Rattle.disequality.proofs.StrengthenAnswers.{times_zero, times-wholes, times_one_lem, times-other}
+use Rattle.std.proofs.lemmas.Grind.{common_steps}
+use Rattle.numbers.specs.Choice.{when◌then◌else◌}
+use Rattle.disequality.specs.Disequality.{is_integer_times}
+use Rattle.disequality.proofs.WholeProducts.{times-whole}
 use Rattle.disequality.proofs.disequality.is_integer_times.Goals as goal
 
 pub returns-then-is_zero : goal.returns-then-is_zero
-returns-then-is_zero c = times_zero _ _ c.is_zero.ensures (search rules)
+unfolding is_integer_times when◌then◌else◌
+returns-then-is_zero c = grind (arith, common_steps)
 
 pub returns-then-is_integer-2 : goal.returns-then-is_integer-2
-returns-then-is_integer-2 c =
-    times-wholes _ _ c.is_integer.ensures (search rules) c.is_integer-then-is_integer.ensures (search rules)
+returns-then-is_integer-2 c = sym (times-whole _ _ (search rules) (search rules))
 
 pub returns-then-eq : goal.returns-then-eq
-returns-then-eq c =
-    times_one_lem _ _ c.is_zero.ensures (search rules)
-    c.whole.ensures c.eq.ensures (search rules) c.is_integer-then-eq.ensures
+unfolding is_integer_times when◌then◌else◌
+returns-then-eq c = grind (arith, common_steps)
 
 pub returns : goal.returns
-returns c =
-    times-other _ _ c.is_zero.ensures (search rules)
-    c.whole.ensures c.eq.ensures (search rules) c.is_integer_product.ensures
+unfolding is_integer_times when◌then◌else◌
+returns c = grind (arith, common_steps)

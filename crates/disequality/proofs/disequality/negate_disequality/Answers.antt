@@ -1,72 +1,50 @@
 -- `negate_disequality` fills the area of the left side and then that of the right; where the right side is refused, the
 -- first is emptied again.
-use mathlib.Core.Path.{◌∙◌, ap}
+use mathlib.Core.Path.{◌∙◌}
 use native.Mathlib.Omega.{arith}
-use Rattle.linear_walk.specs.Memory.Walks.{walk_refusal}
-use Rattle.disequality.specs.Memory.DisequalitySteps.{relation_refusal}
+use Rattle.rules.proofs.Results.{handed_on}
 use Rattle.index_map.proofs.StoredEntries.{kept_small}
 use Rattle.linear_comb.proofs.Areas.{empty-held}
-use Rattle.linear_comb.proofs.AreaSteps.{answer-kept}
+use Rattle.linear_comb.proofs.AreaSteps.{kept-sum}
 use Rattle.disequality.proofs.SidesAreas.{in_both, between-both, right-empty, no_relation, left-refused}
 use Rattle.disequality.proofs.SidesAreas.{right-refused, both-sides}
 use Rattle.disequality.proofs.disequality.negate_disequality.Goals as goal
 
-pub from_term-first-requires : goal.from_term-first-requires
-from_term-first-requires c =
-    let between = c.requires.0 in
-    let found = rw c.in-Is.is at c.relation_of-relation.ensures in
-    ((between-both between).first, (between.laid, (found.1.0, empty-held between.left)))
+pub returns-in_err-operator : goal.returns-in_err-operator
+returns-in_err-operator c =
+    rw (handed_on c.from_residual.ensures.1) (no_relation c.requires.0 _ _ _ c.in_err-operator.ensures)
 
-pub right_side-second-requires : goal.right_side-second-requires
-right_side-second-requires c =
+pub from_term-requires : goal.from_term-requires
+from_term-requires c =
     let between = c.requires.0 in
-    let found = rw c.in-Is.is at c.relation_of-relation.ensures in
-    let m = c.from_term-first in (
+    ((between-both between).first, (between.laid, (c.in_ok-operator.ensures.1.0, empty-held between.left)))
+
+pub returns-in_err-left : goal.returns-in_err-left
+returns-in_err-left c =
+    rw (handed_on c.from_residual-in_err-left.ensures.1)
+    (left-refused c.requires.0 _ _ _ c.in_ok-operator.ensures c.from_term.ensures.only_area c.in_err-left.ensures.walks)
+
+pub right_side-requires : goal.right_side-requires
+right_side-requires c =
+    let between = c.requires.0 in
+    let m = c.from_term in (
       (in_both (m.auto.work ∙ between.size)).second,
-      (between.laid, (found.1.1, right-empty between m.ensures.only_area)),
+      (between.laid, (c.in_ok-operator.ensures.1.1, right-empty between m.ensures.only_area)),
     )
 
 pub clear_in-requires : goal.clear_in-requires
 clear_in-requires c =
-    let m = c.from_term-first in
-    let left = rw c.in-Done.is at m.ensures.walks in
-    let few = kept_small (answer-kept left.held left.is.1).kept in
+    let left = c.in_ok-left.ensures.walks in
+    let few = kept_small (kept-sum left.held left.is.1).kept in
     let size = c.requires.0.size in
-    ((in_both (c.right_side-second.auto.work ∙ m.auto.work ∙ size)).first, omega arith)
+    ((in_both (c.right_side.auto.work ∙ c.from_term.auto.work ∙ size)).first, omega arith)
 
-pub returns-in_default : goal.returns-in_default
-returns-in_default c =
-    let told = c.in_default.is in
-    rw (c.relation_refusal.ensures ∙ ap relation_refusal told)
-    (no_relation c.requires.0 _ _ _ (rw told at c.relation_of-relation.ensures))
+pub returns-in-Ok : goal.returns-in-Ok
+returns-in-Ok c =
+    both-sides c.requires.0 _ _ _ c.in_ok-operator.ensures c.from_term.ensures.only_area c.in_ok-left.ensures.walks
+    c.right_side.ensures.only_area c.in-Ok.ensures.walks
 
-pub returns-in_default-first : goal.returns-in_default-first
-returns-in_default-first c =
-    let between = c.requires.0 in
-    let found = rw c.in-Is.is at c.relation_of-relation.ensures in
-    let m = c.from_term-first in
-    let told = c.in_default-first.is in
-    rw (c.walk_refusal.ensures ∙ ap walk_refusal told)
-    (left-refused between _ _ _ found m.ensures.only_area (rw told at m.ensures.walks))
-
-pub returns-in_default-second : goal.returns-in_default-second
-returns-in_default-second c =
-    let between = c.requires.0 in
-    let found = rw c.in-Is.is at c.relation_of-relation.ensures in
-    let m = c.from_term-first in
-    let left = rw c.in-Done.is at m.ensures.walks in
-    let n = c.right_side-second in
-    let told = c.in_default-second.is in
-    rw (c.walk_refusal-in_default-second.ensures ∙ ap walk_refusal told)
-    (right-refused between _ _ _ found m.ensures.only_area left n.ensures.only_area (rw told at n.ensures.walks)
-    c.clear_in.ensures)
-
-pub returns : goal.returns
-returns c =
-    let between = c.requires.0 in
-    let found = rw c.in-Is.is at c.relation_of-relation.ensures in
-    let m = c.from_term-first in
-    let left = rw c.in-Done.is at m.ensures.walks in
-    let n = c.right_side-second in
-    both-sides between _ _ _ found m.ensures.only_area left n.ensures.only_area
-    (rw c.in-Done-second.is at n.ensures.walks)
+pub returns-in-Err : goal.returns-in-Err
+returns-in-Err c =
+    right-refused c.requires.0 _ _ _ c.in_ok-operator.ensures c.from_term.ensures.only_area c.in_ok-left.ensures.walks
+    c.right_side.ensures.only_area c.in-Err.ensures.walks c.clear_in.ensures

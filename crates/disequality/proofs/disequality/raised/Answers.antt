@@ -1,20 +1,21 @@
--- `Number::add` answers the sum or leaves the range.
-use mathlib.Core.Path.{◌≡◌, ◌∙◌, ap}
-use lib.IntN.{ℤ}
-use mir.Syntax.{w64}
-use mir.Val.{SFits, to_z, of_z}
+-- The sum leaves the range or is the constant.
+use mathlib.Core.Path.{refl, sym, ◌∙◌}
 use mir.Facts.{to_z-of_z}
-use Rattle.numbers.specs.Rational.{Rational, whole}
-use Rattle.disequality.proofs.StrengthenAnswers.{raised-outside, raised-value}
+use Rattle.rules.proofs.Results.{handed_on, stops, goes_on}
+use Rattle.disequality.specs.Disequality.{raised}
+use Rattle.index_map.proofs.CheckedNumbers.{sum-asked}
 use Rattle.disequality.proofs.disequality.raised.Goals as goal
 
-step_is : {one : Rational} {step : ℤ} → SFits w64 step → one ≡ whole (to_z w64 (of_z w64 step)) → one ≡ whole step
-step_is fits e = e ∙ ap whole (to_z-of_z fits)
-
-pub returns-in_default : goal.returns-in_default
-returns-in_default c m size l =
-    raised-outside _ _ (step_is c.ranges.step c.whole.ensures) c.add.ensures m l c.in_default.is
+pub returns-in_err-constant : goal.returns-in_err-constant
+unfolding raised
+returns-in_err-constant c m size l =
+    let made = rw (c.whole.ensures, to_z-of_z c.ranges.step) at c.add.ensures.is in
+    rw (handed_on c.from_residual.ensures.1) (sym (stops _ (c.in_err-constant.ensures.value ∙ sum-asked l _ _ made)))
 
 pub returns : goal.returns
+unfolding raised
 returns c m size l =
-    raised-value _ _ (step_is c.ranges.step c.whole.ensures) c.add.ensures m l c.in-Some.is size
+    let made = rw (c.whole.ensures, to_z-of_z c.ranges.step) at c.add.ensures.is in (
+      sym (goes_on _ (c.in_ok-constant.ensures.value ∙ sum-asked l _ _ made) refl),
+      record { size = size; proper = c.add.ensures.proper _ c.in_ok-constant.ensures.ok_part },
+    )

@@ -10,6 +10,6 @@ pub returns-in-Ok : goal.returns-in-Ok
 returns-in-Ok c =
     let number = sym c.as_number.ensures.is ∙ c.in-Ok.is in record {
       only_area = only_none c.requires.0;
-      walks = rw (constant-walk _ number c.args.limit c.args.visits (search rules))
+      walks = rw (constant-walk _ number c.args.counter.limit c.args.counter.visits (search rules))
           (c.constant_side.ensures _ _ c.requires.1.1.1 _);
     }

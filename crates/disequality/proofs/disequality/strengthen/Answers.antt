@@ -1,34 +1,57 @@
--- By the operator, and by whether the constant times the argument is whole.
-use mathlib.Core.Path.{◌∙◌}
+-- By the operator, and by whether the constant times the argument is whole: the entries are read from their bytes.
+use mathlib.Core.Path.{◌≡◌, sym, ◌∙◌}
+use native.Mathlib.Omega.{arith}
 use mir.Syntax.{w64}
+use mir.Val.{to_z, of_z}
 use mir.Facts.{to_z-of_z}
+use lib.IntN.{pos}
 use borrow.Author.Rules.{rules}
-use Rattle.disequality.proofs.StrengthenAnswers.{whole-greater, other-greater, whole-greater-eq}
-use Rattle.disequality.proofs.StrengthenAnswers.{other-greater-eq, unchanged}
+use Rattle.std.proofs.lemmas.Grind.{common_steps}
+use Rattle.rules.specs.Limits.{limited}
+use Rattle.index_map.specs.IndexMap.{combination}
+use Rattle.linear_comb.specs.LinearComb.{coefficients_gcd}
+use Rattle.linear_comb.specs.Memory.WorkArea.{comb_of}
+use Rattle.disequality.specs.Disequality.{raised, strengthen}
+use Rattle.index_map.proofs.StoredEntries.{kept-entries}
 use Rattle.disequality.proofs.disequality.strengthen.Goals as goal
 
 pub returns-then-whole : goal.returns-then-whole
+unfolding strengthen
 returns-then-whole c b k l =
-    whole-greater _ c.args.o _ _ c.is_integer_times-whole.ensures k l c.floor-floor.ensures
-    c.raised.result (search rules) (search rules) _
-    (to_z-of_z {w = w64} (search rules) ∙ c.coefficients_gcd.ensures.value b k) c.raised.ensures
+    let is :
+    strengthen (limited l) c.args.o (comb_of b c.args.entries.now c.args.s) c.args.a
+    ≡ raised (limited l) (combination k.map c.floor-floor.result)
+    (coefficients_gcd (combination k.map c.floor-floor.result)) =
+    grind (arith, common_steps, kept-entries k, c.floor-floor.ensures.is) in
+    let step :
+    to_z w64 (of_z w64 c.coefficients_gcd.result) ≡ coefficients_gcd (combination k.map c.floor-floor.result) =
+    to_z-of_z {w = w64} (search rules) ∙ c.coefficients_gcd.ensures.value b k ∙ rw (kept-entries k) in
+    rw (is, sym step) (c.raised.ensures k.map k.size l)
 
 pub returns-else-whole : goal.returns-else-whole
+unfolding strengthen
 returns-else-whole c b k l =
-    other-greater _ c.args.o _ _ c.is_integer_times-whole.ensures k l c.floor-floor.ensures
-    c.raised-else-whole.result (search rules) (search rules) c.raised-else-whole.ensures
+    let is :
+    strengthen (limited l) c.args.o (comb_of b c.args.entries.now c.args.s) c.args.a
+    ≡ raised (limited l) (combination k.map c.floor-floor.result) (pos 1) =
+    grind (arith, common_steps, kept-entries k, c.floor-floor.ensures.is) in
+    rw is (c.raised-else-whole.ensures k.map k.size l)
 
 pub returns-then-whole-2 : goal.returns-then-whole-2
+unfolding strengthen
 returns-then-whole-2 c b k l =
-    whole-greater-eq _ _ _ _ c.is_integer_times-whole.ensures k l c.requires.1.0 (search rules)
-    (search rules)
+    (grind (arith, common_steps, kept-entries k), record { size = k.size; proper = c.requires.1.0 })
 
 pub returns-else-whole-2 : goal.returns-else-whole-2
+unfolding strengthen
 returns-else-whole-2 c b k l =
-    other-greater-eq _ c.args.o _ _ c.is_integer_times-whole.ensures k l c.floor-floor.ensures
-    c.raised-else-whole-2.result (search rules) (search rules) c.raised-else-whole-2.ensures
+    let is :
+    strengthen (limited l) c.args.o (comb_of b c.args.entries.now c.args.s) c.args.a
+    ≡ raised (limited l) (combination k.map c.floor-floor.result) (pos 1) =
+    grind (arith, common_steps, kept-entries k, c.floor-floor.ensures.is) in
+    rw is (c.raised-else-whole-2.ensures k.map k.size l)
 
 pub returns-in_default : goal.returns-in_default
+unfolding strengthen
 returns-in_default c b k l =
-    unchanged _ _ _ _ c.is_integer_times-whole.ensures k l c.requires.1.0 (λ e. search rules)
-    (λ e. search rules)
+    (grind (arith, common_steps, kept-entries k), record { size = k.size; proper = c.requires.1.0 })

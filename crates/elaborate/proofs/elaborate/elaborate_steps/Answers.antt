@@ -1,4 +1,4 @@
-use mathlib.Core.Path.{ap}
+use mathlib.Core.Path.{sym, ap}
 use lib.ListN.{length}
 use Rattle.marking.proofs.CheckLoops.{shows_underway}
 use Rattle.elaborate.proofs.ElaborateLoops.{going_begin, going_turn, going_less, going_end}
@@ -7,18 +7,18 @@ use Rattle.elaborate.proofs.elaborate.elaborate_steps.Goals as goal
 pub loop-e-init : goal.loop-e-init
 loop-e-init c = going_begin _ c.requires.0 c.requires.1 c.start.ensures c.nothing.ensures
 
-pub shape_of-work-then-e : goal.shape_of-work-then-e
-shape_of-work-then-e c = ap (λ w. length w) c.loop-e.invariant.same
+pub shape_of-work-then-is_some : goal.shape_of-work-then-is_some
+shape_of-work-then-is_some c = ap (λ w. length w) c.loop-e.invariant.same
 
-pub shape_of-outrun-then-e : goal.shape_of-outrun-then-e
-shape_of-outrun-then-e c = c.loop-e.invariant.run_length
+pub shape_of-outrun-then-is_some : goal.shape_of-outrun-then-is_some
+shape_of-outrun-then-is_some c = c.loop-e.invariant.run_length
 
-pub shape_of-outtail-then-e : goal.shape_of-outtail-then-e
-shape_of-outtail-then-e c = c.loop-e.invariant.tail_length
+pub shape_of-outtail-then-is_some : goal.shape_of-outtail-then-is_some
+shape_of-outtail-then-is_some c = c.loop-e.invariant.tail_length
 
-pub returns-then-e : goal.returns-then-e
-returns-then-e c = record {
-  elaborates = going_end c.loop-e.invariant c.if-e.true;
+pub returns-then-is_some : goal.returns-then-is_some
+returns-then-is_some c = record {
+  elaborates = going_end c.loop-e.invariant (sym c.if-is_some.ensures);
   work_unchanged = c.loop-e.invariant.same;
 }
 
@@ -30,7 +30,7 @@ turn-e-requires c =
     }
 
 pub loop-e-smaller : goal.loop-e-smaller
-loop-e-smaller c = going_less c.loop-e.invariant c.turn-e.ensures.turns_written c.if-e.false
+loop-e-smaller c = going_less c.loop-e.invariant c.turn-e.ensures.turns_written (sym c.if-is_some.ensures)
 
 pub loop-e-preserved : goal.loop-e-preserved
 loop-e-preserved c =

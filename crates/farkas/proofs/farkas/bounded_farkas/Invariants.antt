@@ -8,8 +8,8 @@ use Rattle.farkas.proofs.farkas.bounded_farkas.Given as goal
 abbrev pub invariant-loop-q : goal.invariant-loop-q
 invariant-loop-q l =
     TracedSoFar
-    (record { book = l.book; literals = l.literals; args = l.args; limit = l.limit; work = l.initial.work })
-    l.visits l.initial.outrun l.initial.outtail l.initial.written l.work l.p l.done l.outrun l.outtail l.written
+    (record { book = l.book; literals = l.literals; args = l.args; limit = l.counter.limit; work = l.initial.work })
+    l.counter.visits l.initial.outrun l.initial.outtail l.initial.written l.work l.p l.done l.outrun l.outtail l.written
 
 abbrev pub decreases-loop-q : goal.decreases-loop-q
 decreases-loop-q l = length l.literals / 4 - l.done

@@ -1,10 +1,10 @@
 -- The place that `find` gives is that of the entry with the key, if there is one.
+use native.Mathlib.Omega.{arith}
 use Rattle.index_map.proofs.AreaEntry.{coefficient, no_coefficient}
 use Rattle.index_map.proofs.index_map.get.Goals as goal
 
-pub returns-then-k-n : goal.returns-then-k-n
-returns-then-k-n c =
-    coefficient _ _ _ _ c.find-k.ensures c.if-k-n.true c.value_at.ensures
-
 pub returns : goal.returns
-returns c = no_coefficient _ _ _ _ c.find-k.ensures c.if-k-n.false
+returns c = coefficient _ _ _ _ c.in_ok-k.ensures.1 c.in_ok-k.ensures.0 c.value_at.ensures
+
+pub returns-in_err-k : goal.returns-in_err-k
+returns-in_err-k c = rw c.from_residual.ensures (no_coefficient _ _ _ _ c.in_err-k.ensures (omega arith))

@@ -1,4 +1,6 @@
 -- As many arguments as literals; then it is `la_generic_partial`.
+use mathlib.Core.Path.{◌∙◌, ap}
+use Rattle.linear_arithmetic.specs.Memory.LinearSteps.{visits_of}
 use Rattle.linear_arithmetic.proofs.PartialEnd.{generic_unequal, generic_equal}
 use Rattle.linear_arithmetic.proofs.linear_arithmetic.la_generic.Goals as goal
 
@@ -6,4 +8,5 @@ pub returns-then-args-literals-clause-value : goal.returns-then-args-literals-cl
 returns-then-args-literals-clause-value c = generic_unequal _ _ _ _ _ c.if-args-literals.true
 
 pub returns-clause-value : goal.returns-clause-value
-returns-clause-value c = generic_equal _ _ _ _ _ c.if-args-literals.false _ c.la_generic_partial.ensures.value
+returns-clause-value c =
+    c.la_generic_partial.ensures.value ∙ ap visits_of (generic_equal _ _ _ _ _ c.if-args-literals.false)

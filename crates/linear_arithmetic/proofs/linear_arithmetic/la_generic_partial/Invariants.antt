@@ -12,8 +12,8 @@ abbrev pub invariant-loop-q : goal.invariant-loop-q
 invariant-loop-q l =
     (t : List Rational)
     × PartSoFar
-    (record { book = l.book; literals = l.literals; args = l.args; limit = l.limit; work = l.initial.work })
-    l.visits t l.work l.p l.done
+    (record { book = l.book; literals = l.literals; args = l.args; limit = l.counter.limit; work = l.initial.work })
+    l.counter.visits t l.work l.p l.done
 
 abbrev pub decreases-loop-q : goal.decreases-loop-q
 decreases-loop-q l = length l.literals / 4 - l.done

@@ -1,46 +1,41 @@
 -- The forms are tried in turn: where one is not found, the next is.
-use Rattle.rules.proofs.ShapeSteps.{bounds-are, no_bounds}
-use Rattle.linear_shapes.proofs.LinearShapeSteps.{first_case, second_case, third_case, fourth_case}
-use Rattle.linear_shapes.proofs.LinearShapeSteps.{fifth_case, no_case}
+use borrow.Author.Rules.{rules}
+use Rattle.terms.specs.Term.{Term}
+use Rattle.rules.specs.Shapes.{assert_eq}
+use Rattle.linear_shapes.specs.LinearShapes.{tautology_case, assert_less_than, assert_less_eq}
 use Rattle.linear_shapes.proofs.linear_shapes.tautology_case.Goals as goal
 
-pub returns-in-Are : goal.returns-in-Are
-returns-in-Are c =
-    first_case _ _ (bounds-are _ _ c.first_negated.ensures c.in-Are.is) c.bounds_less_eq.ensures
+pub returns-in-Some : goal.returns-in-Some
+unfolding tautology_case
+returns-in-Some c =
+    let found = c.bounds_case.ensures c.args.book.now assert_less_eq (λ r h. search rules) in
+    search rules
 
-pub returns-in-Are-second_negated : goal.returns-in-Are-second_negated
-returns-in-Are-second_negated c =
-    second_case _ _ (no_bounds _ _ c.first_negated.ensures c.in_default.is)
-    (bounds-are _ _ c.second_negated.ensures c.in-Are-second_negated.is) (c.bounds_eq.ensures _)
+pub returns-in-Some-second_negated : goal.returns-in-Some-second_negated
+unfolding tautology_case
+returns-in-Some-second_negated c =
+    let found = c.bounds_case-in-Some-second_negated.ensures c.args.book.now assert_eq (λ r h. search rules) in
+    search rules
 
-pub returns-in-Are-first_negated : goal.returns-in-Are-first_negated
-returns-in-Are-first_negated c =
-    third_case _ _ (no_bounds _ _ c.first_negated.ensures c.in_default.is)
-    (no_bounds _ _ c.second_negated.ensures c.in_default-second_negated.is)
-    (bounds-are _ _ c.first_negated-2.ensures c.in-Are-first_negated.is)
-    c.bounds_less_eq-in-Are-first_negated.ensures
+pub returns-in-Some-first_negated : goal.returns-in-Some-first_negated
+unfolding tautology_case
+returns-in-Some-first_negated c =
+    let at_most = λ (d1 d2 : Term). assert_less_eq d2 d1 in
+    let found = c.bounds_case-in-Some-first_negated.ensures c.args.book.now at_most (λ r h. search rules) in
+    search rules
 
-pub returns-in-Are-second_negated-2 : goal.returns-in-Are-second_negated-2
-returns-in-Are-second_negated-2 c =
-    fourth_case _ _ (no_bounds _ _ c.first_negated.ensures c.in_default.is)
-    (no_bounds _ _ c.second_negated.ensures c.in_default-second_negated.is)
-    (no_bounds _ _ c.first_negated-2.ensures c.in_default-first_negated.is)
-    (bounds-are _ _ c.second_negated-2.ensures c.in-Are-second_negated-2.is)
-    (c.bounds_eq-in-Are-second_negated-2.ensures _)
+pub returns-in-Some-second_negated-2 : goal.returns-in-Some-second_negated-2
+unfolding tautology_case
+returns-in-Some-second_negated-2 c =
+    let found = c.bounds_case-in-Some-second_negated-2.ensures c.args.book.now assert_eq (λ r h. search rules) in
+    search rules
 
-pub returns-in-Are-both_negated : goal.returns-in-Are-both_negated
-returns-in-Are-both_negated c =
-    fifth_case _ _ (no_bounds _ _ c.first_negated.ensures c.in_default.is)
-    (no_bounds _ _ c.second_negated.ensures c.in_default-second_negated.is)
-    (no_bounds _ _ c.first_negated-2.ensures c.in_default-first_negated.is)
-    (no_bounds _ _ c.second_negated-2.ensures c.in_default-second_negated-2.is)
-    (bounds-are _ _ c.both_negated.ensures c.in-Are-both_negated.is)
-    c.bounds_less_than.ensures
+pub returns-in-Some-both_negated : goal.returns-in-Some-both_negated
+unfolding tautology_case
+returns-in-Some-both_negated c =
+    let found = c.bounds_case-in-Some-both_negated.ensures c.args.book.now assert_less_than (λ r h. search rules) in
+    search rules
 
 pub returns : goal.returns
-returns c =
-    no_case _ _ (no_bounds _ _ c.first_negated.ensures c.in_default.is)
-    (no_bounds _ _ c.second_negated.ensures c.in_default-second_negated.is)
-    (no_bounds _ _ c.first_negated-2.ensures c.in_default-first_negated.is)
-    (no_bounds _ _ c.second_negated-2.ensures c.in_default-second_negated-2.is)
-    (no_bounds _ _ c.both_negated.ensures c.in_default-both_negated.is)
+unfolding tautology_case
+returns c = search rules

@@ -6,32 +6,37 @@ use Rattle.linear_walk.proofs.linear_walk.add_term.Goals as goal
 
 pub add_args-requires : goal.add_args-requires
 add_args-requires c =
-    operation-args (operation_pre c.requires c.descend.ensures c.in-Args.is) _ c.args-part.ensures.terms
+    let leads = rw c.in-Ok-Args-default.field-0-0-is at c.in-Ok-Args-default.ensures in
+    operation-args (operation_pre c.requires leads) _ c.args-part.ensures.terms
 
 pub add_constant-requires : goal.add_constant-requires
-add_constant-requires c = constant_pre c.requires c.descend.ensures c.in-Constant.is
+add_constant-requires c =
+    let leads = rw c.in-Ok-Constant-default.field-0-0-is at c.in-Ok-Constant-default.ensures in
+    constant_pre c.requires leads
 
 pub add_entry-requires : goal.add_entry-requires
-add_entry-requires c = (enter_pre c.requires c.descend.ensures c.in-Atom.is, c.requires.sum.proper)
+add_entry-requires c =
+    let leads = rw c.in-Ok-Atom-default.field-0-0-is at c.in-Ok-Atom-default.ensures in
+    (enter_pre c.requires leads, c.requires.sum.proper)
 
-pub returns-in-Args : goal.returns-in-Args
-returns-in-Args c =
-    at_operation c.requires c.descend.ensures c.in-Args.is (rw c.args-part.ensures.terms at c.add_args.ensures)
+pub returns-in-Ok-Args-default : goal.returns-in-Ok-Args-default
+returns-in-Ok-Args-default c =
+    let leads = rw c.in-Ok-Args-default.field-0-0-is at c.in-Ok-Args-default.ensures in
+    at_operation c.requires leads (rw c.args-part.ensures.terms at c.add_args.ensures)
 
-pub returns-in-Constant : goal.returns-in-Constant
-returns-in-Constant c =
-    at_constant c.requires c.descend.ensures c.in-Constant.is (c.add_constant.ensures _ c.requires.sum _)
+pub returns-in-Ok-Constant-default : goal.returns-in-Ok-Constant-default
+returns-in-Ok-Constant-default c =
+    let leads = rw c.in-Ok-Constant-default.field-0-0-is at c.in-Ok-Constant-default.ensures in
+    at_constant c.requires leads (c.add_constant.ensures _ c.requires.sum _)
 
-pub returns-in-Atom : goal.returns-in-Atom
-returns-in-Atom c =
+pub returns-in-Ok-Atom-default : goal.returns-in-Ok-Atom-default
+returns-in-Ok-Atom-default c =
     let pre = c.requires in
-    let leads = c.descend.ensures in
-    let atom = c.in-Atom.is in
-    at_note pre leads atom (c.add_entry.ensures.walks _ pre.sum (atom-inside pre leads atom) _)
-    c.add_entry.ensures.noted_after
+    let leads = rw c.in-Ok-Atom-default.field-0-0-is at c.in-Ok-Atom-default.ensures in
+    at_note pre leads (c.add_entry.ensures.walks _ pre.sum (atom-inside pre leads) _) c.add_entry.ensures.noted_after
 
-pub returns-in-Refused : goal.returns-in-Refused
-returns-in-Refused c = at_refusal c.requires c.descend.ensures c.in-Refused.is (search rules)
+pub returns-in-Err : goal.returns-in-Err
+returns-in-Err c = at_refusal c.requires c.in-Err.ensures (search rules)
 
 pub clear-requires : goal.clear-requires
 clear-requires c = sum-small c.requires

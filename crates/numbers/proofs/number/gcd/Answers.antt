@@ -1,6 +1,5 @@
-use mathlib.Core.Path.{refl, sym, ◌∙◌, ap}
+use mathlib.Core.Path.{sym, ◌∙◌, ap}
 use Prim.Native.Nat.{◌<◌}
-use native.Mathlib.Nat.{mod-lt}
 use native.Mathlib.Omega.{arith}
 use Rattle.numbers.specs.Rational.{gcd}
 use Rattle.numbers.proofs.Divisors.{gcd-zero, gcd-step}
@@ -16,12 +15,3 @@ pub returns : goal.returns
 returns c =
     let l = c.loop-y in
     sym (gcd-zero l.x) ∙ ap (gcd l.x) (sym c.if-y-eq0.true) ∙ l.invariant
-
-pub loop-y-init : goal.loop-y-init
-loop-y-init c = refl
-
-pub nonzero_rem-rest : goal.nonzero_rem-rest
-nonzero_rem-rest c = nonzero c
-
-pub loop-y-smaller : goal.loop-y-smaller
-loop-y-smaller c = mod-lt c.loop-y.x (nonzero c)

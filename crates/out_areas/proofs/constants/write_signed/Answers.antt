@@ -1,17 +1,13 @@
--- The high four bytes of a number in range are its sign (RealBytes).
-use mathlib.Core.Logic.{inl, inr}
+-- The eight bytes of the number are pasted, which is the definition.
+use mathlib.Core.Path.{ap, ◌∙◌}
 use borrow.Author.Rules.{rules}
-use Rattle.out_areas.proofs.RealBytes.{put-signed}
+use Rattle.numbers.specs.Bytes.{put}
+use Rattle.numbers.proofs.ByteArrays.{put_of_array}
+use Rattle.out_areas.proofs.RealBytes.{unsigned-complement}
 use Rattle.out_areas.proofs.constants.write_signed.Goals as goal
-use Rattle.out_areas.proofs.constants.write_signed.Goals.{then-n-lt0, else-n-lt0}
 
 pub returns : goal.returns
 returns c =
-    put-signed _ c.args.at c.args.n c.requires.0 c.requires.1 (search rules)
-    (elim c.if-n-lt0.branch [
-      | then-n-lt0 o ↦ inl (o.if-n-lt0.true, o.sign-is)
-      | else-n-lt0 o ↦ inr (o.if-n-lt0.false, o.sign-is)
-    ])
-    c.complement.ensures
-    c.write_u32.ensures
-    c.write_u32-2.ensures
+    let s = c.args.s.now in
+    c.paste.ensures ∙ put_of_array 8 _ s c.args.at c.requires c.to_le_bytes.ensures
+    ∙ ap (λ v. put 8 v s c.args.at) (unsigned-complement c.args.n (search rules))

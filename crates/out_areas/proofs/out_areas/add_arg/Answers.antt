@@ -8,7 +8,7 @@ pub returns : goal.returns
 returns c b t =
     arg-written b _ t _ _ c.if-out.false
     c.goes_in.ensures c.if-not-goes_in.false
-    c.paste.ensures
+    (rw c.to_le_bytes.ensures at c.paste.ensures)
 
 pub returns-then-not-goes_in : goal.returns-then-not-goes_in
 returns-then-not-goes_in c b t = arg_unwritten b _ t _ _ c.if-out.false c.goes_in.ensures c.if-not-goes_in.true

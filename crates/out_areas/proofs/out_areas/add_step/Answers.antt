@@ -38,7 +38,7 @@ pub returns : goal.returns
 returns c b t run stands =
     add-copied stands (octets c.args.step.now c.type_inv.step) c.args.outrun.now t c.args.out c.if-out.false
     (ap (λ p. p.args) c.requires.1) c.goes_in.ensures c.if-not-goes_in.false
-    c.paste.ensures c.elaborated_rule.ensures c.byte.ensures
+    c.paste.ensures (rw (c.rule_number.ensures, c.elaborated_rule.ensures, c.rule_in.ensures))
 
 pub returns-then-not-goes_in : goal.returns-then-not-goes_in
 returns-then-not-goes_in c b t run stands =

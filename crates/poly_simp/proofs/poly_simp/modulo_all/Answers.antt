@@ -7,5 +7,5 @@ loop-k-init c = reducing_none
 
 pub loop-k-preserved : goal.loop-k-preserved
 loop-k-preserved c =
-    reducing_more c.loop-k.invariant c.loop-k-test.true c.requires.1.0 c.requires.1.1 c.copy_key.ensures
+    reducing_more c.loop-k.invariant c.loop-k-test.true c.requires.1.0 c.requires.1.1 c.key_at-key.ensures
     c.value_at-value.ensures.is c.modulo.ensures.is (search rules) c.put_entry.ensures

@@ -1,19 +1,20 @@
--- The entries of area 1 go into area 0, then area 1 is emptied: the laws are `sub-refused`, `sub-made` and `sub_out` of
+-- The entries of area 1 are entered and it is emptied; then the constants are subtracted: the laws are in
 -- TurnedEntries.
+use Rattle.rules.proofs.Results.{handed_on}
 use Rattle.poly_simp.proofs.TurnedEntries.{sub-refused, sub-made, sub_out}
 use Rattle.poly_simp.proofs.poly_simp.sub.Goals as goal
 
+pub returns-in_err-len : goal.returns-in_err-len
+returns-in_err-len c =
+    rw (handed_on c.from_residual.ensures.1)
+    (sub-refused c.args.p c.args.q c.clear_at.ensures c.in_err-len.ensures.inserts_at)
+
 pub returns-in_default : goal.returns-in_default
 returns-in_default c =
-    sub-refused c.args.p c.args.q c.insert_turned-turned.ensures.inserts_at c.clear_at.ensures c.in_default.is
-    c.inserted_refusal.ensures
-
-pub returns-in_default-add : goal.returns-in_default-add
-returns-in_default-add c =
-    sub_out c.args.p c.args.q c.insert_turned-turned.ensures.inserts_at c.clear_at.ensures c.in-Length.is
-    c.neg.ensures.is c.add.ensures c.in_default-add.is c.clear_at-in_default-add.ensures
+    sub_out c.args.p c.args.q c.clear_at.ensures c.in_ok-len.ensures.inserts_at c.neg.ensures.is c.add.ensures
+    c.in_default.is c.clear_at-in_default.ensures
 
 pub returns : goal.returns
 returns c =
-    sub-made c.args.p c.args.q c.insert_turned-turned.ensures.inserts_at c.clear_at.ensures c.in-Length.is
-    c.neg.ensures.is c.add.ensures c.in-Some.is
+    sub-made c.args.p c.args.q c.clear_at.ensures c.in_ok-len.ensures.inserts_at c.neg.ensures.is c.add.ensures
+    c.in-Some.is

@@ -12,4 +12,5 @@ pub returns : goal.returns
 unfolding maps.put_entry pasted
 returns c =
     let width : 25 * c.args.k + 17 - 25 * c.args.k ≡ length c.args.key.now = omega arith in
-    rw (c.write.ensures, c.copy_from_slice.ensures.after, take_all 17 c.args.key.now (omega arith), drop-drop, width) refl
+    let all = take_all 17 c.args.key.now (omega arith) in
+    rw (c.write.ensures, c.copy_from_slice.ensures.after, all, drop-drop, width) refl

@@ -1,4 +1,5 @@
 use borrow.Author.Rules.{rules}
+use Rattle.rules.proofs.Results.{handed_on}
 use Rattle.polynomial.proofs.ProductTasks.{left-begin, left-more, left-refused, left-done}
 use Rattle.polynomial.proofs.polynomial.mul_left.Goals as goal
 
@@ -7,13 +8,13 @@ loop-k-init c = left-begin
 
 pub loop-k-preserved : goal.loop-k-preserved
 loop-k-preserved c =
-    left-more c.loop-k.invariant c.loop-k-test.true _ (search rules) _ c.mul_entry-answer.ensures.few
-    c.mul_entry-answer.ensures.inserts_at _ c.in-Length.is
+    left-more c.loop-k.invariant c.loop-k-test.true (search rules) c.in_ok-len.ensures.few
+    c.in_ok-len.ensures.inserts_at
 
-pub returns-in_default-clause-inserts_at : goal.returns-in_default-clause-inserts_at
-returns-in_default-clause-inserts_at c =
-    left-refused c.loop-k.invariant c.loop-k-test.true _ (search rules) _ c.mul_entry-answer.ensures.few
-    c.mul_entry-answer.ensures.inserts_at _ c.in_default.is
+pub returns-in_err-len-clause-inserts_at : goal.returns-in_err-len-clause-inserts_at
+returns-in_err-len-clause-inserts_at c =
+    rw (handed_on c.from_residual.ensures.1)
+    (left-refused c.loop-k.invariant c.loop-k-test.true c.in_err-len.ensures.inserts_at)
 
 pub returns-clause-inserts_at : goal.returns-clause-inserts_at
 returns-clause-inserts_at c = left-done c.loop-k.invariant c.loop-k-test.false

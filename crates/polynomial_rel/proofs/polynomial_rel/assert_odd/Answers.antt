@@ -1,19 +1,18 @@
 -- The value is odd where it leaves 1.
-use borrow.Author.Rules.{rules}
-use Rattle.polynomial_rel.proofs.ScaledPremises.{no_vector, odd-vector, even-vector}
+use native.Mathlib.Omega.{arith}
+use mathlib.Core.Path.{◌∙◌}
+use Rattle.std.proofs.lemmas.Grind.{common_steps}
+use Rattle.rules.specs.Refusal.{◌>>=◌, assert}
+use Rattle.rules.proofs.Results.{handed_on, stops}
 use Rattle.polynomial_rel.proofs.polynomial_rel.assert_odd.Goals as goal
 
-pub returns-in_default : goal.returns-in_default
-returns-in_default c =
-    no_vector _ c.as_bitvector_err-found.ensures c.in_default.is
-    c.bits_refusal.ensures
+pub returns-in_err-c : goal.returns-in_err-c
+returns-in_err-c c = handed_on c.from_residual.ensures.1 ∙ stops _ c.in_err-c.ensures
 
 pub returns-then-c-eq1 : goal.returns-then-c-eq1
-returns-then-c-eq1 c =
-    odd-vector _ c.as_bitvector_err-found.ensures c.in-Bits.is
-    (search rules)
+unfolding assert ◌>>=◌
+returns-then-c-eq1 c = grind (arith, common_steps)
 
 pub returns-else-c-eq1 : goal.returns-else-c-eq1
-returns-else-c-eq1 c =
-    even-vector _ c.as_bitvector_err-found.ensures c.in-Bits.is
-    (search rules)
+unfolding assert ◌>>=◌
+returns-else-c-eq1 c = grind (arith, common_steps)

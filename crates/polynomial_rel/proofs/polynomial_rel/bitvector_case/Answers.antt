@@ -1,24 +1,22 @@
 -- The coefficients are tested first, and then the sides compared.
-use Rattle.rules.proofs.ShapeSteps.{bounds-are, no_bounds}
-use Rattle.polynomial_rel.proofs.ScaledPremises.{first_refused, second_refused, not-equal-sides, equal-sides}
+use native.Mathlib.Omega.{arith}
+use Rattle.std.proofs.lemmas.Grind.{common_steps}
+use Rattle.rules.specs.Refusal.{◌>>=◌, or_else}
+use Rattle.polynomial_rel.specs.PolySimpRel.{bitvector_case}
 use Rattle.polynomial_rel.proofs.polynomial_rel.bitvector_case.Goals as goal
 
-pub returns-in_default : goal.returns-in_default
-returns-in_default c = first_refused _ _ c.assert_odd-first.ensures c.in_default.is
+pub returns-in_err-assert_odd : goal.returns-in_err-assert_odd
+unfolding bitvector_case ◌>>=◌
+returns-in_err-assert_odd c = grind (arith, common_steps)
 
-pub returns-in_default-second : goal.returns-in_default-second
-returns-in_default-second c =
-    second_refused _ _ c.assert_odd-first.ensures c.in-Holds.is
-    c.assert_odd-second.ensures c.in_default-second.is
+pub returns-in_err-assert_odd-2 : goal.returns-in_err-assert_odd-2
+unfolding bitvector_case ◌>>=◌
+returns-in_err-assert_odd-2 c = grind (arith, common_steps)
 
-pub returns-in_default-equated : goal.returns-in_default-equated
-returns-in_default-equated c =
-    not-equal-sides _ _ c.assert_odd-first.ensures c.in-Holds.is
-    c.assert_odd-second.ensures c.in-Holds-second.is
-    (no_bounds _ _ c.equated.ensures c.in_default-equated.is)
+pub returns-in_err-l1 : goal.returns-in_err-l1
+unfolding bitvector_case or_else ◌>>=◌
+returns-in_err-l1 c = grind (arith, common_steps)
 
 pub returns : goal.returns
-returns c =
-    equal-sides _ _ c.assert_odd-first.ensures c.in-Holds.is
-    c.assert_odd-second.ensures c.in-Holds-second.is
-    (bounds-are _ _ c.equated.ensures c.in-Are.is) (c.assert_sides.ensures _)
+unfolding bitvector_case or_else ◌>>=◌
+returns c = grind (arith, common_steps)

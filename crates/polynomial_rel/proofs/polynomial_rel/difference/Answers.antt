@@ -1,17 +1,18 @@
 -- Below `to_real` for numbers, or the term itself.
-use borrow.Author.Rules.{rules}
-use Rattle.polynomial_rel.proofs.ScaledPremises.{plain-difference, real-difference, number-difference}
+use native.Mathlib.Omega.{arith}
+use Rattle.std.proofs.lemmas.Grind.{common_steps}
+use Rattle.numbers.specs.Choice.{when◌then◌else◌}
+use Rattle.polynomial_rel.specs.PolySimpRel.{difference}
 use Rattle.polynomial_rel.proofs.polynomial_rel.difference.Goals as goal
 
 pub returns-then-d-ne-SUB : goal.returns-then-d-ne-SUB
-returns-then-d-ne-SUB c = plain-difference _ _ _ (search rules) c.binary.ensures
+unfolding difference when◌then◌else◌
+returns-then-d-ne-SUB c = grind (arith, common_steps)
 
 pub returns-in-Some : goal.returns-in-Some
-returns-in-Some c =
-    real-difference _ _ _ (search rules) c.unary.ensures c.in-Some.is
-    c.binary-in-Some.ensures
+unfolding difference when◌then◌else◌
+returns-in-Some c = grind (arith, common_steps)
 
 pub returns-in-None : goal.returns-in-None
-returns-in-None c =
-    number-difference _ _ _ (search rules) c.unary.ensures
-    c.in-None.is c.binary-in-None.ensures
+unfolding difference when◌then◌else◌
+returns-in-None c = grind (arith, common_steps)

@@ -1,17 +1,21 @@
 -- The bytes are the form, and its names are read off the table.
-use borrow.Author.Rules.{rules}
+use mathlib.Core.Path.{ap}
+use native.Mathlib.Omega.{arith}
+use Prim.Native.Nat.{ℕ, ◌<◌}
 use Rattle.rules.specs.Shapes.{form_of}
-use Rattle.polynomial_rel.proofs.ScaledPremises.{not-equated, both-equated}
+use Rattle.rules.proofs.FormSteps.{get_d_inside, matches_of}
+use Rattle.polynomial_rel.specs.PolySimpRel.{equated, equated_form, equated_in}
 use Rattle.polynomial_rel.proofs.polynomial_rel.equated.Goals as goal
 
-pub returns-then-matches-eq0 : goal.returns-then-matches-eq0
-unfolding form_of
-returns-then-matches-eq0 c =
-    let m = c.matches in
-    not-equated _ _ _ m.result m.new.names (m.ensures _) (search rules)
+pub returns-in_err-matches : goal.returns-in_err-matches
+unfolding equated form_of
+returns-in_err-matches c =
+    rw c.from_residual.ensures
+    (ap equated_in (matches_of _ _ (equated_form c.args.o) (c.in_err-matches.ensures c.args.id)))
 
 pub returns : goal.returns
-unfolding form_of
+unfolding equated form_of
 returns c =
-    let m = c.matches in
-    both-equated _ _ _ m.result m.new.names (m.ensures _) (search rules) (search rules)
+    let inside = λ (k : ℕ) (h : k < 16). get_d_inside c.matches.new.names k 0 c.args.id (omega arith) in
+    rw (inside 3 (omega arith), inside 4 (omega arith), inside 5 (omega arith), inside 6 (omega arith))
+    (ap equated_in (matches_of _ _ (equated_form c.args.o) (c.in_ok-matches.ensures c.args.id)))

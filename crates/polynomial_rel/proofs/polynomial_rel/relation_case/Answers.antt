@@ -1,32 +1,32 @@
 -- The equation is opened, and then both sides looked at.
-use Rattle.polynomial_rel.proofs.ExpectedAnswers.{operator_is}
-use Rattle.polynomial_rel.proofs.ScaledSides.{no_equation, no_first_operation, no_second_operation, both_operations}
+use native.Mathlib.Omega.{arith}
+use mathlib.Core.Path.{refl}
+use Rattle.std.proofs.lemmas.Grind.{common_steps}
+use Rattle.rules.specs.Refusal.{◌>>=◌, or_else}
+use Rattle.terms.specs.Readers.{found_two}
+use Rattle.rules.proofs.Results.{goes_on, some-found}
+use Rattle.polynomial_rel.specs.Memory.PolynomialRel.{relation_case}
+use Rattle.polynomial_rel.proofs.ScaledSides.{operation_law}
 use Rattle.polynomial_rel.proofs.polynomial_rel.relation_case.Goals as goal
 
-pub returns-in_default : goal.returns-in_default
-returns-in_default c = no_equation _ _ _ _ c.binary.ensures c.in_default.is
+pub returns-in_err-left : goal.returns-in_err-left
+unfolding relation_case or_else ◌>>=◌
+returns-in_err-left c = grind (arith, common_steps)
 
-pub returns-in_default-first : goal.returns-in_default-first
-returns-in_default-first c =
-    no_first_operation _ _ _ _ c.binary.ensures
-    c.in-Some.is
-    c.as_op_err-first.ensures c.in_default-first.is c.operator_refusal.ensures
+pub returns-in_err-o : goal.returns-in_err-o
+unfolding relation_case or_else ◌>>=◌
+returns-in_err-o c = grind (arith, common_steps)
 
-pub returns-in_default-second : goal.returns-in_default-second
-returns-in_default-second c =
-    no_second_operation _ _ _ _ c.binary.ensures
-    c.in-Some.is
-    c.as_op_err-first.ensures c.in-Is.is c.as_op_err-second.ensures
-    c.in_default-second.is c.operator_refusal-in_default-second.ensures
+pub returns-in_err-as_op_err : goal.returns-in_err-as_op_err
+unfolding relation_case or_else ◌>>=◌
+returns-in_err-as_op_err c = grind (arith, common_steps)
 
 pub sides_case-requires : goal.sides_case-requires
-sides_case-requires c =
-    operator_is _ c.as_op_err-first.ensures
-    c.in-Is.is
+sides_case-requires c = (operation_law _ c.in_ok-o.ensures).1
 
 pub returns : goal.returns
+unfolding relation_case or_else
 returns c =
-    both_operations _ _ _ _ c.binary.ensures
-    c.in-Some.is
-    c.as_op_err-first.ensures c.in-Is.is c.as_op_err-second.ensures
-    c.in-Is-second.is c.sides_case.ensures
+    goes_on _ (some-found (found_two _) _ _ c.binary.ensures.is refl c.in_ok-left.ensures.value)
+    (goes_on _ (operation_law _ c.in_ok-o.ensures).0
+    (goes_on _ (operation_law _ c.in_ok-as_op_err.ensures).0 c.sides_case.ensures))

@@ -1,22 +1,18 @@
 -- The form over bit-vectors is tried first.
-use Rattle.polynomial_rel.proofs.ScaledRelations.{vectors_case, numbers_case, neither_case}
+use native.Mathlib.Omega.{arith}
+use Rattle.std.proofs.lemmas.Grind.{common_steps}
+use Rattle.rules.specs.Refusal.{◌>>=◌}
+use Rattle.polynomial_rel.specs.Memory.PolynomialRel.{scaled_case}
 use Rattle.polynomial_rel.proofs.polynomial_rel.scaled_case.Goals as goal
 
-pub returns-in-Is : goal.returns-in-Is
-returns-in-Is c =
-    let vectors = c.scaled_by in
-    vectors_case _ _ _ vectors.result vectors.ensures c.in-Is.is c.bitvector_case.ensures
+pub returns-in-Some : goal.returns-in-Some
+unfolding scaled_case
+returns-in-Some c = grind (arith, common_steps)
 
-pub returns-in_default-scaled_by : goal.returns-in_default-scaled_by
-returns-in_default-scaled_by c =
-    let vectors = c.scaled_by in
-    let numbers = c.scaled_by-2 in
-    neither_case _ _ _ vectors.result vectors.ensures c.in_default.is numbers.result
-    numbers.ensures c.in_default-scaled_by.is
+pub returns-in_err-p : goal.returns-in_err-p
+unfolding scaled_case ◌>>=◌
+returns-in_err-p c = grind (arith, common_steps)
 
 pub returns : goal.returns
-returns c =
-    let vectors = c.scaled_by in
-    let numbers = c.scaled_by-2 in
-    numbers_case _ _ _ vectors.result vectors.ensures c.in_default.is numbers.result
-    numbers.ensures c.in-Is-scaled_by.is c.number_case.ensures
+unfolding scaled_case ◌>>=◌
+returns c = grind (arith, common_steps)

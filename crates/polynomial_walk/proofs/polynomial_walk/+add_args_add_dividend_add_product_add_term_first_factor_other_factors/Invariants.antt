@@ -1,8 +1,8 @@
 -- The walk of a term, the walk of its arguments and the product of its factors, which call each other. What falls is
 -- the record's number, then what is left of its factors: each argument, each factor and each dividend is an earlier
 -- record. The arguments of record i count as 4 i spans, and so do its factors behind the first, with the bytes that are
--- left of them; all its factors count as 4 i + 1 spans, its product as 4 i + 2, its term as 4 i + 3, and in the place of
--- a quotient as 4 i + 4. The loop's invariant is `Walking` of PolynomialArgWalks.
+-- left of them; all its factors count as 4 i + 1 spans, its product as 4 i + 2, its term as 4 i + 3, and in the place
+-- of a quotient as 4 i + 4. The loop's invariant is `Walking` of PolynomialArgWalks.
 use Rattle.std.proofs.Common.{ℕ, ◌+◌, ◌*◌, length}
 use Rattle.polynomial_walk.proofs.PolynomialArgWalks.{Walking}
 use Rattle.polynomial_walk.proofs.polynomial_walk.+add_args_add_dividend_add_product_add_term_first_factor_other_factors.Given as goal
@@ -31,5 +31,4 @@ decreases-other_factors l = span * (4 * l.id) + length l.rest.now
 
 abbrev pub invariant-add_args-loop-k : goal.invariant-add_args-loop-k
 invariant-add_args-loop-k l =
-    Walking l.book l.fn.stack l.args l.id l.limit l.depth l.fn.first l.others l.fn.s l.visits
-    l.stack l.sum l.seen l.coeff l.k
+    Walking l.book l.fn.stack l.args l.id l.limit l.depth l.fn.first l.others l.fn.w l.stack l.done l.coeff l.k

@@ -1,18 +1,22 @@
--- The argument that is given is taken; the answer for one that is not is the inference's (`LiteralArguments`).
-use Rattle.process_disequality.proofs.LiteralArguments.{argument-given, argument-inferred, argument-refused}
+-- The argument that is given is taken; where there is none, it is the inference's.
+use native.Mathlib.Omega.{arith}
+use mathlib.Core.Path.{refl, sym}
+use Rattle.std.proofs.lemmas.Grind.{common_steps}
+use Rattle.rules.specs.Refusal.{◌>>=◌}
+use Rattle.rules.proofs.Results.{goes_on}
+use Rattle.process_disequality.specs.Memory.ProcessSteps.{argument_from}
 use Rattle.process_disequality.proofs.process_disequality.argument_of.Goals as goal
 
-pub returns-in-Of : goal.returns-in-Of
-returns-in-Of c b p q l = argument-given _ _ _ c.in-Of.is c.requires.1.1
+pub returns-in-Some : goal.returns-in-Some
+unfolding argument_from
+returns-in-Some c = grind (arith, common_steps)
 
-pub returns-in_default-found : goal.returns-in_default-found
-returns-in_default-found c b p q l =
-    let i = c in
-    argument-refused _ _ _ i.in_default.is (i.inferred-found.ensures b p q l)
-    c.in_default-found.is c.inference_refusal.ensures
+pub returns-in_err-a : goal.returns-in_err-a
+unfolding argument_from ◌>>=◌
+returns-in_err-a c = grind (arith, common_steps)
 
 pub returns : goal.returns
+unfolding argument_from
 returns c b p q l =
-    let i = c in
-    argument-inferred _ _ _ i.in_default.is (i.inferred-found.ensures b p q l)
-    c.in-Of-found.is
+    let a = c.in_ok-a.ensures b p q l in
+    (rw c.in_default.is (sym (goes_on _ a.is refl)), (a.proper _ refl, a.proper _ refl))

@@ -1,11 +1,19 @@
 -- An operation has its operator.
-use mathlib.Core.Path.{sym, ◌∙◌}
-use Rattle.rules.proofs.ExpectedTerms.{operator-found, no_operator}
+use mathlib.Core.Path.{sym, ap}
+use Rattle.std.specs.Prelude.{ℕ, Ok}
+use Rattle.terms.specs.Readers.{as_op}
+use Rattle.terms.specs.Book.{tree}
+use Rattle.rules.specs.Limits.{op_err}
+use Rattle.rules.proofs.ExpectedTerms.{operator_law}
 use Rattle.rules.proofs.readers.as_op_err.Goals as goal
 
 pub returns-then-is_operation : goal.returns-then-is_operation
+unfolding op_err
 returns-then-is_operation c =
-    operator-found _ (sym c.is_operation.ensures ∙ c.if-is_operation.true) c.operator.ensures
+    rw (operator_law (as_op (tree c.args.book.now c.args.id)), sym c.is_operation.ensures, c.if-is_operation.true)
+    (ap (λ (o : ℕ). Ok o) c.operator.ensures)
 
 pub returns : goal.returns
-returns c = no_operator _ (sym c.is_operation.ensures ∙ c.if-is_operation.false)
+unfolding op_err
+returns c =
+    rw (operator_law (as_op (tree c.args.book.now c.args.id)), sym c.is_operation.ensures, c.if-is_operation.false)

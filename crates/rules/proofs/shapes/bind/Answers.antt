@@ -17,4 +17,7 @@ returns-then-k-lt-MAX_NAMES c =
     (search rules, λ b d. bound-next b d _ _ _ c.args.names.now (search rules) (search rules) (search rules))
 
 pub returns : goal.returns
-returns c = (search rules, λ b d. not-bound b d _ _ _ c.args.names.now (search rules) (λ e h. omega (arith, c.else-k-n-2.either)))
+returns c = (
+  search rules,
+  λ b d. not-bound b d _ _ _ c.args.names.now (search rules) (λ e h. omega (arith, c.else-k-n-2.either)),
+)

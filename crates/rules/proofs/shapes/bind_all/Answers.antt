@@ -1,23 +1,19 @@
 use borrow.Author.Rules.{rules}
-use Rattle.rules.proofs.FormSteps.{other-count, binding_next, binding_refused}
-use Rattle.rules.proofs.FormSteps.{binding_end}
+use Rattle.rules.proofs.FormSteps.{other-count, binding_next, binding_refused, binding_end}
 use Rattle.rules.proofs.shapes.bind_all.Goals as goal
 
 pub returns-then-args-parts : goal.returns-then-args-parts
-returns-then-args-parts c =
-    (search rules, other-count c.args.names.now _ _ _ _ (search rules))
+returns-then-args-parts c = (tt, λ b d. other-count _ _ _ c.if-args-parts.true b _)
 
-pub returns-then-m-eq0 : goal.returns-then-m-eq0
-returns-then-m-eq0 c = (
-  search rules,
-  binding_refused _ _ _ _ _ c.loop-j.invariant (search rules) c.wide.ensures.0
-      c.argument.ensures c.bind-m.result c.bind-m.new.names c.bind-m.ensures.1 (search rules),
-)
+pub returns-in_err-m : goal.returns-in_err-m
+returns-in_err-m c =
+    let left = binding_refused c.loop-j.invariant c.loop-j-test.true c.wide.ensures.0 c.argument.ensures in
+    rw c.from_residual.ensures (tt, left c.in_err-m.ensures.1)
 
 pub loop-j-preserved : goal.loop-j-preserved
 loop-j-preserved c =
-    binding_next _ _ _ _ _ c.loop-j.invariant (search rules) c.wide.ensures.0
-    c.argument.ensures c.bind-m.result c.bind-m.new.names c.bind-m.ensures.1 (search rules) (search rules) (search rules)
+    let left = binding_next c.loop-j.invariant c.loop-j-test.true c.wide.ensures.0 c.argument.ensures in
+    left c.in_ok-m.ensures.0 c.in_ok-m.ensures.1
 
 pub returns : goal.returns
-returns c = (search rules, binding_end _ _ _ _ _ c.loop-j.invariant (search rules))
+returns c = (c.loop-j.invariant.most, binding_end c.loop-j.invariant (search rules))

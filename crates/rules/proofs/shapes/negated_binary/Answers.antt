@@ -1,10 +1,13 @@
 -- The relation stands below the negation.
-use Rattle.rules.proofs.ShapeSteps.{not-negated, below-negation}
+use mathlib.Core.Path.{sym}
+use Rattle.rules.specs.Shapes.{negated_binary}
 use Rattle.rules.proofs.shapes.negated_binary.Goals as goal
 
-pub returns-in_default : goal.returns-in_default
-returns-in_default c = not-negated _ _ _ c.remove_negation.ensures c.in_default.is
+pub returns-in_err-remove_negation : goal.returns-in_err-remove_negation
+unfolding negated_binary
+returns-in_err-remove_negation c =
+    rw (c.from_residual.ensures, negated_binary, sym c.in_err-remove_negation.ensures.is)
 
 pub returns : goal.returns
-returns c =
-    below-negation _ _ _ c.remove_negation.ensures c.in-Some.is c.binary.ensures
+unfolding negated_binary
+returns c = rw (negated_binary, sym c.in_ok-remove_negation.ensures.is) c.binary.ensures.is

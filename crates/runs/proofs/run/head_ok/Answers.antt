@@ -5,12 +5,12 @@ use Rattle.runs.specs.Memory.StepParts.{head_in}
 use Rattle.runs.proofs.StepRules.{head-tests}
 use Rattle.runs.proofs.run.head_ok.Goals as goal
 
-pub returns-then-byte-le-POLY_SIMP_REL : goal.returns-then-byte-le-POLY_SIMP_REL
+pub returns-then-is_some : goal.returns-then-is_some
 unfolding head_in
-returns-then-byte-le-POLY_SIMP_REL c =
+returns-then-is_some c =
     head-tests (head_in c.args.step.now) (grind (arith, nat_tests))
 
-pub returns-else-byte-le-POLY_SIMP_REL : goal.returns-else-byte-le-POLY_SIMP_REL
+pub returns-else-is_some : goal.returns-else-is_some
 unfolding head_in
-returns-else-byte-le-POLY_SIMP_REL c =
+returns-else-is_some c =
     head-tests (head_in c.args.step.now) (grind (arith, nat_tests))

@@ -1,7 +1,7 @@
 -- The step by its rule: the arms of the match are those of the definition.
-use borrow.Author.Rules.{rules}
-use Rattle.steps.proofs.CheckedSteps.{judged-assume, judged_rw_eq, judged-disequality, judged-totality}
-use Rattle.steps.proofs.CheckedSteps.{judged-tautology, judged_generic, judged_farkas, judged-simp, rule_eight}
+use mathlib.Core.Path.{refl, sym}
+use Rattle.steps.proofs.CheckedSteps.{judged}
+use Rattle.runs.specs.Memory.StepParts.{step_in}
 use Rattle.runs.proofs.Standing.{stands-literals}
 use Rattle.steps.proofs.check_step.check_step.Goals as goal
 
@@ -28,40 +28,41 @@ poly_simp-requires c =
     (given.0, (stands-literals given.1 c.clause-literals.ensures).0)
 
 pub check_poly_simp_rel-requires-clause-step_value : goal.check_poly_simp_rel-requires-clause-step_value
-check_poly_simp_rel-requires-clause-step_value c =
-    rule_eight c.requires.ready.1 c.byte.ensures (search rules)
+unfolding step_in
+check_poly_simp_rel-requires-clause-step_value c = sym c.in-PolySimpRel.ensures
 
 -- ---- the verdicts
 
-pub returns-in-0-clause-value : goal.returns-in-0-clause-value
-returns-in-0-clause-value c = judged-assume _ _ _ _ _ c.byte.ensures c.clause-literals.ensures c.in-0.is
+pub returns-in-Assume-clause-value : goal.returns-in-Assume-clause-value
+returns-in-Assume-clause-value c =
+    judged _ _ _ _ _ _ c.in-Assume.ensures c.clause-literals.ensures refl refl
 
-pub returns-in-1-clause-value : goal.returns-in-1-clause-value
-returns-in-1-clause-value c =
-    judged_rw_eq _ _ _ _ _ c.byte.ensures c.clause-literals.ensures c.in-1.is c.la_rw_eq.ensures
+pub returns-in-LaRwEq-clause-value : goal.returns-in-LaRwEq-clause-value
+returns-in-LaRwEq-clause-value c =
+    judged _ _ _ _ _ _ c.in-LaRwEq.ensures c.clause-literals.ensures refl c.la_rw_eq.ensures
 
-pub returns-in-2-clause-value : goal.returns-in-2-clause-value
-returns-in-2-clause-value c =
-    judged-disequality _ _ _ _ _ c.byte.ensures c.clause-literals.ensures c.in-2.is c.la_disequality.ensures
+pub returns-in-LaDisequality-clause-value : goal.returns-in-LaDisequality-clause-value
+returns-in-LaDisequality-clause-value c =
+    judged _ _ _ _ _ _ c.in-LaDisequality.ensures c.clause-literals.ensures refl c.la_disequality.ensures
 
-pub returns-in-3-clause-value : goal.returns-in-3-clause-value
-returns-in-3-clause-value c =
-    judged-totality _ _ _ _ _ c.byte.ensures c.clause-literals.ensures c.in-3.is c.la_totality.ensures
+pub returns-in-LaTotality-clause-value : goal.returns-in-LaTotality-clause-value
+returns-in-LaTotality-clause-value c =
+    judged _ _ _ _ _ _ c.in-LaTotality.ensures c.clause-literals.ensures refl c.la_totality.ensures
 
-pub returns-in-4-clause-value : goal.returns-in-4-clause-value
-returns-in-4-clause-value c =
-    judged-tautology _ _ _ _ _ c.byte.ensures c.clause-literals.ensures c.in-4.is c.la_tautology.ensures.value
+pub returns-in-LaTautology-clause-value : goal.returns-in-LaTautology-clause-value
+returns-in-LaTautology-clause-value c =
+    judged _ _ _ _ _ _ c.in-LaTautology.ensures c.clause-literals.ensures refl c.la_tautology.ensures.value
 
-pub returns-in-5-clause-value : goal.returns-in-5-clause-value
-returns-in-5-clause-value c =
-    judged_generic _ _ _ _ _ c.byte.ensures c.clause-literals.ensures c.args-in-5.ensures
-    c.in-5.is c.la_generic.ensures.value
+pub returns-in-LaGeneric-clause-value : goal.returns-in-LaGeneric-clause-value
+returns-in-LaGeneric-clause-value c =
+    judged _ _ _ _ _ _ c.in-LaGeneric.ensures c.clause-literals.ensures c.args-in-LaGeneric.ensures
+    c.la_generic.ensures.value
 
-pub returns-in-6-clause-value : goal.returns-in-6-clause-value
-returns-in-6-clause-value c =
-    judged_farkas _ _ _ _ _ c.byte.ensures c.clause-literals.ensures c.args-in-6.ensures
-    c.in-6.is c.bounded_farkas.ensures.value
+pub returns-in-BoundedFarkas-clause-value : goal.returns-in-BoundedFarkas-clause-value
+returns-in-BoundedFarkas-clause-value c =
+    judged _ _ _ _ _ _ c.in-BoundedFarkas.ensures c.clause-literals.ensures c.args-in-BoundedFarkas.ensures
+    c.bounded_farkas.ensures.value
 
-pub returns-in-7-clause-value : goal.returns-in-7-clause-value
-returns-in-7-clause-value c =
-    judged-simp _ _ _ _ _ c.byte.ensures c.clause-literals.ensures c.in-7.is c.poly_simp.ensures.value
+pub returns-in-PolySimp-clause-value : goal.returns-in-PolySimp-clause-value
+returns-in-PolySimp-clause-value c =
+    judged _ _ _ _ _ _ c.in-PolySimp.ensures c.clause-literals.ensures refl c.poly_simp.ensures.value

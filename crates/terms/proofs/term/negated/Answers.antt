@@ -1,6 +1,6 @@
 -- `Number::neg` makes the negation of a number, and the other readings stay.
 use borrow.Author.Rules.{rules}
-use Rattle.terms.proofs.Findings.{finds, negated-value}
+use Rattle.terms.proofs.Findings.{negated-value}
 use Rattle.terms.proofs.term.negated.Goals as goal
 
 pub neg-requires : goal.neg-requires

@@ -7,4 +7,5 @@ pub returns : goal.returns
 returns c =
     let m = c.append in
     let back = lent_back_lem c.requires.0 m.new.entries m.auto.entries in
-    rw (back.put, back.is) (record { upper_bound = (m.ensures.upper_bound, refl); inserts = rw back.was at m.ensures.inserts })
+    rw (back.put, back.is)
+    (record { upper_bound = (m.ensures.upper_bound, refl); inserts = rw back.was at m.ensures.inserts })

@@ -20,9 +20,3 @@ overflow_add-self c = fits (left_cross c.requires ⊞ right_cross c.requires) tt
 
 pub overflow_mul-self-2 : goal.overflow_mul-self-2
 overflow_mul-self-2 c = fits (dens c.requires) tt
-
-pub overflow_mul-self : goal.overflow_mul-self
-overflow_mul-self c = fits (left_cross c.requires) tt
-
-pub overflow_mul-other : goal.overflow_mul-other
-overflow_mul-other c = fits (right_cross c.requires) tt

@@ -10,7 +10,7 @@ use lib.Signed.{◌<ℤ◌}
 use Rattle.numbers.specs.Pair.{eq_z}
 use Rattle.numbers.specs.Rational.{Rational, Proper, Divisor, lowest, upright, div_q, is_zero}
 use Rattle.numbers.proofs.Integers.{nat_abs_*ℤ}
-use Rattle.numbers.proofs.Machine.{Code, ◌⊠◌, negated, exact, fits, back, back-negated, at_negative, at_natural}
+use Rattle.numbers.proofs.Machine.{Code, ◌⊠◌, exact, back, back-negated, at_negative, at_natural}
 use Rattle.numbers.proofs.Order.{pos-positive, nat_abs-positive}
 use Rattle.numbers.proofs.Ranges.{num, den, gives_same}
 use Rattle.numbers.proofs.number.Number.div.Goals as goal
@@ -33,12 +33,6 @@ module _ {a b : Rational} (h : Proper a × Divisor b) where
   size_of_d =
       subst (λ (k : ℕ). 0 < k) (sym (nat_abs_*ℤ a.den b.num))
       (mul-pos (nat_abs-positive h.0.positive) (size_of_nonzero b.num h.1.nonzero))
-
-pub reduced-requires : goal.reduced-requires
-reduced-requires c =
-    let m = d c.requires in
-    subst (λ (z : ℤ). pos 0 <ℤ z) (sym (back-negated m tt))
-    (at_negative (λ z. pos 0 <ℤ neg_ℤ z) (λ k. pos-positive (zero-lt-suc k)) (back m tt) c.if-d-lt0.true)
 
 pub reduced-requires-else-d-lt0 : goal.reduced-requires-else-d-lt0
 reduced-requires-else-d-lt0 c =
@@ -66,15 +60,3 @@ returns-else-d-lt0 c =
     (ap₂ lowest (back (n h) tt) (back (d h) tt)
     ∙ at_natural (λ z. lowest N z ≡ upright N z) (λ k. refl) (back (d h) tt) c.if-d-lt0.false)
     c.reduced-else-d-lt0.ensures
-
-pub overflow_mul-n : goal.overflow_mul-n
-overflow_mul-n c = fits (n c.requires) tt
-
-pub overflow_mul-d : goal.overflow_mul-d
-overflow_mul-d c = fits (d c.requires) tt
-
-pub overflow_sub-n : goal.overflow_sub-n
-overflow_sub-n c = fits (negated (n c.requires)) tt
-
-pub overflow_sub-d : goal.overflow_sub-d
-overflow_sub-d c = fits (negated (d c.requires)) tt

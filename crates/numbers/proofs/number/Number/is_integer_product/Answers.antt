@@ -8,7 +8,7 @@ use lib.Signed.{◌<ℤ◌}
 use Rattle.numbers.specs.Rational.{mul_q, lowest, is_integer}
 use Rattle.numbers.proofs.Divisors.{dvd_of_over-gcd_one, over-gcd_one_of_dvd}
 use Rattle.numbers.proofs.Order.{mul-pos, at_positive, nat_abs-positive}
-use Rattle.numbers.proofs.Machine.{exact, fits, back, eqb_iff}
+use Rattle.numbers.proofs.Machine.{exact, back, eqb_iff}
 use Rattle.numbers.proofs.Ranges.{nums, dens, positive-dens}
 use Rattle.numbers.proofs.number.Number.is_integer_product.Goals as goal
 
@@ -33,9 +33,3 @@ returns c =
     ap₂ (λ (x y : ℕ). eqb (x % y) 0) (c.magnitude.ensures ∙ ap nat_abs (back (nums h) tt))
     (c.magnitude-2.ensures ∙ ap nat_abs (back (dens h) tt))
     ∙ lowest_is_integer (exact (nums h)) (exact (dens h)) (mul-pos h.0.positive h.1.positive)
-
-pub overflow_mul-self : goal.overflow_mul-self
-overflow_mul-self c = fits (nums c.requires) tt
-
-pub overflow_mul-self-2 : goal.overflow_mul-self-2
-overflow_mul-self-2 c = fits (dens c.requires) tt

@@ -1,7 +1,7 @@
 -- A product of two parts is below 2 ^ 62, so the machine has the exact products, and `reduced` answers for them.
 use mathlib.Core.Path.{ap₂}
 use Rattle.numbers.specs.Rational.{lowest, mul_q}
-use Rattle.numbers.proofs.Machine.{fits, back}
+use Rattle.numbers.proofs.Machine.{back}
 use Rattle.numbers.proofs.Ranges.{nums, dens, positive-dens, gives_same}
 use Rattle.numbers.proofs.number.Number.mul.Goals as goal
 
@@ -13,9 +13,3 @@ returns c =
 
 pub reduced-requires : goal.reduced-requires
 reduced-requires c = positive-dens c.requires
-
-pub overflow_mul-self : goal.overflow_mul-self
-overflow_mul-self c = fits (nums c.requires) tt
-
-pub overflow_mul-self-2 : goal.overflow_mul-self-2
-overflow_mul-self-2 c = fits (dens c.requires) tt

@@ -20,6 +20,3 @@ returns c =
       | then-room+else-d-ge1 w ↦ zero-without-denominator _ _ _ _ c.whole.ensures w.read_u32-d.ensures w.if-d-ge1.false
       | else-room w ↦ zero-without-room _ _ _ c.whole.ensures (search roomy)
     ]
-
-pub overflow_add-at : goal.overflow_add-at
-overflow_add-at c = search roomy

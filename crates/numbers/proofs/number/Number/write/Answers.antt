@@ -14,6 +14,3 @@ returns-then-room c =
 
 pub returns-else-room : goal.returns-else-room
 returns-else-room c = sym (put_number-outside _ _ _ (search roomy))
-
-pub overflow_add-at : goal.overflow_add-at
-overflow_add-at c = search roomy

@@ -1,35 +1,38 @@
--- The folds of the turns are joined by `InferredSoFar` of Inferring.
+-- The folds of the turns are joined as those of `la_generic_partial`.
 use Rattle.std.proofs.Common.{sym, ◌∙◌}
 use Rattle.linear_arithmetic.specs.Memory.LinearSteps.{AllNumbers}
-use Rattle.linear_arithmetic.proofs.PartialFold.{rest_folds}
-use Rattle.step_cases.proofs.Inferring.{inferred-begin, inferred-fits, inferred-less, inferred-again}
+use Rattle.linear_arithmetic.proofs.PartialFold.{part-begin, rest_folds, folded_rest, part-more, part-again}
+use Rattle.linear_arithmetic.proofs.PartialFold.{part-fits, part-less}
 use Rattle.step_cases.proofs.step.Step.infers.Goals as goal
 
-pub loop-q-init : goal.loop-q-init
-loop-q-init c =
+pub loop-folded-init : goal.loop-folded-init
+loop-folded-init c =
     let numbers : AllNumbers 1000000 c.args.self.book.now c.args.self.others.now =
-    sym c.in-Holds.is ∙ c.read_args.ensures 1000000 in
-    inferred-begin _ numbers c.requires.0 c.requires.1.0 c.requires.1.1 _ c.whole.ensures
+    sym (c.read_args.ensures 1000000) ∙ c.in-Ok.is in
+    (_, part-begin _ _ numbers c.requires.0 c.requires.1.0 c.requires.1.1 c.new.ensures)
 
-pub fold_literals-requires-clause-folding : goal.fold_literals-requires-clause-folding
-fold_literals-requires-clause-folding c =
-    (rest_folds c.loop-q.invariant.far c.rest.ensures c.rest-in-loop-q.ensures).0
-
-pub fold_literals-requires-clause-all_numbers : goal.fold_literals-requires-clause-all_numbers
-fold_literals-requires-clause-all_numbers c =
-    (rest_folds c.loop-q.invariant.far c.rest.ensures c.rest-in-loop-q.ensures).1
+pub fold_literals-requires : goal.fold_literals-requires
+fold_literals-requires c =
+    let folds = rest_folds c.loop-folded.invariant.1 c.rest-clause.ensures c.rest.ensures in
+    record { folding = folds.0; all_numbers = folds.1 }
 
 pub overflow_add-done : goal.overflow_add-done
 overflow_add-done c =
-    inferred-fits c.loop-q.invariant c.rest.ensures c.rest-in-loop-q.ensures c.fold_literals.ensures _ _ _
-    c.in-Inferred.is
+    let far = c.loop-folded.invariant.1 in
+    let fold = rw c.in-Inferred.is at c.in-Ok-fold_literals.ensures in
+    let rested = folded_rest c.rest-clause.ensures c.rest.ensures fold in
+    part-fits far _ (part-more far rested)
 
-pub loop-q-smaller : goal.loop-q-smaller
-loop-q-smaller c =
-    inferred-less c.loop-q.invariant c.rest.ensures c.rest-in-loop-q.ensures c.fold_literals.ensures _ _ _
-    c.in-Inferred.is
+pub loop-folded-smaller : goal.loop-folded-smaller
+loop-folded-smaller c =
+    let far = c.loop-folded.invariant.1 in
+    let fold = rw c.in-Inferred.is at c.in-Ok-fold_literals.ensures in
+    let rested = folded_rest c.rest-clause.ensures c.rest.ensures fold in
+    part-less far _ (part-more far rested)
 
-pub loop-q-preserved : goal.loop-q-preserved
-loop-q-preserved c =
-    inferred-again c.loop-q.invariant c.rest.ensures c.rest-in-loop-q.ensures c.fold_literals.ensures _ _ _
-    c.in-Inferred.is
+pub loop-folded-preserved : goal.loop-folded-preserved
+loop-folded-preserved c =
+    let far = c.loop-folded.invariant.1 in
+    let fold = rw c.in-Inferred.is at c.in-Ok-fold_literals.ensures in
+    let rested = folded_rest c.rest-clause.ensures c.rest.ensures fold in
+    (_, part-again far rested)

@@ -1,7 +1,0 @@
--- The two writes are those of the definition, with what is read of the last entry before.
-use Rattle.index_map.specs.Memory.StoredMaps.{swapped}
-use Rattle.index_map.proofs.index_map.swap_remove.Goals as goal
-
-pub returns : goal.returns
-unfolding swapped
-returns c = cc

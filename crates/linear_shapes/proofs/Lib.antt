@@ -1,2 +1,0 @@
--- steps of the rules in memory
-pub mod LinearShapeSteps
