@@ -3,7 +3,7 @@
 // are 0; so monomials are equal where their bytes are. A refusal leaves the area empty.
 ghost use Rattle.std.specs.Prelude.{◌≡◌, ℕ, ◌+◌, ◌*◌, ◌≤◌, ◌<◌, length, get_or, MatchOption};
 ghost use Rattle.numbers.specs.Rational.{Makes};
-ghost use Rattle.numbers.specs.Bytes.{Bytes, number_at};
+ghost use Rattle.numbers.specs.Bytes.{Bytes, number_at, same_bytes};
 ghost use Rattle.terms.specs.Term.{Term, record_number};
 ghost use Rattle.rules.specs.Limits.{limited};
 ghost use Rattle.index_map.specs.IndexMap.{Map, insert};
@@ -16,7 +16,7 @@ ghost use Rattle.polynomial.specs.Memory.PolynomialArea.{places, max_atoms, key_
 ghost use Rattle.polynomial.specs.Memory.PolynomialArea.{polynomials};
 
 use index_map::stored_map::StoredMap;
-use numbers::bytes::{read_u16, write_u16};
+use numbers::bytes::{read_u16, same_bytes, write_u16};
 use numbers::number::Number;
 use rules::refusal::Refusal;
 use terms::areas::{MAX_MONOMIALS, MONOMIAL_BYTES, PLACE_BYTES};
@@ -130,13 +130,22 @@ impl StoredMap for Polynomials {
     }
 }
 
-// The place of the entry with a monomial. The compiler compares parts of known length without a call.
+// Whether entry k has the monomial. The compiler compares parts of known length without a call.
+fn has_key(entries: &[u8], k: usize, key: &[u8; MONOMIAL_BYTES]) -> bool
+    requires { (length entries.now ≡ area_size) × (k < places) }
+    ensures { result ≡ same_bytes (key_at entries.now k) key.now }
+{
+    let start = PLACE_BYTES * k;
+    same_bytes(&entries[start..start + MONOMIAL_BYTES], key)
+}
+
+// The place of the entry with a monomial.
 fn find(entries: &[u8], n: usize, key: &[u8; MONOMIAL_BYTES]) -> Option<usize>
     requires { MonomialCount n entries.now }
     ensures { MatchOption result (n ≡ area.place (keys_of entries.now n) key.now)
         (λ k. (k < n) × (k ≡ area.place (keys_of entries.now n) key.now)) }
 {
-    (0..n).find(|k| key_at(entries, *k) == *key)
+    (0..n).find(|k| has_key(entries, *k, key))
 }
 
 // Empties an area of n entries.
