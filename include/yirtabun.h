@@ -34,7 +34,7 @@ extern "C" {
 /* A limit of visits is from 1 to this, or the verdict is 1. */
 #define YIRTABUN_MOST_VISITS 1000000
 /* A thread with this many bytes of stack has more than twice what a call needs. The most that tools/stack measures, on terms nested 2,046
- * deep: poly_simp 955 kB; la_tautology, la_generic and bounded_farkas 592 kB; the other rules 2 kB. These are measurements of the library
+ * deep: poly_simp 728 kB; la_tautology, la_generic and bounded_farkas 592 kB; the other rules 2 kB. These are measurements of the library
  * that the kit's compiler makes; the proofs say nothing of stack. */
 #define YIRTABUN_STACK 2097152
 

@@ -10,7 +10,7 @@ pub const OUT_RUN: usize = 16384;
 pub const OUT_TAIL: usize = 65536;
 /// The largest limit of visits; a larger one is refused with verdict 1.
 pub const MOST_VISITS: u64 = 1_000_000;
-/// A thread with this many bytes of stack has more than twice what a call needs: over the deepest books `poly_simp` takes 955 kB. Rust's
+/// A thread with this many bytes of stack has more than twice what a call needs: over the deepest books `poly_simp` takes 728 kB. Rust's
 /// threads have as much unless they are given less. `tools/stack` measures it; the proofs say nothing of stack.
 pub const STACK: usize = 2_097_152;
 

@@ -5,7 +5,8 @@ use mathlib.Core.Path.{◌≡◌, refl, sym, ◌∙◌, ap, subst}
 use mathlib.Core.Bool.{Bool, false, cond}
 use mathlib.Core.Logic.{◌⊎◌, inl, inr, ⊎_elim}
 use Rattle.std.specs.Prelude.{Option, Some, None}
-use Prim.Native.Nat.{ℕ}
+use Prim.Native.Nat.{ℕ, ◌<◌}
+use Rattle.numbers.specs.Bytes.{Bytes}
 use Rattle.numbers.specs.Pair.{neg_p, inv_p, div_p, ◌≈◌}
 use Rattle.numbers.specs.Rational as Rational
 use Rattle.numbers.specs.Rational.{Rational, whole, div_q, neg_q, is_zero, Lowest}
@@ -15,15 +16,16 @@ use Rattle.numbers.specs.Choice.{when◌then◌else◌}
 use Rattle.terms.specs.Term.Sort.{int, real}
 use Rattle.terms.specs.Term.Term.{integer, rational, bitvector, atom, op}
 use Rattle.terms.specs.Term.Terms.{nil, ◌▹◌}
-use Rattle.terms.specs.Readers.{unbounded, as_number, negated, as_signed_number, quotient_of, divided}
+use Rattle.terms.specs.Readers.{unbounded, ranged, as_number, negated, as_signed_number, quotient_of, divided}
 use Rattle.terms.specs.Readers.{as_unsigned_fraction, as_fraction}
+use Rattle.terms.specs.Book.{tree, read_book}
 use Rattle.terms.specs.Smtlib.{Meant, number, Assignment, as_pair, given, value, meaning}
 use Rattle.numbers.proofs.Pairs.{≈_trans, mul_resp, neg_resp}
 use Rattle.numbers.proofs.LowestTerms.{whole_is_lowest}
 use Rattle.numbers.proofs.Rationals.{whole-value, neg_value, neg-lowest, div_value, div-lowest}
 use Rattle.terms.proofs.Readings.{by_option, not-number, out_of_range, unary-shape, binary-shape}
-use Rattle.terms.proofs.Readings.{Quotient, quotient, signed-fraction, div-reading}
-use Rattle.book.proofs.WellFormed.{WellFormed}
+use Rattle.terms.proofs.Readings.{fraction-unbounded, Quotient, quotient, signed-fraction, div-reading}
+use Rattle.book.proofs.WellFormed.{WellFormed, well_formed}
 use Rattle.std.specs.Prelude.{Ok, Err}
 use Rattle.terms.specs.Readers.{Reading}
 use Rattle.terms.specs.declared.term.NotRead.TheVariants.{NotNumber, OutOfRange}
@@ -175,3 +177,11 @@ pub as_fraction-value :
     (t : Term) → WellFormed t → (q : Rational) → as_fraction unbounded t ≡ Ok q → (ρ : Assignment) →
     (as_pair (value ρ t) ≈ Rational.value q) × Lowest q
 as_fraction-value t w q e ρ = let m = fraction_means t w q e in (m.meant ρ, m.lowest)
+
+-- a record of a book that is read without a refusal, read in document 01's range
+pub record_fraction-value :
+    (b : Bytes) (n : ℕ) → read_book b ≡ Ok n → (i : ℕ) → i < n → (q : Rational) →
+    as_fraction ranged (tree b i) ≡ Ok q → (ρ : Assignment) →
+    (as_pair (value ρ (tree b i)) ≈ Rational.value q) × Lowest q
+record_fraction-value b n r i h q e =
+    as_fraction-value (tree b i) (well_formed b n r i h) q (fraction-unbounded ranged (tree b i) q e)

@@ -4,6 +4,7 @@
 // on; a number k stands for record k - 1, and 0 ends a chain. Records enter at the front, so the numbers on a chain
 // fall.
 ghost use Rattle.std.specs.Prelude.{◌≡◌, ◌+◌, ◌≤◌, ◌<◌, length};
+ghost use Rattle.numbers.specs.Bytes.{Bytes};
 ghost use Rattle.terms.specs.Book.{record_of, stands};
 ghost use Rattle.book.specs.Memory.RecordIndex.{chain, Indexed, Beside, Unused};
 
@@ -12,7 +13,7 @@ use terms::areas::{HEADS_AT, INDEX_END, LINKS_AT};
 use terms::records::record;
 
 // The chain of a record's bytes, by a hash of them.
-fn chain(r: &[u8]) -> usize
+pub(crate) fn chain(r: &[u8]) -> usize
     ensures { (result ≡ chain r.now) × (result < 1024) }
 {
     let h = r.iter().fold(
@@ -22,13 +23,14 @@ fn chain(r: &[u8]) -> usize
     usize::from(h / 64)
 }
 
-// Whether an earlier record has the bytes of record `id`.
-pub(crate) fn found(book: &[u8], work: &[u8], id: usize) -> bool
-    requires { Indexed id book.now work.now }
+// Whether an earlier record has the bytes of record `id`, whose chain is h.
+pub(crate) fn found(book: &[u8], work: &[u8], id: usize, h: usize) -> bool
+    requires indexed { Indexed id book.now work.now }
+    requires h_value { (h ≡ chain (record_of book.now id)) × (h < 1024) }
     ensures { result ≡ stands id book.now (record_of book.now id) }
 {
     let r = record(book, id);
-    let mut k = read_u16(work, HEADS_AT + 2 * chain(r)) as usize;
+    let mut k = read_u16(work, HEADS_AT + 2 * h) as usize;
     // A while, since each link says which record is looked at next.
     while 0 < k {
         if same_bytes(record(book, k - 1), r) {
@@ -39,13 +41,13 @@ pub(crate) fn found(book: &[u8], work: &[u8], id: usize) -> bool
     false
 }
 
-// Enters record `id` at the front of its chain.
-pub(crate) fn enter(book: &[u8], work: &mut [u8], id: usize)
-    requires { Indexed id book.now work.old × (id < 2048) }
-    ensures { Indexed (id + 1) book.now work.new
-        × Beside work.new work.old }
+// Enters record `id` at the front of its chain, which is h.
+pub(crate) fn enter(work: &mut [u8], id: usize, h: usize)
+    requires { (id < 2048) × (h < 1024) }
+    ensures { (b : Bytes) → Indexed id b work.old → h ≡ chain (record_of b id) →
+        Indexed (id + 1) b work.new × Beside work.new work.old }
 {
-    let at = HEADS_AT + 2 * chain(record(book, id));
+    let at = HEADS_AT + 2 * h;
     let first = read_u16(work, at);
     write_u16(work, LINKS_AT + 2 * id, first);
     write_u16(work, at, (id + 1) as u32);

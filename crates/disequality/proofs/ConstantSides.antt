@@ -1,6 +1,7 @@
 -- A relation whose right side is a number: the walk of that side makes one visit and no entry, and subtracting it
 -- changes the constant alone.
 --     constant-walk       the walk of a number
+--     proper-step       the number that the code has for a step
 --     no_walk, constant-walks       what `constant_side` answers
 --     none_held, none_comb       a sum of no entries
 --     bounded_out, bounded-left       what `bounded` leaves in areas 1 and 2
@@ -68,6 +69,9 @@ unfolding from_term constant_side visit assert ◌>>=◌
 constant-walk t e limit v h =
     let yes = le-leb (suc v) limit (omega arith) in
     number-walk t e (limited limit) (whole (pos 1)) (walked new v) ∙ rw (yes, add-one)
+
+pub proper-step : {step one : Rational} → one ≡ step → Proper step → Proper one
+proper-step e = subst Proper (sym e)
 
 -- ---- an area without entries
 

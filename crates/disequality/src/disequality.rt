@@ -5,8 +5,9 @@ ghost use Rattle.numbers.specs.Rational.{Proper, whole};
 ghost use Rattle.numbers.specs.Bytes.{Bytes};
 ghost use Rattle.terms.specs.Term.{Term};
 ghost use Rattle.terms.specs.Book.{count, tree};
-ghost use Rattle.std.specs.Prelude.{Ok};
+ghost use Rattle.std.specs.Prelude.{Ok, IfErr};
 ghost use Rattle.rules.specs.Limits.{limited};
+ghost use Rattle.rules.specs.declared.refusal.Refusal.TheVariants.{NumberRange};
 ghost use Rattle.index_map.specs.IndexMap.{Map, combination};
 ghost use Rattle.linear_walk.specs.LinearTerms.{from_term};
 ghost use Rattle.disequality.specs.Disequality.{inner, negate_operator, negate_disequality, turned, disequality_of};
@@ -262,7 +263,8 @@ fn is_integer_times(d: Number, a: Number) -> bool
 // The constant is rounded down, and then raised.
 fn raised(len: usize, floor: Number, step: i64) -> Result<(u8, LinearComb), Refusal>
     requires { Proper floor × Proper (whole step) }
-    ensures { (m : Map Term) → len ≡ length m → (l : ℕ) →
+    ensures refused { IfErr result (λ r. r ≡ NumberRange) }
+    ensures value { (m : Map Term) → len ≡ length m → (l : ℕ) →
         StrengthenedIs m result (raised (limited l) (combination m floor) step) }
 {
     let constant = floor.add(Number::whole(step)).ok_or(Refusal::NumberRange)?;
@@ -277,7 +279,8 @@ pub fn strengthen(
     a: Number,
 ) -> Result<(u8, LinearComb), Refusal>
     requires { SumScales s a }
-    ensures { (b : Bytes) (k : Kept b entries.now s.len) (l : ℕ) →
+    ensures refused { IfErr result (λ r. r ≡ NumberRange) }
+    ensures value { (b : Bytes) (k : Kept b entries.now s.len) (l : ℕ) →
         StrengthenedIs k.map result (strengthen (limited l) o (comb_of b entries.now s) a) }
 {
     let whole = is_integer_times(s.constant, a);

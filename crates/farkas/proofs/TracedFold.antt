@@ -59,7 +59,7 @@ areas-left a r {n} {x} front size back =
     sym (take-append-drop n r) ∙ ap₂ (λ (y z : Bytes). y ++ z) front (back ∙ ap (λ k. drop k a) size)
 
 module _ {b o t o' t' : Bytes} {out : Out} {s : Writing} (h : Lies b o' t' out s) (backs : Backs out o o' t t') where
-  counts_leave : (r : Result (ℕ × Out)) → Counts r s → Leaves o t o' t' r s
+  pub counts_leave : (r : Result (ℕ × Out)) → Counts r s → Leaves o t o' t' r s
   counts_leave r counts =
       let tail = h.stored.tail_size ∙ sym (tail_bytes-length s.done.tail) in
       record {

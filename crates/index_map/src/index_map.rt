@@ -2,13 +2,14 @@
 // record number in two bytes and a number in eight; after the entries come zeros. How many there are is carried by
 // value, since an area is lent, is longer than what is used of it, and nothing is allocated. A refusal leaves the area
 // empty.
-ghost use Rattle.std.specs.Prelude.{◌≡◌, true, not, ℕ, ◌+◌, ◌*◌, ◌/◌, ◌≤◌, ◌<◌, eqb, length, MatchOption, Ok};
+ghost use Rattle.std.specs.Prelude.{◌≡◌, true, not, ℕ, ◌+◌, ◌*◌, ◌/◌, ◌≤◌, ◌<◌, eqb, length, MatchOption, Ok, IfErr};
 ghost use Rattle.std.specs.List.{list_all};
 ghost use Rattle.numbers.specs.Rational.{Makes, Proper};
 ghost use Rattle.numbers.specs.Bytes.{Bytes, le, number_at};
 ghost use Rattle.terms.specs.Term.{Term};
 ghost use Rattle.terms.specs.Book.{count, tree};
 ghost use Rattle.rules.specs.Limits.{limited};
+ghost use Rattle.rules.specs.declared.refusal.Refusal.TheVariants.{NumberRange};
 ghost use Rattle.index_map.specs.IndexMap.{insert, get};
 ghost use Rattle.index_map.specs.Memory.Entries.{most_entries, terms, keys_of, entries_of, place, put_entry, blanked};
 ghost use Rattle.index_map.specs.Memory.Entries.{sums, absent, Kept, Grown, Inserts, CoefficientIs};
@@ -157,6 +158,7 @@ pub fn append(entries: &mut [u8], n: usize, key: usize, value: Number) -> usize
 pub fn insert(entries: &mut [u8], n: usize, key: usize, value: Number) -> Result<usize, Refusal>
     requires { NewEntry n key value }
     ensures grown { Grown n result }
+    ensures refused { IfErr result (λ r. r ≡ NumberRange) }
     ensures inserts { (b : Bytes) → Kept b entries.old n → key < count b → (l : ℕ) →
         Inserts b entries.new result
         (insert terms (limited l) (entries_of b entries.old n) (tree b key) value) }

@@ -1,8 +1,8 @@
 -- The arguments that a part names, read as numbers, and the functions `read_args` and `argument_at`: by place, and from
 -- a place on.
---     all_read, read_args-drop       whether all are numbers; those behind a place
+--     all_read, read_first, read_args-drop       whether all are numbers, by the first; those behind a place
 --     ArgumentAt, argument_at_lem, argument-past       the number at a place
---     ReadSoFar, read_again, read-refused, read-end       the loop of `read_args`
+--     ReadSoFar, read-begin, read_again, read-refused, read-end       the loop of `read_args`
 --     argument_of_lem, argument-proper, argument-beyond       what `argument_at` answers
 use mathlib.Core.Path.{◌≡◌, refl, sym, ap, ◌∙◌}
 use mathlib.Core.List.{List, [], ◌∷◌}
@@ -35,7 +35,8 @@ module _ (l : Limits) where
   all_read ts = read_args l ts >>= λ qs. Ok tt
 
   -- the first is a number, and the others are left
-  read_first : (t : Term) (ts : List Term) {q : Rational} → Ok q ≡ fraction_err l t → all_read (t ∷ ts) ≡ all_read ts
+  pub read_first :
+      (t : Term) (ts : List Term) {q : Rational} → Ok q ≡ fraction_err l t → all_read (t ∷ ts) ≡ all_read ts
   unfolding read_args ◌>>=◌
   read_first t ts {q} h = rw (sym h, read_args) (go (read_args l ts))
     where
@@ -118,6 +119,9 @@ module _ (b p : Bytes) where
   pub record ReadSoFar (k : ℕ) : Type 0 where
     pub inside : k ≤ length p / 4
     pub left : (n : ℕ) → all_read (limited n) (terms_in b p) ≡ all_read (limited n) (drop k (terms_in b p))
+
+  pub read-begin : ReadSoFar 0
+  read-begin = record { inside = omega arith; left = λ n. refl }
 
   pub read-end : (k : ℕ) → ReadSoFar k → length p / 4 ≤ k → (n : ℕ) → Ok tt ≡ all_read (limited n) (terms_in b p)
   unfolding read_args ◌>>=◌

@@ -1,9 +1,10 @@
 // `impl LinearComb` of src/checker/rules/linear_arithmetic.rs, on one combination: its entries lie in an area of the
 // work area, their number and the constant are carried by value. A refusal leaves the area empty.
-ghost use Rattle.std.specs.Prelude.{◌≡◌, ℕ, ◌≤◌, nat_abs};
+ghost use Rattle.std.specs.Prelude.{◌≡◌, ℕ, ◌≤◌, nat_abs, IfErr};
 ghost use Rattle.numbers.specs.Rational.{Proper, limit, whole};
 ghost use Rattle.numbers.specs.Bytes.{Bytes};
 ghost use Rattle.rules.specs.Limits.{limited};
+ghost use Rattle.rules.specs.declared.refusal.Refusal.TheVariants.{NumberRange};
 ghost use Rattle.index_map.specs.IndexMap.{neg_all, scale_all};
 ghost use Rattle.linear_comb.specs.LinearComb.{mul, gcd_from, coefficients_gcd};
 ghost use Rattle.index_map.specs.Memory.Entries.{most_entries, entries_of, Held, Kept, Inserts};
@@ -38,7 +39,8 @@ pub fn neg(entries: &mut [u8], s: LinearComb) -> LinearComb
 // Multiplies each of n entries. How many there are then.
 fn scale_all(entries: &mut [u8], n: usize, q: Number) -> Result<usize, Refusal>
     requires { (n ≤ most_entries) × Proper q }
-    ensures { (b : Bytes) → Kept b entries.old n → (l : ℕ) →
+    ensures refused { IfErr result (λ r. r ≡ NumberRange) }
+    ensures inserts { (b : Bytes) → Kept b entries.old n → (l : ℕ) →
         Inserts b entries.new result (scale_all (limited l) q (entries_of b entries.old n)) }
 {
     for k in 0..n {
@@ -56,7 +58,8 @@ fn scale_all(entries: &mut [u8], n: usize, q: Number) -> Result<usize, Refusal>
 // Multiplies a combination, in its own place.
 pub fn mul(entries: &mut [u8], s: LinearComb, q: Number) -> Result<LinearComb, Refusal>
     requires { SumScales s q }
-    ensures { (b : Bytes) → KeptSum b entries.old s → (l : ℕ) →
+    ensures refused { IfErr result (λ r. r ≡ NumberRange) }
+    ensures combines { (b : Bytes) → KeptSum b entries.old s → (l : ℕ) →
         Combines b entries.new result (mul (limited l) (comb_of b entries.old s) q) }
 {
     if q.is_zero() {

@@ -1,10 +1,11 @@
 // A bit for each record of a book. A walk notes the records that it enters as atoms: one that is not noted is no key of
 // an entry, and need not be sought.
-ghost use Rattle.std.specs.Prelude.{◌≡◌, ℕ, ◌<◌};
+ghost use Rattle.std.specs.Prelude.{◌≡◌, ℕ, ◌<◌, IfErr};
 ghost use Rattle.numbers.specs.Bytes.{Bytes};
 ghost use Rattle.terms.specs.Book.{count, tree};
 ghost use Rattle.terms.specs.Format.{max_records};
 ghost use Rattle.rules.specs.Limits.{limited};
+ghost use Rattle.rules.specs.declared.refusal.Refusal.TheVariants.{NumberRange};
 ghost use Rattle.index_map.specs.IndexMap.{insert};
 ghost use Rattle.index_map.specs.Memory.Entries.{terms, entries_of, Kept, Inserts, NewEntry};
 ghost use Rattle.linear_comb.specs.Memory.Notes.{is_noted, with_note, noting, Noted};
@@ -45,6 +46,7 @@ pub fn enter(
 ) -> Result<usize, Refusal>
     requires { NewEntry n x value × (x < max_records) }
     ensures noted_after { noted.new ≡ noting noted.old x }
+    ensures refused { IfErr result (λ r. r ≡ NumberRange) }
     ensures inserts { (b : Bytes) → Kept b entries.old n → x < count b →
         Noted noted.old (entries_of b entries.old n) → (l : ℕ) →
         Inserts b entries.new result

@@ -1,9 +1,9 @@
 -- The walk of a record's arguments, one after the other. `Walking` is the invariant of its loop: what is left to walk
 -- from argument k on, from the sum that the area's bytes hold now, is the whole walk; and all atoms in the area are
 -- noted.
---     walking_same, walking_more, walking_refused, walking_done       along the loop
+--     walking_none, walking_same, walking_more, walking_refused, walking_done       along the loop
 --     argument-below, argument_pre       what the walk of argument k asks
-use mathlib.Core.Path.{◌≡◌, ◌∙◌}
+use mathlib.Core.Path.{◌≡◌, refl, ◌∙◌}
 use mathlib.Core.List.{List}
 use Prim.Native.Nat.{ℕ, ◌+◌, ◌/◌, ◌≤◌, ◌<◌}
 use native.Mathlib.Omega.{arith}
@@ -60,6 +60,19 @@ pub record Walking
   pub left :
       each_from b id (numbers args) limit first others w₀ u₀
       ≡ each_from b id (drop k (numbers args)) limit coeff others w u
+
+pub walking_none :
+    {b w₀ args : Bytes} {id limit : ℕ} {first others : Rational} {u₀ : by_value.Walked} {ns₀ : List ℕ} →
+    ArgsPre b w₀ args id first others u₀.sum ns₀ → Walking b w₀ args id limit first others u₀ w₀ u₀ first ns₀ 0
+walking_none pre =
+    record {
+      inside = omega arith;
+      long = refl;
+      kept = pre.sum;
+      atoms = pre.atoms;
+      proper = pre.proper.0;
+      left = refl;
+    }
 
 module _
     {b w₀ args : Bytes} {id limit : ℕ} {first others : Rational} {u₀ : by_value.Walked} {ns₀ : List ℕ}

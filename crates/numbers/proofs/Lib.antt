@@ -24,6 +24,7 @@ pub mod LittleEndian
 pub mod ByteArrays
 pub mod TwosComplement
 pub mod StoredNumbers
--- bytes that are the same, and bytes that are cleared
+-- bytes: the same, copied, cleared
 pub mod SameBytes
+pub mod CopiedBytes
 pub mod ClearedBytes

@@ -4,18 +4,18 @@
 --     last m            the last operation's result: `fits m tt : SFits w64 (last m)` answers its need
 --     machine m         what the next operation, a call or the `returns` has of it: `back m tt : machine m ≡ exact m`
 --     good m            whether the bounds keep every step below 2 ^ 63: it computes, so that `tt` proves it
---     negated            -m, with what the machine has of it
+--     negated, flipped  -m and -1 - m, with what the machine has of them
 --     at_negative, at_natural       a test of the sign as a case distinction
 --     eqb-of_z           two numbers are equal where their bits are
 use mathlib.Core.Path.{◌≡◌, refl, sym, ◌∙◌, ap, ap₂, subst}
 use mathlib.Core.Bool.{Bool, true, false, ◌&&◌}
-use Prim.Native.Nat.{ℕ, suc, ◌+◌, ◌-◌, ◌*◌, ◌≤◌, ◌<◌, ◌^◌}
-use native.Mathlib.Nat.{mul-le-mul, add-le-add, le_trans, lt_of_le_of_lt, le_refl}
+use Prim.Native.Nat.{ℕ, zero, suc, ◌+◌, ◌-◌, ◌*◌, ◌≤◌, ◌<◌, ◌^◌}
+use native.Mathlib.Nat.{mul-le-mul, div-le_self, add-le-add, le_trans, lt_of_le_of_lt, le_refl}
 use native.Mathlib.Omega.{arith}
 use borrow.Author.Tests.{ltb-true, eqb-true, eqb-false, eq-eqb, ne_eqb}
 use lib.Dec.{T, ltb, ltb→lt, eqb}
-use lib.IntN.{ℤ, pos, negsuc, nat_abs, neg_ℤ, ◌+ℤ◌, ◌-ℤ◌, ◌*ℤ◌, +ℤ_idl}
-use lib.Signed.{mag, lt_z}
+use lib.IntN.{ℤ, pos, negsuc, nat_abs, neg_ℤ, ◌+ℤ◌, ◌-ℤ◌, ◌*ℤ◌, +ℤ_idl, +ℤ_comm, -ℤ_one}
+use lib.Signed.{mag, quot_z, lt_z}
 use mir.Syntax.{w64}
 use mir.Val.{SFits, to_z, of_z}
 use mir.Facts.{to_z-of_z, and_yes}
@@ -28,24 +28,33 @@ R z = to_z w64 (of_z w64 z)
 -- ---- one operation
 
 pub data Operation : Type 0 where
-  plus minus times : Operation
+  plus minus times over : Operation
 
 abbrev pub apply : Operation → ℤ → ℤ → ℤ
 apply plus x y = x +ℤ y
 apply minus x y = x -ℤ y
 apply times x y = x *ℤ y
+apply over x y = quot_z x y
 
 -- a bound of the result's size, from bounds of the operands' sizes
 abbrev pub bound : Operation → ℕ → ℕ → ℕ
 bound plus m n = m + n
 bound minus m n = m + n
 bound times m n = m * n
+bound over m n = m
+
+nat_abs-quot_z-le : (x y : ℤ) → nat_abs (quot_z x y) ≤ nat_abs x
+nat_abs-quot_z-le (pos a) (pos b) = div-le_self a b
+nat_abs-quot_z-le (pos a) (negsuc b) = rw nat_abs_negℤ (div-le_self a (suc b))
+nat_abs-quot_z-le (negsuc a) (pos b) = rw nat_abs_negℤ (div-le_self (suc a) b)
+nat_abs-quot_z-le (negsuc a) (negsuc b) = div-le_self (suc a) (suc b)
 
 apply-le-bound :
     (o : Operation) (x y : ℤ) {m n : ℕ} → nat_abs x ≤ m → nat_abs y ≤ n → nat_abs (apply o x y) ≤ bound o m n
 apply-le-bound plus x y h k = le_trans (nat_abs_+ℤ_le x y) (add-le-add h k)
 apply-le-bound minus x y h k = le_trans (nat_abs_+ℤ_le x (neg_ℤ y)) (add-le-add h (rw nat_abs_negℤ k))
 apply-le-bound times x y h k = rw nat_abs_*ℤ (mul-le-mul h k)
+apply-le-bound over x y h k = le_trans (nat_abs-quot_z-le x y) h
 
 -- ---- an expression
 
@@ -55,7 +64,7 @@ pub data Code : Type 0 where
   op : Operation → Code → Code → Code
 
 infixl 60 ◌⊞◌ ◌⊟◌
-infixl 70 ◌⊠◌
+infixl 70 ◌⊠◌ ◌⊘◌
 abbrev pub ◌⊞◌ : Code → Code → Code
 a ⊞ b = op plus a b
 
@@ -64,6 +73,9 @@ a ⊟ b = op minus a b
 
 abbrev pub ◌⊠◌ : Code → Code → Code
 a ⊠ b = op times a b
+
+abbrev pub ◌⊘◌ : Code → Code → Code
+a ⊘ b = op over a b
 
 abbrev pub machine : Code → ℤ
 machine (arg z n h) = R z
@@ -137,13 +149,32 @@ back m t = (sound m t).1
 pub fits : (m : Code) → T (good m) → SFits w64 (last m)
 fits m t = subst (SFits w64) (sym (sound m t).0) (exact-fits m t)
 
--- ---- -m
+-- ---- -m, and -1 - m, which takes negative numbers to natural ones and back
 
 abbrev pub negated : Code → Code
 negated m = lit (pos 0) ⊟ m
 
 pub back-negated : (m : Code) → T (good (negated m)) → machine (negated m) ≡ neg_ℤ (exact m)
 back-negated m t = back (negated m) t ∙ +ℤ_idl (neg_ℤ (exact m))
+
+abbrev pub flip : ℤ → ℤ
+flip (pos n) = negsuc n
+flip (negsuc n) = pos n
+
+pub minus_one_sub : (z : ℤ) → negsuc 0 -ℤ z ≡ flip z
+minus_one_sub (pos zero) = +ℤ_comm (negsuc 0) (pos 0) ∙ -ℤ_one (pos 0)
+minus_one_sub (pos (suc n)) = +ℤ_comm (negsuc 0) (negsuc n) ∙ -ℤ_one (negsuc n)
+minus_one_sub (negsuc n) = +ℤ_comm (negsuc 0) (pos (suc n)) ∙ -ℤ_one (pos (suc n))
+
+pub flip-fits : (z : ℤ) → SFits w64 z → SFits w64 (flip z)
+flip-fits (pos n) f = record { sfits = f.sfits }
+flip-fits (negsuc n) f = record { sfits = f.sfits }
+
+abbrev pub flipped : Code → Code
+flipped m = lit (negsuc 0) ⊟ m
+
+pub back-flipped : (m : Code) → T (good (flipped m)) → machine (flipped m) ≡ flip (exact m)
+back-flipped m t = back (flipped m) t ∙ minus_one_sub (exact m)
 
 -- ---- the sign: what holds of every number of a sign holds of z, where x, which is z, passes the test
 

@@ -1,7 +1,7 @@
 -- Arithmetic modulo m, for every m, and an odd factor modulo every power of 2. Two numbers are congruent where they differ by a multiple of m;
 -- the floor of z/m and `modulo z m` of specs/Rational are a quotient and remainder, so congruent numbers are those with one remainder.
 --     cong_refl, cong_sym, cong_trans, cong_of_eq       congruence is an equivalence
---     cong_add, cong_neg, cong_mul       and goes with sums, differences and products
+--     cong_add, cong_neg, cong_sub, cong_mul       and goes with sums, differences and products
 --     floor-modulo, modulo_lt, modulo_cong       z is (floor of z/m) m + modulo z m, and the remainder is below m
 --     eq_of_cong_of_lt, modulo-eq_of_cong, cong_of_modulo-eq       equal remainders and congruence are the same
 --     odd_cancel_zero, odd_cancel       an odd factor is cancelled modulo 2 ^ w
@@ -63,6 +63,9 @@ module _ {m : ℕ} where
             deriveℤ (x ∷ y ∷ h.factor ∷ pos m ∷ []) (λ x y k m. neg x ≐ neg y ⊕ neg k ⊗ m from neg 𝟙 · x ≐ y ⊕ k ⊗ m) tt
             h.differ;
       }
+
+  pub cong_sub : {x y u v : ℤ} → Cong m x y → Cong m u v → Cong m (x -ℤ u) (y -ℤ v)
+  cong_sub h l = cong_add h (cong_neg l)
 
   pub cong_mul : {x y u v : ℤ} → Cong m x y → Cong m u v → Cong m (x *ℤ u) (y *ℤ v)
   cong_mul {x} {y} {u} {v} h l =

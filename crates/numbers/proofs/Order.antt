@@ -1,7 +1,7 @@
 -- The order of the integers. One idea carries every law: a ≤ b says that b - a is not negative, and a < b that b - (a + 1) is not. Such numbers
 -- have sums and products that are not negative, so a law is a sum or product of what is given and an identity (`le_of_sub-eq`, `lt_of_sub-eq`).
 --     le_refl, le_trans, lt_of_lt_of_le, lt_of_le_of_lt, lt_irrefl, le_of_lt, le_antisymm, le_or_lt       the order itself
---     add_lt_add_of_lt_of_le, mul-le-mul_of_nonneg, mul_lt_mul_of_pos, mul-pos       with sums and products
+--     add-le-add, add_lt_add_of_lt_of_le, neg-le-neg, mul-le-mul_of_nonneg, mul_lt_mul_of_pos, mul-pos       with sums and products
 --     le_of_mul_le_mul_right, lt_of_mul_lt_mul_right       a factor is cancelled
 use mathlib.Core.Path.{◌≡◌, refl, sym, ◌∙◌, ap, subst, subst₂}
 use mathlib.Core.Logic.{◌⊎◌, inl, inr, ⊎_elim}
@@ -117,9 +117,16 @@ le_antisymm {a} {b} h k =
 
 -- ---- the order with sums, negation and products
 
+pub add-le-add : {a b c d : ℤ} → a ≤ℤ b → c ≤ℤ d → (a +ℤ c) ≤ℤ (b +ℤ d)
+add-le-add {a} {b} {c} {d} h k =
+    le_of_sub-eq (add-nonneg (sub-nonneg_of_le h) (sub-nonneg_of_le k)) (solveℤ (a ∷ b ∷ c ∷ d ∷ []) (λ a b c d. b ⊕ d ⊖ (a ⊕ c) ≐ (b ⊖ a) ⊕ (d ⊖ c)) tt)
+
 pub add_lt_add_of_lt_of_le : {a b c d : ℤ} → a <ℤ b → c ≤ℤ d → (a +ℤ c) <ℤ (b +ℤ d)
 add_lt_add_of_lt_of_le {a} {b} {c} {d} h k =
     lt_of_sub-eq (add-nonneg (sub-nonneg_of_lt h) (sub-nonneg_of_le k)) (solveℤ (a ∷ b ∷ c ∷ d ∷ []) (λ a b c d. b ⊕ d ⊖ (a ⊕ c ⊕ 𝟙) ≐ (b ⊖ (a ⊕ 𝟙)) ⊕ (d ⊖ c)) tt)
+
+pub neg-le-neg : {a b : ℤ} → a ≤ℤ b → neg_ℤ b ≤ℤ neg_ℤ a
+neg-le-neg {a} {b} h = le_of_sub-eq (sub-nonneg_of_le h) (solveℤ (a ∷ b ∷ []) (λ a b. neg a ⊖ neg b ≐ b ⊖ a) tt)
 
 pub mul-le-mul_of_nonneg : {a b c : ℤ} → a ≤ℤ b → pos 0 ≤ℤ c → (a *ℤ c) ≤ℤ (b *ℤ c)
 mul-le-mul_of_nonneg {a} {b} {c} h k =

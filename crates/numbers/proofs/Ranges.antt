@@ -1,9 +1,9 @@
 -- What the tests of a number's range say, the answers that the contracts ask for, and the parts of numbers in range as
 -- the machine has them.
 --     in_range_of_sizes, sizes_of_in_range, large-num, large-den       the test and the sizes of the parts
---     checked_is, value_of_checked, proper_of_checked       the answer and the test
+--     checked_is, value_of_checked, out_of_checked, proper_of_checked       the answer and the test
 --     makes, gives, gives_same       `Makes` and `Gives` from an equation
---     proper-neg, proper_abs, proper-floor       what is always in range
+--     checked_of_proper, proper-neg, proper_abs, proper-floor       what is always in range
 --     num, den, nums, dens, left_cross, right_cross       parts and their products as expressions of `Machine`
 use mathlib.Core.Path.{◌≡◌, refl, sym, ◌∙◌, ap, ap₂, subst}
 use mathlib.Core.Bool.{Bool, true, false, cond}
@@ -57,6 +57,13 @@ module _ (q : Rational) where
       go true h = let d = checked_is h in (cc, h)
       go false h = let d = checked_is h in let z : ◌≡◌ {A = ℕ} 0 1 = cc in absurd (omega arith)
 
+  pub out_of_checked : checked q ≡ None → in_range q ≡ false
+  out_of_checked e = go (in_range q) refl
+    where
+      go : (t : Bool) → in_range q ≡ t → in_range q ≡ false
+      go true h = let d = checked_is h in cc
+      go false h = h
+
   pub proper_of_checked : pos 0 <ℤ q.den → (r : Rational) → checked q ≡ Some r → Proper r
   proper_of_checked p r e =
       let v = value_of_checked r e in
@@ -84,6 +91,9 @@ pub gives_same : {r : Checked} {p q : Rational} → p ≡ q → Gives r (checked
 gives_same {r} = subst (λ (q : Rational). Gives r (checked q))
 
 -- ---- negation, absolute value and floor stay in range: the test that document 01 makes of them always passes
+
+pub checked_of_proper : {q : Rational} → Proper q → checked q ≡ Some q
+checked_of_proper {q} p = sym (checked_is q (in_range_of_sizes q p.numerator p.denominator))
 
 pub proper-neg : {q : Rational} → Proper q → Proper (neg_q q)
 unfolding neg_q

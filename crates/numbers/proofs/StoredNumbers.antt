@@ -2,22 +2,22 @@
 -- in range. At the end stand the facts by which `Number::read` and `Number::write` meet their contracts.
 use mathlib.Core.Path.{◌≡◌, refl, sym, ap, ap₂, ◌∙◌, subst}
 use mathlib.Core.Bool.{Bool, true, false, ◌&&◌, cond, and-false}
-use mathlib.Core.Logic.{inl}
+use mathlib.Core.Logic.{◌⊎◌, ⊎_elim, inl, inr}
 use Prim.Native.Nat.{ℕ, ◌+◌, ◌/◌, ◌^◌, ◌≤◌, ◌<◌}
 use native.Mathlib.Nat.{mod-eq_of_lt}
 use native.Mathlib.Omega.{arith}
 use borrow.Author.Tests.{le-leb, lt-leb, le-ltb, lt-ltb, leb-true}
 use lib.Dec.{leb, lit≤, T}
 use lib.IntN.{ℤ, pos, negsuc, nat_abs}
-use lib.ListN.{length}
+use lib.ListN.{length, get_or}
 use lib.Signed.{mag, lt_z, ◌<ℤ◌}
 use mir.Facts.{to_z-of_z, to_z_pos}
 use mir.Syntax.{w64}
 use mir.Val.{SFits}
 use Rattle.numbers.specs.Bytes.{Bytes, le, put, room, signed, complement, number_at, put_number, or_zero}
 use Rattle.numbers.specs.Rational.{Rational, frac, whole, limit, in_range, Proper, Makes, checked}
-use Rattle.numbers.proofs.LittleEndian.{cond_either, le-outside, length-put}
-use Rattle.numbers.proofs.LittleEndian.{le-put_elsewhere, read-after-write-small}
+use Rattle.numbers.proofs.LittleEndian.{Apart, cond_either, le-outside, length-put, byte-put_elsewhere}
+use Rattle.numbers.proofs.LittleEndian.{le_elsewhere, le-put_elsewhere, read-after-write-small}
 use Rattle.numbers.proofs.Machine.{R}
 use Rattle.numbers.proofs.TwosComplement.{complement-below, signed-complement}
 use Rattle.numbers.specs.Rational.{Checked}
@@ -51,6 +51,34 @@ length-put_number q b i =
     put_number-either q b i (λ (x : Bytes). length x ≡ length b)
     (length-put 4 (complement 4 q.den) half (i + 4) ∙ length-put 4 (complement 4 q.num) b i)
     refl
+
+pub byte-put_number_elsewhere :
+    (q : Rational) (b : Bytes) (i j : ℕ) → (j < i) ⊎ (i + 8 ≤ j) → get_or (put_number q b i) j 0 ≡ get_or b j 0
+byte-put_number_elsewhere q b i j apart =
+    let half : Bytes = put 4 (complement 4 q.num) b i in
+    put_number-either q b i (λ (x : Bytes). get_or x j 0 ≡ get_or b j 0)
+    (byte-put_elsewhere 4 (complement 4 q.den) half (i + 4) j (part (i + 4) (omega arith) (omega arith))
+    ∙ byte-put_elsewhere 4 (complement 4 q.num) b i j (part i (omega arith) (omega arith)))
+    refl
+  where
+    part : (k : ℕ) → i ≤ k → k + 4 ≤ i + 8 → (j < k) ⊎ (k + 4 ≤ j)
+    part k p q = ⊎_elim (λ o. inl (omega arith)) (λ o. inr (omega arith)) apart
+
+pub le-put_number_elsewhere :
+    (m : ℕ) (q : Rational) (b : Bytes) (i j : ℕ) → Apart m j 8 i → le m (put_number q b i) j ≡ le m b j
+le-put_number_elsewhere m q b i j =
+    le_elsewhere m 8 (put_number q b i) b i j (length-put_number q b i) (byte-put_number_elsewhere q b i)
+
+pub number_at-put_number_elsewhere :
+    (q : Rational) (b : Bytes) (i j : ℕ) → Apart 8 j 8 i → number_at (put_number q b i) j ≡ number_at b j
+unfolding number_at
+number_at-put_number_elsewhere q b i j apart =
+    ap₂ (λ (n d : ℕ). or_zero (frac (signed 4 n) (pos d)))
+    (part j (omega arith) (omega arith))
+    (part (j + 4) (omega arith) (omega arith))
+  where
+    part : (k : ℕ) → j ≤ k → k + 4 ≤ j + 8 → le 4 (put_number q b i) k ≡ le 4 b k
+    part k p r = le-put_number_elsewhere 4 q b i k (⊎_elim (λ o. inl (omega arith)) (λ o. inr (omega arith)) apart)
 
 -- ---- the test of a read
 

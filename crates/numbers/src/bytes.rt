@@ -25,7 +25,10 @@ pub fn paste(area: &mut [u8], at: usize, part: &[u8])
     ensures { area.new ≡ paste area.old at part.now
         (length part.now) }
 {
-    area[at..at + part.len()].copy_from_slice(part);
+    // `copy_from_slice` would ask the system's library for memmove
+    for k in 0..part.len() {
+        area[at + k] = part[k];
+    }
 }
 
 // Zeros from byte n on.

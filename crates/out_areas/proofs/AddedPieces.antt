@@ -1,6 +1,6 @@
 -- The two pieces of an inferred number: an A record behind the run, and a constant behind those of the tail.
 --     arg-longer, arg-full, arg-written, arg_unwritten       an A record
---     constant-longer, constant-full, constant-written, constant_unwritten       a constant
+--     constant-room, constant-longer, constant-full, constant-written, constant_unwritten       a constant
 use mathlib.Core.Path.{◌≡◌, refl, sym, ap, ap₂, subst, ◌∙◌}
 use mathlib.Core.Bool.{Bool, true, false, ◌&&◌}
 use mathlib.Core.List.{List, [], ◌∷◌, ◌++◌, append_assoc, append-nil}
@@ -66,7 +66,7 @@ tail_snoc (r ∷ qs) q =
 length_snoc : (qs : List Rational) (q : Rational) → length (qs ++ q ∷ []) ≡ length qs + 1
 length_snoc qs q = length-append qs (q ∷ [])
 
-constant-room :
+pub constant-room :
     (q : Rational) {x : Bytes} (at m n : ℕ) {r : Bool} → r ≡ (leb (at + 32) m && leb (at + 32) n) → r ≡ true →
     x ≡ real_record q → at + length x ≤ m
 constant-room q {x} at m n goes h put =

@@ -38,7 +38,7 @@ module _ {b w : Bytes} {u v : Map Monomial} (t : Stacked b w (u ∷ v ∷ [])) w
   second_few has = rw has.size t.good.1.0.few
 
 -- a stack of one polynomial
-one_area :
+pub one_area :
     {b w : Bytes} {m : Map Monomial} {s : Poly} → Stacked b w (m ∷ []) → Has s m → StackHas 0 w × (s.len ≤ 64)
 unfolding AllGood
 one_area t has = (omega (arith, stack-room t), rw has.size t.good.0.few)
@@ -83,7 +83,7 @@ module _
     reduced-ready =
         (two-areas two, ((first_few two one_has, second_few two two-has), (one_has.proper, two-has.proper)))
 
-    difference :
+    pub difference :
         {w₃ : Bytes} {r : Result Poly} → Subtracts w₂ w₃ p' q' r → (l : ℕ) →
         area.Combines b w₃ r
         (sub monomials (limited l) (reduced_by sort (comb_with p u)) (reduced_by sort (comb_with q v)))

@@ -36,41 +36,44 @@ use Rattle.polynomial_walk.proofs.PolynomialFactorWalks.{from_none, none_pre, no
 module _
     {b w : Bytes} (empty : Stacked b w []) (room : 30400 ≤ length w) {begun : by_value.Walked} {v : ℕ}
     (none : begun ≡ from_none v) {one : Rational} (unit : one ≡ whole (pos 1)) where
-  side_pre : {id : ℕ} → Laid b → id < count b → TermPre b w id one begun.sum 0
+  pub side_pre : {id : ℕ} → Laid b → id < count b → TermPre b w id one begun.sum 0
   side_pre laid inside =
       none_pre empty (omega arith) none unit laid inside (record { deep = lit≤ tt; high = omega arith })
 
-  side-filled :
+  pub side-filled :
       (id l : ℕ) {w' : Bytes} {r : Result by_value.Walked} → TermWalks b w w' id one begun l 0 r →
       Walks b w' r (from_term (limited l) (tree b id) v)
   unfolding from_term
   side-filled id l fills = none_fills empty (omega arith) none unit id l 0 fills
 
--- ---- `equal`
+-- ---- a stack of zeros
 
-module _ {w₀ : Bytes} (zeros : w₀ ≡ replicate stack_size 0) where
-  zeros-length : length w₀ ≡ stack_size
-  zeros-length = ap length zeros ∙ length-replicate {A = ℕ} stack_size 0
+module _ (n : ℕ) {w : Bytes} (zeros : w ≡ replicate n 0) where
+  pub zeros-length : length w ≡ n
+  zeros-length = ap length zeros ∙ length-replicate {A = ℕ} n 0
 
-  zeros-stack : {b : Bytes} → Stacked b w₀ []
+  pub zeros-stack : {b : Bytes} → Stacked b w []
   zeros-stack = stack_none (zeros ∙ ap (λ k. replicate k 0) (sym zeros-length))
 
-  zeros-again : {b w : Bytes} → Stacked b w [] → length w ≡ length w₀ → w ≡ w₀
+  pub zeros-again : {b w' : Bytes} → Stacked b w' [] → length w' ≡ length w → w' ≡ w
   unfolding stack_bytes
   zeros-again t same = t.bytes ∙ ap (λ k. replicate k 0) (same ∙ zeros-length) ∙ sym zeros
 
+-- ---- `equal`
+
+module _ {w₀ : Bytes} (zeros : w₀ ≡ replicate stack_size 0) where
   -- one is the number that the code has for 1, and begun a walk from nothing
   module _
       (b : Bytes) {one : Rational} (unit : one ≡ whole (pos 1)) {begun : by_value.Walked} {visits : ℕ}
       (none : begun ≡ from_none visits) where
     pub first_pre : {t : ℕ} → Laid b → t < count b → TermPre b w₀ t one begun.sum 0
-    first_pre laid inside = side_pre zeros-stack (omega (arith, zeros-length)) none unit laid inside
+    first_pre laid inside = side_pre (zeros-stack stack_size zeros) (omega (arith, zeros-length stack_size zeros)) none unit laid inside
 
     module _ (l t : ℕ) where
       first :
           {w₁ : Bytes} {r : Result by_value.Walked} → TermWalks b w₀ w₁ t one begun l 0 r →
           Walks b w₁ r (from_term (limited l) (tree b t) visits)
-      first walked = side-filled zeros-stack (omega (arith, zeros-length)) none unit t l walked
+      first walked = side-filled (zeros-stack stack_size zeros) (omega (arith, zeros-length stack_size zeros)) none unit t l walked
 
       -- the answer r, and the bytes w that are left
       abbrev Sides : ℕ → ℕ → Result ℕ → Bytes → Type 0
@@ -83,14 +86,14 @@ module _ {w₀ : Bytes} (zeros : w₀ ≡ replicate stack_size 0) where
       first_refused sort s {w₁} walked same =
           let f = first walked in
           let left : Stacked b w₁ ([] ∷ []) = rw (← f.is.1) f.held in
-          (sym (ends _ f.is.0), zeros-again (stack-less [] left) same)
+          (sym (ends _ f.is.0), zeros-again stack_size zeros (stack-less [] left) same)
 
       -- the first side is walked
       module _
           {w₁ : Bytes} {p : by_value.Walked} (walked : TermWalks b w₀ w₁ t one begun l 0 (Ok p))
           (same : length w₁ ≡ length w₀) where
         room : 30400 ≤ length (lent_above w₁)
-        room = omega (arith, lent_length w₁, same, zeros-length)
+        room = omega (arith, lent_length w₁, same, zeros-length stack_size zeros)
 
         after_first :
             (sort s : ℕ) →
@@ -108,10 +111,10 @@ module _ {w₀ : Bytes} (zeros : w₀ ≡ replicate stack_size 0) where
         -- and the second, which leaves y above the first
         module _ (y : Bytes) (long : length y ≡ length (lent_above w₁)) where
           back_long : length (back_above w₁ y) ≡ length w₀
-          back_long = back-length w₁ y (omega (arith, same, zeros-length)) long ∙ same
+          back_long = back-length w₁ y (omega (arith, same, zeros-length stack_size zeros)) long ∙ same
 
           pub first_area : StackHas 0 (back_above w₁ y) × (p.sum.len ≤ 64)
-          first_area = let f = first walked in (omega (arith, back_long, zeros-length), small f.held f.is.1)
+          first_area = let f = first walked in (omega (arith, back_long, zeros-length stack_size zeros), small f.held f.is.1)
 
           module _ {begun' : by_value.Walked} (none' : begun' ≡ from_none p.visits) (s : ℕ) where
             second :
@@ -129,7 +132,7 @@ module _ {w₀ : Bytes} (zeros : w₀ ≡ replicate stack_size 0) where
                 let up : Stacked b y ([] ∷ []) = rw (← g.is.1) g.held in
                 let down = cleared b _ (back-held f.held long up) (omega arith) f.is.1.size in (
                   sym (after_first sort s ∙ ends _ g.is.0),
-                  zeros-again (stack-less [] (stack-less ([] ∷ []) down)) (kept ∙ back_long),
+                  zeros-again stack_size zeros (stack-less [] (stack-less ([] ∷ []) down)) (kept ∙ back_long),
                 )
 
             module _ {q : by_value.Walked} (walked' : TermWalks b (lent_above w₁) y s one begun' l 0 (Ok q)) where
@@ -148,4 +151,4 @@ module _ {w₀ : Bytes} (zeros : w₀ ≡ replicate stack_size 0) where
               sides-differ sort made kept =
                   let g = second walked' in
                   let d = made b _ _ both (first walked).is.1 g.is.1 l in
-                  (d.is ∙ sym (after_first sort s ∙ next _ g.is.0), zeros-again d.empty (kept ∙ back_long))
+                  (d.is ∙ sym (after_first sort s ∙ next _ g.is.0), zeros-again stack_size zeros d.empty (kept ∙ back_long))

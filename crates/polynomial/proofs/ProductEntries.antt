@@ -8,7 +8,7 @@ use Prim.Native.Nat.{ℕ, suc, ◌+◌, ◌*◌, ◌≤◌, ◌<◌}
 use native.Mathlib.Omega.{arith}
 use borrow.Author.Tests.{le-leb, lt-leb}
 use lib.ListN.{length, get_or, set, take, drop, length-drop}
-use lib.Seq.{length-take-le, split_at}
+use lib.Seq.{length-take-le, split_at, get_or-take, get_or-drop}
 use Rattle.numbers.specs.Rational.{Rational, mul_q, checked}
 use Rattle.numbers.specs.Bytes.{Bytes, number_at}
 use Rattle.rules.specs.Refusal.{Result, ◌>>=◌, assert}
@@ -76,6 +76,19 @@ unfolding part_at
 part_length j w h =
     let rest = length-drop (1600 * j) w in
     length-take-le 1600 (drop (1600 * j) w) (omega arith)
+
+-- the first byte of a monomial
+pub key-byte :
+    (w : Bytes) (j k : ℕ) → k < 64 → ((i : ℕ) → get_or w i 0 < 256) → get_or (key_at (part_at j w) k) 0 0 < 256
+unfolding key_at part_at
+key-byte w j k h known =
+    rw (
+      get_or-take 17 (drop (25 * k) (take 1600 (drop (1600 * j) w))) 0 0 (omega arith),
+      get_or-drop (25 * k) (take 1600 (drop (1600 * j) w)) 0 0,
+      get_or-take 1600 (drop (1600 * j) w) (25 * k + 0) 0 (omega arith),
+      get_or-drop (1600 * j) w (25 * k + 0) 0,
+    )
+    (known (1600 * j + (25 * k + 0)))
 
 module _ {b w : Bytes} (q : Map Monomial) (held : Held b w q) (k : ℕ) (h : k < length q) where
   split : Held b w (take k q ++ get_or q k no_entry ∷ drop (suc k) q)

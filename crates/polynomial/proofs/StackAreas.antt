@@ -63,7 +63,7 @@ module _ {b w : Bytes} {m : Map Monomial} {ms : List (Map Monomial)} (t : Stacke
   above_bytes =
       ap (drop 1600) t.bytes ∙ drop_at (stored places m) (stack_bytes ms (length w - 1600)) 1600 lowest-length
 
-  stack-lowest : Held b (take 1600 w) m
+  pub stack-lowest : Held b (take 1600 w) m
   unfolding AllGood
   stack-lowest = record { bytes = lowest-bytes; good = t.good.0 }
 
@@ -76,7 +76,7 @@ module _ {b w : Bytes} {m : Map Monomial} {ms : List (Map Monomial)} (t : Stacke
       sym (ap length (take-append-drop 1600 w)) ∙ length-append (take 1600 w) (drop 1600 w)
       ∙ ap (λ n. n + length (drop 1600 w)) (ap length lowest-bytes ∙ lowest-length)
 
-stack_cons :
+pub stack_cons :
     {b x v : Bytes} {m : Map Monomial} {ms : List (Map Monomial)} → Held b x m → Stacked b v ms →
     Stacked b (x ++ v) (m ∷ ms)
 unfolding stack_bytes AllGood

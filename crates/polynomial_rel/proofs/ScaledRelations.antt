@@ -1,8 +1,10 @@
 -- The steps of `poly_simp_rel`.
 --     numbers_in_turn       what is left of `number_case` after the coefficients is a step of its own
+--     positive_like       a sign is like a positive one where it is positive
 --     premise_law       the premise is asked for as the conclusion is
 --     one_premise       from the only premise on
 use mathlib.Core.Path.{◌≡◌, refl, sym}
+use mathlib.Core.Bool.{Bool, true, false, beq}
 use mathlib.Core.List.{List, [], ◌∷◌}
 use Rattle.std.specs.Prelude.{Option, Some, None, Ok}
 use Prim.Native.Nat.{ℕ}
@@ -27,6 +29,10 @@ pub numbers_in_turn :
     (signs_of l p.0 p.2 >>= λ same. relation_case same p phi) ≡ number_case l p phi
 unfolding signs_of one_sign number_case relation_case sides_case
 numbers_in_turn l p phi = simp (bind_assoc, ok_then)
+
+pub positive_like : (t : Bool) → beq true t ≡ t
+positive_like true = refl
+positive_like false = refl
 
 pub premise_law :
     (c : Clause) (o : Option Term) → or_else o WrongLengthOfClause ≡ only_literal c →

@@ -1,10 +1,10 @@
 -- The walk of a record's arguments into the polynomial in the lowest area of a stack, one after the other. `Walking` is
 -- the invariant of its loop: whichever polynomial stood there before, what is left to walk from argument k on, from the
 -- one that stands there at the turn, is the whole walk.
---     walking_more, walking_refused, walking_done       along the loop
+--     walking_none, walking_more, walking_refused, walking_done       along the loop
 --     argument-below, argument_pre       what the walk of argument k asks
 use Rattle.std.specs.Prelude.{Ok, Err}
-use mathlib.Core.Path.{◌≡◌, ◌∙◌}
+use mathlib.Core.Path.{◌≡◌, refl, ◌∙◌}
 use mathlib.Core.List.{[], ◌∷◌}
 use Prim.Native.Nat.{ℕ, ◌+◌, ◌/◌, ◌≤◌, ◌<◌}
 use native.Mathlib.Omega.{arith}
@@ -66,6 +66,16 @@ pub record Walking
   pub present :
       (m : Map Monomial) → Stacked b w₀ (m ∷ []) → Has s.sum m →
       Present b args id limit d others w t coeff k (each_from b args id 0 limit d first others s m)
+
+pub walking_none :
+    {b w₀ args : Bytes} {id limit d : ℕ} {first others : Rational} {s : by_value.Walked} →
+    ArgsPre b w₀ args id first others s.sum d → Walking b w₀ args id limit d first others s w₀ s first 0
+walking_none pre =
+    record {
+      long = refl;
+      proper = pre.proper.0;
+      present = λ m t h. record { map = m; held = t; has = h; left = refl };
+    }
 
 module _
     {b w₀ args : Bytes} {id limit d : ℕ} {first others : Rational} {s : by_value.Walked}

@@ -81,10 +81,10 @@ from_none v = record { sum = nothing; visits = v }
 module _
     {b w : Bytes} (empty : Stacked b w []) (room : 1600 ≤ length w) {begun : by_value.Walked} {v : ℕ}
     (none : begun ≡ from_none v) where
-  none_held : Stacked b w ([] ∷ [])
+  pub none_held : Stacked b w ([] ∷ [])
   none_held = stack-more empty room
 
-  none_has : Has {K = Monomial} begun.sum []
+  pub none_has : Has {K = Monomial} begun.sum []
   none_has = rw none (record { size = refl; proper = whole-proper (pos 0) (omega arith) })
 
   module _ {one : Rational} (unit : one ≡ whole (pos 1)) where

@@ -245,7 +245,9 @@ fn add_args(
 }
 
 // The product of the arguments of record `id`, in an empty stack: the first two are multiplied before the third is
-// walked.
+// walked. Products nest 8 deep at most, so what this keeps in memory has a frame of its own: in that of `add_term` it
+// would be there for each record that nests.
+#[inline(never)]
 #[cycle(add_args_add_dividend_add_product_add_term_first_factor_other_factors)]
 fn first_factor(
     book: &[u8],

@@ -44,14 +44,16 @@ pub fn print_word<R: Env + Print>(rt: &R, i: usize) -> io::Result<()> {
 
 // ---- numbers
 
-// A decimal number below 2^32. `parse` would take a sign too.
-fn decimal(text: &[u8]) -> Option<u32> {
+// A decimal number of at most `most`. `parse` would take a sign too.
+fn decimal(text: &[u8], most: u32) -> Option<u32>
+    ensures { IfSome result (λ n. n ≤ most) }
+{
     let mut value = 0u32;
     for d in text {
         let digit = char::from(*d).to_digit(10)?;
         value = value.checked_mul(10)?.checked_add(digit)?;
     }
-    Some(value)
+    if value <= most { Some(value) } else { None }
 }
 
 // The number from 1 to `most` that argument i is.
@@ -59,8 +61,8 @@ pub fn number_at(rt: &impl Env, i: usize, most: u32) -> Option<u32>
     ensures { IfSome result (λ n. (1 ≤ n) × (n ≤ most)) }
 {
     let mut text = [0u8; MAX_WORD];
-    let n = decimal(read_word(rt, i, &mut text)?)?;
-    if 1 <= n && n <= most { Some(n) } else { None }
+    let n = decimal(read_word(rt, i, &mut text)?, most)?;
+    if 1 <= n { Some(n) } else { None }
 }
 
 // ---- paths

@@ -1,10 +1,14 @@
 // Tables of words. A table has a line for each code: its two digits, a blank and the words. It is a byte string, since
 // a `match` with a text in each arm is dear to check.
+ghost use Rattle.std.specs.Prelude.{◌≤◌, length, IfSome};
+
 use crate::printing::print;
 use std::io;
 
 // The words of a code.
-fn words_of(table: &[u8], code: u8) -> Option<&[u8]> {
+fn words_of(table: &[u8], code: u8) -> Option<&[u8]>
+    ensures { IfSome result (λ words. length words.now ≤ length table.now) }
+{
     let head = [b'0' + code / 10, b'0' + code % 10, b' '];
     table
         .split(|b| *b == b'\n')

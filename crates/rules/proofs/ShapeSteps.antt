@@ -25,13 +25,13 @@ use Rattle.rules.proofs.RunParts.{length-numbers_in, number_at_lem}
 
 -- ---- the only literal
 
-one_named : (b : Bytes) (l : List ℕ) → length l ≡ 1 → Ok (tree b (get_or l 0 0)) ≡ only_literal (named b l)
+pub one_named : (b : Bytes) (l : List ℕ) → length l ≡ 1 → Ok (tree b (get_or l 0 0)) ≡ only_literal (named b l)
 unfolding only_literal named
 one_named b [] h = absurd (omega arith)
 one_named b (i ∷ []) h = refl
 one_named b (i ∷ j ∷ l) h = absurd (omega arith)
 
-more-named : (b : Bytes) (l : List ℕ) → (length l ≡ 1 → ⊥) → Err WrongLengthOfClause ≡ only_literal (named b l)
+pub more-named : (b : Bytes) (l : List ℕ) → (length l ≡ 1 → ⊥) → Err WrongLengthOfClause ≡ only_literal (named b l)
 unfolding only_literal named
 more-named b [] h = refl
 more-named b (i ∷ []) h = absurd (h refl)

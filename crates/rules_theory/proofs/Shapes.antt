@@ -1,8 +1,8 @@
--- What the rules' readers of shapes find. Where `unary`, `binary` and `binary_err` answer, the term has that operator and
--- those arguments, and the arguments are terms of P as the term is (`Found`). P is closed: two of its terms that are the
--- same by record number are equal.
+-- What the rules' readers of shapes find. Where `unary_err` and `binary_err` answer, the term has that operator and those
+-- arguments, and the arguments are terms of P as the term is (`Found`). P is closed: two of its terms that are the same
+-- by record number are equal.
 --     unary-found, binary-found, negated-found       the options
---     binary_err-found, asserted       along a rule's steps
+--     unary_err-found, binary_err-found, asserted       along a rule's steps
 --     one_literal       a clause that is answered for has one literal
 --     equal-yields       terms that are the same are equal
 --     operation_of_lem, is_itself       a shape names the operator and the arguments
@@ -25,7 +25,7 @@ use Rattle.book.proofs.BookTerms.{Each, Closed}
 use Rattle.rules.specs.Refusal.{Result, ◌>>=◌, assert, or_else}
 use Rattle.rules.specs.declared.refusal.Refusal.{Refusal}
 use Rattle.std.specs.Prelude.{Ok}
-use Rattle.rules.specs.Shapes.{Clause, only_literal, binary_err, negated_binary, assert_eq, is_relation}
+use Rattle.rules.specs.Shapes.{Clause, only_literal, unary_err, binary_err, negated_binary, assert_eq, is_relation}
 use Rattle.alethe.specs.Alethe.{Is, Is1, Is2, is, IsRelation, equals, less_than, less_eq, greater_than, greater_eq}
 use Rattle.rules.proofs.Yields.{Yields, gives, refuses}
 use borrow.Author.Tests.{leb-true, eq-eqb}
@@ -102,6 +102,9 @@ module _ {P : Term → Type 0} (closed : Closed P) where
 
     pub binary-found : (q : Term × Term) → binary o t ≡ Some q → Found P o (q.0 ▹ q.1 ▹ nil) t
     binary-found q e = found o (q.0 ▹ q.1 ▹ nil) t p (binary-shape o t q e)
+
+    pub unary_err-found : Yields (λ a. Found P o (a ▹ nil) t) (unary_err o t)
+    unary_err-found = or_else_lem (unary o t) _ unary-found
 
     pub binary_err-found : Yields (λ q. Found P o (q.0 ▹ q.1 ▹ nil) t) (binary_err o t)
     binary_err-found = or_else_lem (binary o t) _ binary-found

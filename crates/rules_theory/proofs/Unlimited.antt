@@ -2,7 +2,7 @@
 -- own tests pass. `Answers` is `Yields` of a result that is no refusal, and goes along a definition's steps in the same
 -- way.
 --     answer_of, answer_is, free_of       from an answer and to one
---     answers-then, freely, answered-as, answered-each       along `>>=`; with what is yielded
+--     answers-then, freely, answered-as, answered, answered-each       along `>>=`; with what is yielded
 --     assert-free, either-free, option_free       along a case
 --     ranged-free, times-free, plus-free       numbers, as equations
 --     insert-free, add_free, sub-free, scale_all-free       maps, whatever their keys
@@ -20,7 +20,7 @@ use Rattle.std.specs.Prelude.{Ok}
 use Rattle.rules.specs.Limits.{the_rust, ranged, times, plus}
 use Rattle.index_map.specs.IndexMap.{Map, Combination, Keys, Walked, scale_all, enter, insert, insert_all, add, neg, sub}
 use Rattle.index_map.specs.IndexMap.{visit, add_entry, add_constant}
-use Rattle.rules.proofs.Yields.{Yields, at_ok}
+use Rattle.rules.proofs.Yields.{Yields, gives, at_ok}
 use Rattle.rules_theory.proofs.Limited.{Unbounded}
 
 -- ---- results that are no refusals
@@ -42,7 +42,11 @@ module _ {A : Type 0} {P Q : A → Type 0} where
   pub answered-as : {x : Result A} → ((a : A) → P a → Q a) → Answers P x → Answers Q x
   answered-as h (answers {a} p) = answers (h a p)
 
--- what is yielded, of an answer, for a family
+  -- what is yielded, of an answer
+  pub answered : {x : Result A} → Answers P x → Yields Q x → Answers Q x
+  answered (answers p) (gives q) = answers q
+
+-- the same for a family
 pub answered-each : {A I : Type 0} {P : A → Type 0} {Q : I → A → Type 0} {x : Result A} → Answers P x →
     ((i : I) → Yields (Q i) x) → Answers (λ a. (i : I) → Q i a) x
 answered-each {Q = Q} (answers {a} p) h = answers (λ i. at_ok {P = Q i} (h i) refl)

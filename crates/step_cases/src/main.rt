@@ -11,7 +11,7 @@ use programs::cases::{
     Outcome, broken, count_agreeing, open_cases, print_total, read_count, read_piece, read_record,
 };
 use runs::prepare::prepare;
-use runs::rule::rule_of;
+use runs::rule::{Rule, rule_of};
 use std::io;
 use std::io::Read;
 use step::{Answer, NUMBER_BYTES, Step};
@@ -86,7 +86,8 @@ impl Head {
         let (others, numbers) = rest.split_at_checked(self.other_bytes())?;
         Some(Step {
             book,
-            rule: rule_of(self.rule)?,
+            // a number that is no rule's is tried as the last rule
+            rule: rule_of(self.rule).unwrap_or(Rule::PolySimpRel),
             literals,
             others,
             numbers,

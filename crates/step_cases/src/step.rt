@@ -83,7 +83,6 @@ impl Step<'_> {
         let others = self.others;
         let counter = Counter { visits: 0, limit };
         match self.rule {
-            Rule::Assume => Ok(0),
             Rule::LaRwEq => la_rw_eq(book, literals, 0),
             Rule::LaDisequality => la_disequality(book, literals, 0),
             Rule::LaTotality => la_totality(book, literals, 0),
@@ -91,7 +90,8 @@ impl Step<'_> {
             Rule::LaGeneric => la_generic(book, work, literals, others, counter),
             Rule::BoundedFarkas => bounded_farkas(book, work, literals, others, counter),
             Rule::PolySimp => poly_simp(book, work, literals, counter),
-            Rule::PolySimpRel => {
+            // the file has no assumed steps
+            Rule::Assume | Rule::PolySimpRel => {
                 let n = premises(others);
                 poly_simp_rel(book, literals, n, rest(others, n), 0)
             }

@@ -1,7 +1,7 @@
 -- One step of a run, checked: the rule by the byte of its S record, whose literals, arguments and premises are parts of
 -- the run.
 --     premises-are       what the rule `poly_simp_rel` looks up, where the step names one premise
---     judged       the verdict by the rule
+--     visits-traced, judged       the verdict by the rule
 --     judged-relation       that of `poly_simp_rel`
 use Rattle.runs.specs.declared.rule.Rule.{Rule}
 use Rattle.runs.specs.declared.rule.Rule.TheVariants.{PolySimpRel, PolySimp, BoundedFarkas, LaGeneric, LaTautology}
@@ -94,7 +94,7 @@ unfolding ◌>>=◌
 visits-moved (Ok n) = refl
 visits-moved (Err x) = refl
 
-visits-traced : (r : Result Progress) → visits_after (traced r) ≡ visits_of r
+pub visits-traced : (r : Result Progress) → visits_after (traced r) ≡ visits_of r
 unfolding ◌>>=◌
 visits-traced (Ok p) = refl
 visits-traced (Err x) = refl

@@ -155,7 +155,7 @@ module _ {b : Bytes} {i : ℕ} {n : Reading} {q : Rational} (f : OverNumber b i 
     quotient_is : {r : Reading} → reading a ≡ r → r ≡ as_unsigned_fraction ranged (tree b i)
     quotient_is e = sym e ∙ ap reading g.is ∙ sym (f.is ∙ rw p_is (bounded-checked (div_q p q)))
 
-    quotient-found : (x : Checked) → a ≡ x → Finds (ok_or x OutOfRange) (as_unsigned_fraction ranged (tree b i))
+    pub quotient-found : (x : Checked) → a ≡ x → Finds (ok_or x OutOfRange) (as_unsigned_fraction ranged (tree b i))
     quotient-found (Some s) e = finds (g.proper s e) (quotient_is (ap reading e))
     quotient-found None e = finds tt (quotient_is (ap reading e))
 

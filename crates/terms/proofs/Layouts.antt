@@ -32,6 +32,9 @@ passed {s} {a} {x} {t} e h k = k ∙ ap (λ (b : Bool). b && t) (sym h ∙ e)
 pub stopped : {s a : Bool} (t : Bool) → s ≡ a → s ≡ false → false ≡ (a && t)
 stopped t e h = ap (λ (b : Bool). b && t) (sym h ∙ e)
 
+-- `search tests` closes the answer of a function that makes tests one after the other.
+pub ruleset tests = (passed, stopped)
+
 -- ---- a list that is walked from its start to the first element that fails
 
 module _ {A : Type 0} (p : A → Bool) where

@@ -5,6 +5,7 @@ ghost use Rattle.numbers.specs.Rational.{Makes, Proper};
 ghost use Rattle.numbers.specs.Bytes.{Bytes};
 ghost use Rattle.terms.specs.Book.{count, tree, SortsBelow};
 ghost use Rattle.rules.specs.Limits.{limited};
+ghost use Rattle.rules.specs.declared.refusal.Refusal.TheVariants.{NumberRange};
 ghost use Rattle.index_map.specs.IndexMap.{insert, insert_all, add, sub, neg_all};
 ghost use Rattle.linear_comb.specs.LinearComb.{mul, all_int};
 ghost use Rattle.index_map.specs.Memory.Entries.{slots, terms, entries_of, blanked, Kept, Grown, Held, absent, Inserts};
@@ -12,7 +13,7 @@ ghost use Rattle.index_map.specs.Memory.Entries.{most_entries, NewEntry};
 ghost use Rattle.linear_comb.specs.Memory.WorkArea.{Area, Apart, area_of, with_area, OnlyArea, comb_of};
 ghost use Rattle.linear_comb.specs.Memory.WorkArea.{signed_all, signed_q, signed_comb, negated, KeptSum, Combines};
 ghost use Rattle.linear_comb.specs.Memory.WorkArea.{SumFits, AreaCount, AreaSum, TwoSums};
-ghost use Rattle.std.specs.Prelude.{Ok};
+ghost use Rattle.std.specs.Prelude.{Ok, IfErr};
 
 use index_map::index_map::{append, clear, insert, key_at, value_at};
 use linear_comb::linear_comb::{LinearComb, mul, neg};
@@ -56,6 +57,7 @@ fn insert_in(
 ) -> Result<usize, Refusal>
     requires { Area j work.old × NewEntry n key value }
     ensures grown { Grown n result × OnlyArea j work.old work.new }
+    ensures refused { IfErr result (λ r. r ≡ NumberRange) }
     ensures inserts { (b : Bytes) → Kept b (area_of j work.old) n → key < count b → (l : ℕ) →
         Inserts b (area_of j work.new) result
         (insert terms (limited l) (entries_of b (area_of j work.old) n) (tree b key) value) }
@@ -90,6 +92,7 @@ pub fn neg_in(work: &mut [u8], j: usize, s: LinearComb) -> LinearComb
 pub fn mul_in(work: &mut [u8], j: usize, s: LinearComb, q: Number) -> Result<LinearComb, Refusal>
     requires { AreaSum j s q work.old }
     ensures only_area { OnlyArea j work.old work.new }
+    ensures refused { IfErr result (λ r. r ≡ NumberRange) }
     ensures combines { (b : Bytes) → KeptSum b (area_of j work.old) s → (l : ℕ) →
         Combines b (area_of j work.new) result
         (mul (limited l) (comb_of b (area_of j work.old) s) q) }
@@ -139,6 +142,7 @@ fn insert_all(
 ) -> Result<usize, Refusal>
     requires { Apart to from work.old × ((n ≤ slots) × (m ≤ slots)) }
     ensures grown { Grown (most_entries - 1) result × OnlyArea to work.old work.new }
+    ensures refused { IfErr result (λ r. r ≡ NumberRange) }
     ensures inserts { (b : Bytes) → Kept b (area_of to work.old) n →
         Kept b (area_of from work.old) m → (l : ℕ) →
         Inserts b (area_of to work.new) result
@@ -168,6 +172,7 @@ fn add_signed(
 ) -> Result<LinearComb, Refusal>
     requires { TwoSums to a from b work.old }
     ensures only_area { OnlyArea to work.old work.new }
+    ensures refused { IfErr result (λ r. r ≡ NumberRange) }
     ensures combines { (bk : Bytes) → KeptSum bk (area_of to work.old) a →
         KeptSum bk (area_of from work.old) b → (l : ℕ) →
         Combines bk (area_of to work.new) result
@@ -191,6 +196,7 @@ pub fn add(
 ) -> Result<LinearComb, Refusal>
     requires { TwoSums to a from b work.old }
     ensures only_area { OnlyArea to work.old work.new }
+    ensures refused { IfErr result (λ r. r ≡ NumberRange) }
     ensures combines { (bk : Bytes) → KeptSum bk (area_of to work.old) a →
         KeptSum bk (area_of from work.old) b → (l : ℕ) →
         Combines bk (area_of to work.new) result
@@ -209,6 +215,7 @@ pub fn sub(
 ) -> Result<LinearComb, Refusal>
     requires { TwoSums to a from b work.old }
     ensures only_area { OnlyArea to work.old work.new }
+    ensures refused { IfErr result (λ r. r ≡ NumberRange) }
     ensures combines { (bk : Bytes) → KeptSum bk (area_of to work.old) a →
         KeptSum bk (area_of from work.old) b → (l : ℕ) →
         Combines bk (area_of to work.new) result

@@ -1,5 +1,7 @@
+use mathlib.Core.Path.{◌∙◌, ap}
 use Prim.Native.Nat.{◌<◌}
 use native.Mathlib.Omega.{arith}
+use Rattle.book.specs.Memory.RecordIndex.{chain}
 use Rattle.book.proofs.IndexedReading.{indexing_none, indexing_more}
 use Rattle.book.proofs.IndexedReading.{indexed-sorted, left-odd, left-many, left-refused, left-done}
 use Rattle.book.proofs.book.read_records.Goals.{then-book-ne0-via-then-book-ne0}
@@ -11,8 +13,7 @@ loop-i-init c = indexing_none _ _ _ c.requires.0 c.requires.1
 
 pub enter-requires : goal.enter-requires
 enter-requires c =
-    let few : c.loop-i.i < 2048 = omega (arith, c.loop-i-test.true, c.if-n-gt-MAX_RECORDS.false) in
-    (indexed-sorted _ _ _ _ _ c.loop-i.invariant _ few, few)
+    (omega (arith, c.loop-i-test.true, c.if-n-gt-MAX_RECORDS.false), c.chain-h.ensures.1)
 
 pub returns-in-Err : goal.returns-in-Err
 returns-in-Err c =
@@ -21,8 +22,12 @@ returns-in-Err c =
 
 pub loop-i-preserved : goal.loop-i-preserved
 loop-i-preserved c =
+    let few : c.loop-i.i < 2048 = omega (arith, c.loop-i-test.true, c.if-n-gt-MAX_RECORDS.false) in
+    let entered =
+    c.enter.ensures _ (indexed-sorted _ _ _ _ _ c.loop-i.invariant _ few)
+    (c.chain-h.ensures.0 ∙ ap chain c.record.ensures) in
     indexing_more _ _ _ _ _ c.loop-i.invariant c.loop-i-test.true
-    _ _ c.record_read.ensures c.in-Ok.is _ c.enter.ensures.0 c.enter.ensures.1
+    _ _ c.record_read.ensures c.in-Ok.is _ entered.0 entered.1
 
 pub returns : goal.returns
 returns c =

@@ -7,7 +7,7 @@ use Rattle.book.proofs.book.record_read.Goals as goal
 
 judge : (c : After-sort_of) → Judged c.args.book.now c.args.id c.sort_of.result
 judge c =
-    judged _ _ _ c.record-r.ensures _ c.layout_ok.ensures _ c.requires.0 c.if-not-layout_ok.false _ c.sort_of.ensures
+    judged _ _ _ c.record-r.ensures _ c.layout_ok.ensures _ c.requires.read.0 c.if-not-layout_ok.false _ c.sort_of.ensures
 
 pub returns-then-not-layout_ok : goal.returns-then-not-layout_ok
 returns-then-not-layout_ok c = refused-layout _ _ _ c.record-r.ensures _ c.layout_ok.ensures c.if-not-layout_ok.true

@@ -15,9 +15,9 @@ use Rattle.disequality.specs.Disequality.{raised, strengthen}
 use Rattle.index_map.proofs.StoredEntries.{kept-entries}
 use Rattle.disequality.proofs.disequality.strengthen.Goals as goal
 
-pub returns-then-whole : goal.returns-then-whole
+pub returns-then-whole-clause-value : goal.returns-then-whole-clause-value
 unfolding strengthen
-returns-then-whole c b k l =
+returns-then-whole-clause-value c b k l =
     let is :
     strengthen (limited l) c.args.o (comb_of b c.args.entries.now c.args.s) c.args.a
     ≡ raised (limited l) (combination k.map c.floor-floor.result)
@@ -26,32 +26,32 @@ returns-then-whole c b k l =
     let step :
     to_z w64 (of_z w64 c.coefficients_gcd.result) ≡ coefficients_gcd (combination k.map c.floor-floor.result) =
     to_z-of_z {w = w64} (search rules) ∙ c.coefficients_gcd.ensures.value b k ∙ rw (kept-entries k) in
-    rw (is, sym step) (c.raised.ensures k.map k.size l)
+    rw (is, sym step) (c.raised.ensures.value k.map k.size l)
 
-pub returns-else-whole : goal.returns-else-whole
+pub returns-else-whole-clause-value : goal.returns-else-whole-clause-value
 unfolding strengthen
-returns-else-whole c b k l =
+returns-else-whole-clause-value c b k l =
     let is :
     strengthen (limited l) c.args.o (comb_of b c.args.entries.now c.args.s) c.args.a
     ≡ raised (limited l) (combination k.map c.floor-floor.result) (pos 1) =
     grind (arith, common_steps, kept-entries k, c.floor-floor.ensures.is) in
-    rw is (c.raised-else-whole.ensures k.map k.size l)
+    rw is (c.raised-else-whole.ensures.value k.map k.size l)
 
-pub returns-then-whole-2 : goal.returns-then-whole-2
+pub returns-then-whole-2-clause-value : goal.returns-then-whole-2-clause-value
 unfolding strengthen
-returns-then-whole-2 c b k l =
+returns-then-whole-2-clause-value c b k l =
     (grind (arith, common_steps, kept-entries k), record { size = k.size; proper = c.requires.1.0 })
 
-pub returns-else-whole-2 : goal.returns-else-whole-2
+pub returns-else-whole-2-clause-value : goal.returns-else-whole-2-clause-value
 unfolding strengthen
-returns-else-whole-2 c b k l =
+returns-else-whole-2-clause-value c b k l =
     let is :
     strengthen (limited l) c.args.o (comb_of b c.args.entries.now c.args.s) c.args.a
     ≡ raised (limited l) (combination k.map c.floor-floor.result) (pos 1) =
     grind (arith, common_steps, kept-entries k, c.floor-floor.ensures.is) in
-    rw is (c.raised-else-whole-2.ensures k.map k.size l)
+    rw is (c.raised-else-whole-2.ensures.value k.map k.size l)
 
-pub returns-in_default : goal.returns-in_default
+pub returns-in_default-clause-value : goal.returns-in_default-clause-value
 unfolding strengthen
-returns-in_default c b k l =
+returns-in_default-clause-value c b k l =
     (grind (arith, common_steps, kept-entries k), record { size = k.size; proper = c.requires.1.0 })

@@ -3,8 +3,8 @@ use Rattle.linear_comb.proofs.EntryLoops.{begin, at, put, over, cleared}
 use Rattle.linear_comb.proofs.CombinationLoops.{scales_first, scales_next, scales_out, scales_all}
 use Rattle.linear_comb.proofs.linear_comb.scale_all.Goals as goal
 
-pub returns-in_default : goal.returns-in_default
-returns-in_default c b kept =
+pub returns-in_default-clause-inserts : goal.returns-in_default-clause-inserts
+returns-in_default-clause-inserts c b kept =
     let loop = c.loop-k.invariant in
     let x = at loop c.loop-k-test.true c.value_at-value.ensures.is b kept in
     scales_out _ _ x.done x.term _ x.rest x.stands (sym c.mul.ensures.is ∙ c.in_default.is)
@@ -19,5 +19,5 @@ loop-k-preserved c =
 pub loop-k-init : goal.loop-k-init
 loop-k-init c = begin (λ b. scales_first _ _)
 
-pub returns : goal.returns
-returns c b kept = scales_all _ _ (over c.loop-k.invariant c.loop-k-test.false b kept)
+pub returns-clause-inserts : goal.returns-clause-inserts
+returns-clause-inserts c b kept = scales_all _ _ (over c.loop-k.invariant c.loop-k-test.false b kept)

@@ -6,7 +6,7 @@ use Rattle.process_disequality.proofs.process_disequality.strengthened.Goals as 
 
 pub returns-then-all_int : goal.returns-then-all_int
 returns-then-all_int c b s k l =
-    let stronger = rw c.area.ensures at c.strengthen.ensures in
+    let stronger = rw c.area.ensures at c.strengthen.ensures.value in
     rw (sym (c.all_int.ensures b s k) ∙ c.if-all_int.true, strengthened) (stronger b k l)
 
 pub returns : goal.returns

@@ -1,4 +1,5 @@
 -- Each return is a lemma of AreaSums over what the calls ensure.
+use mathlib.Core.Path.{refl}
 use Rattle.rules.proofs.Results.{handed_on}
 use Rattle.work_area.proofs.AreaSums.{added-refused, added_out, added-sum}
 use Rattle.work_area.proofs.work_area.add_signed.Goals as goal
@@ -15,7 +16,7 @@ returns-in_default c =
     let r =
     added_out _ _ _ _ _ c.args.turned _ (all.grown, all.inserts) _ c.signed.ensures.is _
     c.add.ensures c.requires.0.first c.insert_all.auto.work c.in_default.is _ c.clear_in.ensures in
-    record { only_area = r.0; combines = r.1 }
+    record { only_area = r.0; refused = refl; combines = r.1 }
 
 pub returns-clause-combines : goal.returns-clause-combines
 returns-clause-combines c =

@@ -16,7 +16,8 @@ returns-in_err-len c =
     _ c.area-in-loop-k.ensures _ c.value_at.ensures.is
     _ c.signed-value.ensures _ c.insert_in.auto.work _ c.in_err-len.ensures.grown
     (λ b kept inside _. c.in_err-len.ensures.inserts b kept inside) refl in
-    rw (handed_on c.from_residual.ensures.1) (record { grown = r.0; inserts = r.1 })
+    rw (handed_on c.from_residual.ensures.1)
+    (record { grown = r.0; refused = c.in_err-len.ensures.refused; inserts = r.1 })
 
 pub loop-k-preserved : goal.loop-k-preserved
 loop-k-preserved c =

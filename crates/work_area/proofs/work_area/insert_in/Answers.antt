@@ -7,4 +7,9 @@ pub returns : goal.returns
 returns c =
     let m = c.insert in
     let back = lent_back_lem c.requires.0 m.new.entries m.auto.entries in
-    rw (back.put, back.is) (record { grown = (m.ensures.grown, refl); inserts = rw back.was at m.ensures.inserts })
+    rw (back.put, back.is)
+    (record {
+      grown = (m.ensures.grown, refl);
+      refused = m.ensures.refused;
+      inserts = rw back.was at m.ensures.inserts;
+    })

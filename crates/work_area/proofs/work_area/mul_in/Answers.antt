@@ -7,4 +7,5 @@ pub returns : goal.returns
 returns c =
     let m = c.mul in
     let back = lent_back_lem c.requires.0 m.new.entries m.auto.entries in
-    rw (back.put, back.is) (record { only_area = refl; combines = rw back.was at m.ensures })
+    rw (back.put, back.is)
+    (record { only_area = refl; refused = m.ensures.refused; combines = rw back.was at m.ensures.combines })
