@@ -1,11 +1,12 @@
 // `process_disequality` of src/checker/rules/linear_arithmetic.rs: one literal of a step. The area `ACCUMULATED` has
 // the entries of the sum so far, `LEFT` those of the literal.
-ghost use Rattle.std.specs.Prelude.{Err};
+ghost use Rattle.std.specs.Prelude.{Err, IfErr};
 ghost use Rattle.std.specs.Prelude.{◌≡◌, ℕ, ◌≤◌, ◌<◌};
 ghost use Rattle.numbers.specs.Rational.{Makes, Proper};
 ghost use Rattle.numbers.specs.Bytes.{Bytes};
 ghost use Rattle.terms.specs.Book.{count, tree, SortsBelow};
 ghost use Rattle.rules.specs.Limits.{limited};
+ghost use Rattle.rules.specs.declared.refusal.Refusal.TheVariants.{NumberRange};
 ghost use Rattle.process_disequality.specs.ProcessDisequality.{inferred, scalar, weakened, join_operators};
 ghost use Rattle.process_disequality.specs.ProcessDisequality.{strengthened, process_disequality};
 ghost use Rattle.disequality.specs.Disequality.{disequality};
@@ -126,7 +127,8 @@ fn join_operators(o: u8, p: u8) -> u8
 // Strengthened where all atoms are Int.
 fn strengthened(work: &[u8], o: u8, s: LinearComb, a: Number) -> Result<(u8, LinearComb), Refusal>
     requires { Area left_side work.now × SumScales s a }
-    ensures { (b : Bytes) → SortsBelow (count b) b work.now →
+    ensures refused { IfErr result (λ r. r ≡ NumberRange) }
+    ensures value { (b : Bytes) → SortsBelow (count b) b work.now →
         (k : Kept b (area_of left_side work.now) s.len) → (l : ℕ) →
         StrengthenedIs k.map result
         (strengthened (limited l) o (comb_of b (area_of left_side work.now) s) a) }
